@@ -1,0 +1,4 @@
+pub mod Passes
+pub mod Tables
+pub mod Scored
+pub mod Counted

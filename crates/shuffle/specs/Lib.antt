@@ -1,0 +1,2 @@
+pub mod Shuffle
+pub mod Permutation
