@@ -1,0 +1,6 @@
+mod Gap
+mod Units
+mod Nearest
+mod Each
+mod Patterns
+pub mod Laws

@@ -1,0 +1,87 @@
+-- Laws of products, and what the rows of the score tables give a call that accepts them. Assumes nothing.
+use mathlib.Core.Path.{_≡_, refl, sym, _∙_}
+use mathlib.Core.Bool.{Bool, true, false, _||_}
+use mathlib.Core.List.{List, [], _∷_}
+use Prim.Native.Nat.{ℕ, _+_, _*_, _^_, _<_, _≤_}
+use native.Mathlib.Nat.{lt-of-le-of-lt, le-trans, mul-le-mul, mul-le-mul-left, mul-le-mul-right, mul-lt-mul-of-pos-right, le-of-lt}
+use native.Mathlib.Omega.{arith}
+use borrow.Author.Tests.{ltb-false}
+use lib.Pow.{pow-pos}
+use lib.Dec.{T, ltb}
+use lib.ListN.{length, getD}
+use lib.Ieee.{Float, nan}
+use lib.Ieee.Scale.{finite}
+use Rattle.refusals.specs.declared.Checked.{Checked}
+use Rattle.refusals.specs.declared.Checked.the-variants.{Accepted, Refused}
+use Rattle.refusals.specs.Refusals.{first, firstFrom, refuse, orNext}
+use Rattle.refusals.specs.Tables.{outside, numbersChecked}
+use Rattle.refusals.proofs.Laws.{all-accepted, neither, passes}
+use Rattle.refusals.proofs.Meant.{numbers-finite}
+use Rattle.best_path.specs.Scores.{Scores, AllFinite, tabled}
+use Rattle.score_tables.specs.Rows.{mostLabels, mostWords, one, four, two, sixes, tablesChecked}
+use Rattle.score_tables.specs.Sound.{LabelsIn, WordsIn, Room, Sized, Sound}
+
+-- the product of two numbers of 32 bits fits 64
+pub product-fits : {a b : ℕ} → a < 2 ^ 32 → b < 2 ^ 32 → a * b < 2 ^ 64
+product-fits {a} {b} ha hb =
+    lt-of-le-of-lt (mul-le-mul-left a (le-of-lt hb)) (mul-lt-mul-of-pos-right ha (pow-pos 32))
+
+-- a test that is true
+pub true-holds : {b : Bool} → b ≡ true → T b
+true-holds e = rw e tt
+
+-- an entry of a row is within the table
+pub within : (rows width row column : ℕ) → row < rows → column < width → row * width + column < rows * width
+within rows width row column r c = omega (arith, mul-le-mul-right width r)
+
+-- 1, 4 and 2 accept: the sizes are in bounds
+pub labels-in : {labels : ℕ} → one labels ≡ Accepted → LabelsIn labels
+labels-in {labels} h =
+    let o = neither (ltb labels 1) (ltb mostLabels labels) (passes 1 0 _ h) in
+    record { low = ltb-false labels 1 (o .0); high = ltb-false mostLabels labels (o .1) }
+
+pub words-in : {words : ℕ} → four words ≡ Accepted → WordsIn words
+words-in {words} h =
+    let o = neither (ltb words 1) (ltb mostWords words) (passes 4 0 _ h) in
+    record { low = ltb-false words 1 (o .0); high = ltb-false mostWords words (o .1) }
+
+module _ {labels words : ℕ} {transitions states : List Float} where
+  pub room : two labels words transitions states ≡ Accepted → Room labels words transitions states
+  room h =
+      let o = neither (ltb (length transitions) (labels * labels)) (ltb (length states) (words * labels)) (passes 2 0 _ h) in
+      record {
+        long-transitions = ltb-false (length transitions) (labels * labels) (o .0);
+        long-states = ltb-false (length states) (words * labels) (o .1);
+      }
+
+  pub sized : one labels ≡ Accepted → four words ≡ Accepted → two labels words transitions states ≡ Accepted → Sized labels words transitions states
+  sized h1 h4 h2 =
+      let l = labels-in h1 in
+      let w = words-in h4 in
+      record {
+        labels-in = l;
+        words-in = w;
+        room = room h2;
+        few-transitions = mul-le-mul (l .high) (l .high);
+        few-states = mul-le-mul (w .high) (l .high);
+      }
+
+-- 6 accepts: every entry within is finite
+pub all-finite : (labels words : ℕ) (transitions states : List Float) →
+    numbersChecked transitions (labels * labels) ≡ Accepted →
+    numbersChecked states (words * labels) ≡ Accepted →
+    AllFinite (tabled labels transitions states) words
+all-finite labels words transitions states a s = record {
+  states = λ word label w l. true-holds (numbers-finite states _ s _ (within words labels word label w l));
+  transitions = λ previous label p l. true-holds (numbers-finite transitions _ a _ (within labels labels previous label p l));
+}
+
+-- all accept
+pub sound : {labels words : ℕ} {transitions states : List Float} → tablesChecked labels words transitions states ≡ Accepted → Sound labels words transitions states
+unfolding tablesChecked
+sound {labels} {words} {transitions} {states} h =
+    let a = all-accepted Accepted (one labels ∷ four words ∷ two labels words transitions states ∷ sixes labels words transitions states) h .1 in
+    record {
+      sized = sized (a .0) (a .1 .0) (a .1 .1 .0);
+      finite = all-finite labels words transitions states (a .1 .1 .1 .0) (a .1 .1 .1 .1 .0);
+    }

@@ -1,0 +1,47 @@
+-- `score_tables::check_finite` meets its contract: where the answer so far accepts, the tables are long enough. Assumes nothing.
+use borrow.Author.Needs.{needs}
+use Rattle.refusals.specs.Refusals.{orNext}
+use Rattle.score_tables.proofs.check_finite.Statement.{statement}
+use Rattle.score_tables.proofs.check_finite.Tie as tie
+
+enum-known-answer : tie.Need-enum-known-answer
+enum-known-answer c = search needs
+
+returns : tie.Need-returns
+unfolding orNext
+returns c = rw (c .before .answer .given .1)
+
+enum-told : tie.Need-enum-told
+enum-told c = search needs
+
+entries-requires : tie.Need-entries-requires
+entries-requires c κs = search needs
+
+check-numbers-requires : tie.Need-check-numbers-requires
+check-numbers-requires c κs =
+    let room = c .before .before .before .before .before .pre (c .before .enum-told .given .1) in
+    rw (c .entries .ensures) (room .long-transitions)
+
+entries-requires-2 : tie.Need-entries-requires-2
+entries-requires-2 c κs = search needs
+
+check-numbers-requires-2 : tie.Need-check-numbers-requires-2
+check-numbers-requires-2 c κs =
+    let room = c .before .before .before .before .before .before .before .pre (c .before .before .before .enum-told .given .1) in
+    rw (c .entries2 .ensures) (room .long-states)
+
+returns-2 : tie.Need-returns-2
+returns-2 c = rw (c .check-numbers2 .ensures, c .before .entries2 .ensures, c .before .before .check-numbers .ensures, c .before .before .before .entries .ensures)
+
+pub check-finite-spec : {M : Type 1} → statement M
+check-finite-spec =
+    tie.close
+    (tie.spec
+    enum-known-answer
+    returns
+    enum-told
+    entries-requires
+    check-numbers-requires
+    entries-requires-2
+    check-numbers-requires-2
+    returns-2)

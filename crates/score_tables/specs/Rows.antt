@@ -1,0 +1,46 @@
+-- Document 01, "Numbered refusals", the rows that concern the score tables of one line, and their order. Assumes nothing.
+use mathlib.Core.Bool.{_||_}
+use mathlib.Core.List.{List, [], _∷_}
+use Prim.Native.Nat.{ℕ, _*_}
+use lib.ListN.{length}
+use lib.Ieee.{Float}
+use Rattle.refusals.specs.declared.Checked.{Checked}
+use Rattle.refusals.specs.Refusals.{first, refuse}
+use Rattle.refusals.specs.Tables.{outside, short, numbersChecked}
+
+-- "Labels L: 1 to 32"
+abbrev pub mostLabels : ℕ
+mostLabels = 32
+
+-- "Words T: 1 to 128 a line"
+abbrev pub mostWords : ℕ
+mostWords = 128
+
+-- 1 | "L outside its bound" | 0
+abbrev pub one : ℕ → Checked
+one labels = refuse 1 0 (outside 1 mostLabels labels)
+
+-- 4 | "a T outside 1 to 128" | "0 for a single line"
+abbrev pub four : ℕ → Checked
+four words = refuse 4 0 (outside 1 mostWords words)
+
+-- 2 | "a lent buffer too short": L·L transitions, T·L states | 0
+abbrev pub two : ℕ → ℕ → List Float → List Float → Checked
+two labels words transitions states =
+    refuse 2 0 (short (length transitions) (labels * labels) || short (length states) (words * labels))
+
+-- 6 | "a .. table entry not finite": "transitions; states" | "index in its table"
+abbrev pub sixes : ℕ → ℕ → List Float → List Float → List Checked
+sixes labels words transitions states =
+    numbersChecked transitions (labels * labels)
+    ∷ numbersChecked states (words * labels)
+    ∷ []
+
+-- "a call that takes T as a number tests 4 right after 1"
+abbrev pub boundsChecked : ℕ → ℕ → Checked
+boundsChecked labels words = first (one labels ∷ four words ∷ [])
+
+-- "The lowest number wins, but a call that takes T as a number tests 4 right after 1": 1, 4, 2, 6
+unfoldable pub tablesChecked : ℕ → ℕ → List Float → List Float → Checked
+tablesChecked labels words transitions states =
+    first (one labels ∷ four words ∷ two labels words transitions states ∷ sixes labels words transitions states)

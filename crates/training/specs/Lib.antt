@@ -1,0 +1,4 @@
+pub mod Data
+pub mod Rules
+pub mod Visits
+pub mod Epochs
