@@ -1,4 +1,4 @@
 pub mod Signed
 pub mod Order
 pub mod Sums
-mod Finite
+pub mod Finite

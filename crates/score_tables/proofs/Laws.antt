@@ -1,23 +1,21 @@
 -- Laws of products, and what the rows of the score tables give a call that accepts them. Assumes nothing.
-use mathlib.Core.Path.{_≡_, refl, sym, _∙_}
-use mathlib.Core.Bool.{Bool, true, false, _||_}
-use mathlib.Core.List.{List, [], _∷_}
-use Prim.Native.Nat.{ℕ, _+_, _*_, _^_, _<_, _≤_}
-use native.Mathlib.Nat.{lt-of-le-of-lt, le-trans, mul-le-mul, mul-le-mul-left, mul-le-mul-right, mul-lt-mul-of-pos-right, le-of-lt}
+use mathlib.Core.Path.{_≡_}
+use mathlib.Core.Bool.{Bool, true}
+use mathlib.Core.List.{List, _∷_}
+use Prim.Native.Nat.{ℕ, _+_, _*_, _^_, _<_}
+use native.Mathlib.Nat.{lt-of-le-of-lt, mul-le-mul, mul-le-mul-left, mul-le-mul-right, mul-lt-mul-of-pos-right, le-of-lt}
 use native.Mathlib.Omega.{arith}
 use borrow.Author.Tests.{ltb-false}
 use lib.Pow.{pow-pos}
 use lib.Dec.{T, ltb}
-use lib.ListN.{length, getD}
-use lib.Ieee.{Float, nan}
+use lib.ListN.{length}
+use lib.Ieee.{Float}
 use lib.Ieee.Scale.{finite}
-use Rattle.refusals.specs.declared.Checked.{Checked}
-use Rattle.refusals.specs.declared.Checked.the-variants.{Accepted, Refused}
-use Rattle.refusals.specs.Refusals.{first, firstFrom, refuse, orNext}
-use Rattle.refusals.specs.Tables.{outside, numbersChecked}
+use Rattle.refusals.specs.declared.Checked.the-variants.{Accepted}
+use Rattle.refusals.specs.Tables.{numbersChecked}
 use Rattle.refusals.proofs.Laws.{all-accepted, neither, passes}
 use Rattle.refusals.proofs.Meant.{numbers-finite}
-use Rattle.best_path.specs.Scores.{Scores, AllFinite, tabled}
+use Rattle.best_path.specs.Scores.{AllFinite, tabled}
 use Rattle.score_tables.specs.Rows.{mostLabels, mostWords, one, four, two, sixes, tablesChecked}
 use Rattle.score_tables.specs.Sound.{LabelsIn, WordsIn, Room, Sized, Sound}
 

@@ -3,7 +3,7 @@
 ghost use mathlib.Core.Path.{_≡_};
 ghost use Prim.Native.Nat.{_*_};
 ghost use Rattle.refusals.specs.Refusals.{orNext, firstFrom};
-ghost use Rattle.score_tables.specs.Rows.{mostLabels, mostWords, one, four, two, sixes, boundsChecked};
+ghost use Rattle.score_tables.specs.Rows.{two, sixes, boundsChecked};
 ghost use Rattle.score_tables.specs.Sound.{Room};
 use refusals::Checked;
 

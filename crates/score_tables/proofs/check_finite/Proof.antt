@@ -1,4 +1,5 @@
 -- `score_tables::check_finite` meets its contract: where the answer so far accepts, the tables are long enough. Assumes nothing.
+use native.Mathlib.Omega.{arith}
 use borrow.Author.Needs.{needs}
 use Rattle.refusals.specs.Refusals.{orNext}
 use Rattle.score_tables.proofs.check_finite.Statement.{statement}
@@ -20,7 +21,7 @@ entries-requires c κs = search needs
 check-numbers-requires : tie.Need-check-numbers-requires
 check-numbers-requires c κs =
     let room = c .before .before .before .before .before .pre (c .before .enum-told .given .1) in
-    rw (c .entries .ensures) (room .long-transitions)
+    omega (arith, c .entries .ensures, room .long-transitions, room .long-states)
 
 entries-requires-2 : tie.Need-entries-requires-2
 entries-requires-2 c κs = search needs
@@ -28,7 +29,7 @@ entries-requires-2 c κs = search needs
 check-numbers-requires-2 : tie.Need-check-numbers-requires-2
 check-numbers-requires-2 c κs =
     let room = c .before .before .before .before .before .before .before .pre (c .before .before .before .enum-told .given .1) in
-    rw (c .entries2 .ensures) (room .long-states)
+    omega (arith, c .entries2 .ensures, room .long-transitions, room .long-states)
 
 returns-2 : tie.Need-returns-2
 returns-2 c = rw (c .check-numbers2 .ensures, c .before .entries2 .ensures, c .before .before .check-numbers .ensures, c .before .before .before .entries .ensures)

@@ -13,7 +13,7 @@ refuse-if-requires : tie.Need-refuse-if-requires
 refuse-if-requires c κs = search needs
 
 returns : tie.Need-returns
-returns c = rw (← c .before .before .entries .ensures, ← c .before .entries2 .ensures) (c .refuse-if .ensures)
+returns c = rw (c .refuse-if .ensures, c .before .before .entries .ensures, c .before .entries2 .ensures)
 
 pub check-room-spec : {M : Type 1} → statement M
 check-room-spec =

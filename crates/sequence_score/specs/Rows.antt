@@ -1,0 +1,43 @@
+-- Document 01, "Numbered refusals", row by row for a path score, and their order. Assumes nothing.
+use mathlib.Core.List.{List, [], _∷_, _++_}
+use Prim.Native.Nat.{ℕ}
+use lib.ListN.{length}
+use lib.Dec.{ltb}
+use lib.Ieee.{Float}
+use Rattle.refusals.specs.declared.Checked.{Checked}
+use Rattle.refusals.specs.Refusals.{first, refuse}
+use Rattle.refusals.specs.Tables.{short, idsChecked}
+use Rattle.score_tables.specs.Rows.{one, four, two, sixes}
+
+-- 4 | "a scored path longer than its table" | "0 for a single line"
+abbrev pub longer : ℕ → ℕ → Checked
+longer words count = refuse 4 0 (ltb words count)
+
+-- 2 | "a lent buffer too short": the path that is scored | 0
+abbrev pub pathShort : List ℕ → ℕ → Checked
+pathShort path count = refuse 2 0 (short (length path) count)
+
+-- 5 | "label at or above L" | "index in its table"
+abbrev pub five : ℕ → List ℕ → ℕ → Checked
+five labels path count = idsChecked path count labels
+
+-- what can be said before a table is read: "a call that takes T as a number tests 4 right after 1", then 2
+abbrev pub sizes : ℕ → ℕ → List Float → List Float → List ℕ → ℕ → List Checked
+sizes labels words transitions states path count =
+    one labels
+    ∷ four words
+    ∷ longer words count
+    ∷ two labels words transitions states
+    ∷ pathShort path count
+    ∷ []
+
+unfoldable pub sizesChecked : ℕ → ℕ → List Float → List Float → List ℕ → ℕ → Checked
+sizesChecked labels words transitions states path count = first (sizes labels words transitions states path count)
+
+-- "The lowest number wins": then 5, then 6
+unfoldable pub pathChecked : ℕ → ℕ → List Float → List Float → List ℕ → ℕ → Checked
+pathChecked labels words transitions states path count =
+    first
+    (sizes labels words transitions states path count
+    ++ (five labels path count
+    ∷ sixes labels words transitions states))

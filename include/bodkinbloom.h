@@ -1,0 +1,52 @@
+/* Bodkinbloom: sequence labelling with a linear-chain CRF, every call proved.
+ *
+ * Link with libbodkinbloom.a (scripts/archive writes it to build/). No call allocates, prints, or keeps a pointer.
+ *
+ * What a call demands. Nothing of what is in the memory: every table, id and number is tested by the call itself, and bad
+ * input is answered by a numbered refusal. Only what C alone can break is yours: each pointer is valid for as many elements
+ * as the length beside it says, and memory that is lent to be changed overlaps no other that is lent to the same call. A
+ * pointer whose length is 0 may be NULL.
+ *
+ * Memory is always yours. A table that is only read is `const`. A buffer may be longer than a call needs; what lies behind
+ * the needed front is left alone.
+ */
+#ifndef BODKINBLOOM_H
+#define BODKINBLOOM_H
+
+#include <stddef.h>
+#include <stdint.h>
+
+#ifdef __cplusplus
+extern "C" {
+#endif
+
+/* A refusal: its number, and the place at which it was found.
+ *    0  nothing was refused
+ *    1  the number of labels is not 1 to 32
+ *    2  another count is outside its bound, or a lent buffer is too short
+ *    3  the starts of a table's lists break their rule; place: the first bad start
+ *    4  the number of words is not 1 to 128, or a path is longer than its table
+ *    5  a kind, a label, a source, a destination or a feature id is out of range; place: the index in its table
+ *    6  a number is not finite; place: the index in its table
+ *    7  a bad parameter; place: which
+ *    8  a finished score or count is not finite; place: the index
+ *    9  training left the finite numbers; place: the visits done
+ *   10  a file with a wrong mark, version or length
+ */
+typedef struct {
+    uint32_t number;
+    uint64_t place;
+} bodkinbloom_refused;
+
+/* One draw of SplitMix64: advances *state and returns the number drawn. */
+uint64_t bodkinbloom_draw(uint64_t *state);
+
+/* Shuffles an order of 1 to 16,384 numbers, as training does before each epoch, and advances *state.
+ * Refused (2): any other length; *state and the order are then as they were. */
+bodkinbloom_refused bodkinbloom_shuffle(uint64_t *state, uint32_t *order, size_t length);
+
+#ifdef __cplusplus
+}
+#endif
+
+#endif
