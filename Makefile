@@ -1,17 +1,31 @@
-# make test   everything that is proved, compared and run: the gate
-# make list   writes anew, from the oracle, the answers that the gate replays
-# make fmt    lays out the Rattle and antt files
+# make test              everything that is proved, compared and run: the gate
+# make run               builds the program `decode` and decodes every sheet in samples/
+# make run SHEET=FILE    decodes a sheet of one's own
+# make bench             times of decoding: the library, the Rust, Rust over flat tables
+# make list              writes anew, from the oracle, the answers that the gate replays, and the samples
+# make archive           the static library for C and Rust, in build/
+# make fmt               lays out the Rattle and antt files
 
-.PHONY: test list fmt archive
+root := $(dir $(lastword $(MAKEFILE_LIST)))
+
+.PHONY: test run bench list archive fmt
 
 test:
-	@scripts/test
+	@$(root)scripts/test
+
+# SHEET is looked for where make was called from, also under make -C
+run: export FROM = $(PWD)
+run:
+	@$(root)scripts/run
+
+bench:
+	@$(root)scripts/bench
 
 list:
-	@scripts/list crates/replay
+	@$(root)scripts/list $(root)
 
 archive:
-	@scripts/archive
+	@$(root)scripts/archive
 
 fmt:
-	@rt fmt
+	@cd $(root) && rt fmt

@@ -45,6 +45,44 @@ uint64_t bodkinbloom_draw(uint64_t *state);
  * Refused (2): any other length; *state and the order are then as they were. */
 bodkinbloom_refused bodkinbloom_shuffle(uint64_t *state, uint32_t *order, size_t length);
 
+/* Tables of scores, for 1 to 32 labels and 1 to 128 words: `transitions` by previous label, labels x labels numbers;
+ * `states` word by word, words x labels numbers. All of them finite. */
+
+/* What decoding answers.
+ *    number    0, or the refusal's; then the numbers below are +0
+ *    place     of the refusal, else 0
+ *    sum       the rounded sum of the path; it may be infinite
+ *    lead      by which the best final score is ahead of that of any other last label, where has_lead is 1;
+ *              has_lead is 0 with one label, or when either score is not finite, and lead is then +0 */
+typedef struct {
+    uint32_t number;
+    uint32_t has_lead;
+    uint64_t place;
+    double sum;
+    double lead;
+} bodkinbloom_decoded;
+
+/* Writes the best path to the first `words` places of `path`: no path has a larger sum, and a tie has one answer.
+ * Refused, in this order: 1, 4, 2, 6 (transitions, then states); `path` is then as it was. */
+bodkinbloom_decoded bodkinbloom_viterbi_decode(uint32_t labels, uint32_t words,
+                                               const double *transitions, size_t transitions_length,
+                                               const double *states, size_t states_length,
+                                               uint32_t *path, size_t path_length);
+
+/* What scoring a path answers: number and place as above, and the score, which may be infinite. */
+typedef struct {
+    uint32_t number;
+    uint64_t place;
+    double score;
+} bodkinbloom_scored;
+
+/* The score of the first `length` labels of `path`, at most as many as there are words; none score +0.
+ * Refused, in this order: 1, 4, 2, 5, 6. */
+bodkinbloom_scored bodkinbloom_sequence_score(uint32_t labels, uint32_t words,
+                                              const double *transitions, size_t transitions_length,
+                                              const double *states, size_t states_length,
+                                              const uint32_t *path, size_t path_length, uint32_t length);
+
 #ifdef __cplusplus
 }
 #endif

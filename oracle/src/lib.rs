@@ -9,6 +9,7 @@
 //! - `cases`: seeded cases with corners on purpose, damaged copies, and shares that are counted and required.
 //! - `desk`: the desk cases P1 to P14.
 //! - `list`: the fixed list of answers that the repository replays without Rust at hand.
+//! - `sheets`: the fixed sheet files, good and damaged, and the samples.
 
 pub mod cases;
 pub mod desk;
@@ -19,5 +20,6 @@ pub mod reference;
 pub mod refusals;
 pub mod rust;
 pub mod sha256;
+pub mod sheets;
 pub mod tables;
 pub mod trace;

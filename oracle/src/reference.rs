@@ -19,16 +19,40 @@ pub fn sum(scores: &Scores, path: &[u32]) -> f64 {
 
 /// The best sum of the paths that end in each label, as a plain table.
 pub fn final_scores(scores: &Scores) -> Vec<f64> {
+    best_scores(scores).pop().expect("there is a word")
+}
+
+/// The same at every word, a row each.
+fn best_scores(scores: &Scores) -> Vec<Vec<f64>> {
     let labels = scores.labels as usize;
-    let mut best: Vec<f64> = (0..labels).map(|label| scores.state(0, label)).collect();
+    let mut rows = vec![(0..labels).map(|label| scores.state(0, label)).collect::<Vec<_>>()];
     for t in 1..scores.words as usize {
-        let candidate = |previous: usize, label: usize| {
-            (best[previous] + scores.transition(previous, label)) + scores.state(t, label)
-        };
-        best =
-            (0..labels).map(|label| last_largest((0..labels).map(|previous| candidate(previous, label))).1).collect();
+        let best = |label| last_largest(candidates(scores, &rows[t - 1], t, label)).1;
+        let row = (0..labels).map(best).collect();
+        rows.push(row);
     }
-    best
+    rows
+}
+
+/// "A later candidate is (best of previous + transition) + state."
+fn candidates(scores: &Scores, best: &[f64], t: usize, label: usize) -> impl Iterator<Item = f64> {
+    best.iter()
+        .enumerate()
+        .map(move |(previous, best)| (best + scores.transition(previous, label)) + scores.state(t, label))
+}
+
+/// Whether the tie rule had a part in the path: at its last label, or at one of the steps back from there, another
+/// candidate was equal to the one chosen.
+pub fn tied(scores: &Scores, path: &[u32]) -> bool {
+    let rows = best_scores(scores);
+    let last = path.len() - 1;
+    let chosen = |t: usize| rows[t][path[t] as usize];
+    twice(rows[last].iter().copied(), chosen(last))
+        || (1..=last).any(|t| twice(candidates(scores, &rows[t - 1], t, path[t] as usize), chosen(t)))
+}
+
+fn twice(candidates: impl Iterator<Item = f64>, chosen: f64) -> bool {
+    candidates.filter(|candidate| *candidate == chosen).count() > 1
 }
 
 /// "The best final score minus the largest final score at any other last label, rounded once; "no lead" with L = 1 or

@@ -3,13 +3,13 @@
 
 use std::collections::BTreeSet;
 
-use oracle::cases::calls::{self, CountCall, LineCall, PathCall, TrainCall};
+use oracle::cases::calls::{self, CountCall, DecodeCall, LineCall, PathCall, TrainCall};
 use oracle::cases::damage::{self, Fault};
 use oracle::cases::make::{self, PALETTES, Tails};
 use oracle::cases::{Mix, Palette, Rng, Size};
 use oracle::panics::caught;
-use oracle::refusals::{self, Refusal};
-use oracle::tables::{Scores, all_same};
+use oracle::refusals::{self, Lent, Refusal};
+use oracle::tables::all_same;
 use oracle::{judge, reference, rust};
 
 type Checked = Result<(), Refusal>;
@@ -60,7 +60,10 @@ fn damaged_counts() {
 
 #[test]
 fn damaged_score_tables() {
-    let check = |scores: &Scores| refusals::decode(scores, &[]);
+    let check = |call: &DecodeCall| {
+        let lent = Lent { length: call.path.len(), needed: call.scores.words as usize };
+        refusals::decode(&call.scores, &[lent])
+    };
     faults_are_found("decoding", calls::decode, &damage::of_decode_call(), check, &[1, 4, 2, 6]);
 }
 
@@ -83,7 +86,7 @@ fn damaged_sheets() {
     let mut mix = Mix::new("sheets").require("10", 30.0).require("1", 5.0).require("4", 5.0).require("6", 5.0);
     for number in 0..4_000 {
         let mut rng = Rng::of_case(0x5E, number);
-        let sound = make::sheet(&calls::decode(&mut rng));
+        let sound = make::sheet(&calls::scores(&mut rng));
         assert!(judge::sheet_line(&sound).starts_with("PATH "), "case {number}");
         let many = 1 + (number % 2) as usize;
         let (bytes, applied) = damage::damaged(&mut rng, &faults, &sound, many);

@@ -10,7 +10,7 @@ use Rattle.refusals.specs.Refusals.{refuse}
 use Rattle.refusals.specs.Tables.{outside}
 use Rattle.generator.specs.Draw.{number, next}
 use Rattle.shuffle.specs.Shuffle.{Deal, shuffled}
-use Rattle.exports.specs.declared.Refused.{Refused}
+use Rattle.exports.specs.declared.draws.Refused.{Refused}
 use Rattle.exports.specs.Numbers.{numbers}
 
 -- a draw from a state: the number that is drawn, and the state after it

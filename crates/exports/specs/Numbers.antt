@@ -2,7 +2,7 @@
 use Rattle.refusals.specs.declared.Refusal.{Refusal}
 use Rattle.refusals.specs.declared.Checked.{Checked}
 use Rattle.refusals.specs.declared.Checked.the-variants.{Accepted, Refused as refusedBy}
-use Rattle.exports.specs.declared.Refused.{Refused}
+use Rattle.exports.specs.declared.draws.Refused.{Refused}
 
 -- document 01's number and place; the number 0 where nothing is refused
 abbrev pub numbers : Checked → Refused

@@ -2,7 +2,7 @@
 ghost use Prim.Native.Nat.{_<_, _≤_};
 use refusals::Checked;
 
-pub fn answer(operation: u64, a: u64, b: u64, c: u64, table: [u64; 12]) {
+pub(crate) fn answer(operation: u64, a: u64, b: u64, c: u64, table: [u64; 12]) {
     match operation {
         1 => finite(a),
         2 => min(a, b),

@@ -1,22 +1,22 @@
 // What is written: words, numbers, lines.
 use libc::STDOUT_FILENO;
 
-pub fn word(text: &[u8]) {
+pub(crate) fn word(text: &[u8]) {
     io::write_all(STDOUT_FILENO, text);
 }
 
-pub fn decimal(n: u64) {
+pub(crate) fn decimal(n: u64) {
     io::print_decimal(STDOUT_FILENO, n);
 }
 
 // A number after a space.
-pub fn place(n: u64) {
+pub(crate) fn place(n: u64) {
     word(b" ");
     decimal(n);
 }
 
 // Sixteen capital digits.
-pub fn hex(n: u64) {
+pub(crate) fn hex(n: u64) {
     let mut digits = [0u8; 16];
     let mut left = n;
     let mut i = 16usize;
@@ -36,6 +36,6 @@ fn digit(n: u64) -> u8 {
     }
 }
 
-pub fn end() {
+pub(crate) fn end() {
     io::write_all(STDOUT_FILENO, b"\n");
 }

@@ -2,3 +2,8 @@ pub mod Data
 pub mod Rules
 pub mod Visits
 pub mod Epochs
+pub mod Orders
+pub mod Counter
+pub mod OneVisit
+pub mod Accepted
+pub mod WholeCounts

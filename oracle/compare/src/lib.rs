@@ -2,5 +2,9 @@
 //!
 //! None of the calls demands anything but valid memory that does not overlap, which a Rust slice always is.
 
-mod calls;
+pub mod calls;
+pub mod decode;
 pub mod shuffle;
+
+/// A refusal's number and place.
+pub type Refusal = (u32, u64);

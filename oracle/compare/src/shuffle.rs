@@ -1,9 +1,6 @@
 //! A draw, and the shuffle of an order.
 
-use crate::calls;
-
-/// A refusal's number and place.
-pub type Refusal = (u32, u64);
+use crate::{Refusal, calls};
 
 pub fn draw(state: &mut u64) -> u64 {
     unsafe { calls::bodkinbloom_draw(state) }

@@ -21,7 +21,7 @@ fn shuffles_as_the_oracle_does() {
             8..16 => rng.between(1_001, 16_383) as usize,
             16 => 16_384,
             _ => rng.between(3, 300) as usize,
-        } as usize;
+        };
         let epochs = rng.between(1, 3) as usize;
         let seed = if rng.chance(10) { u64::MAX - u64::from(rng.below(3)) } else { rng.draw() };
         mix.case();

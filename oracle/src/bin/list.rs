@@ -1,4 +1,4 @@
-//! Writes the fixed list of answers: `cases` and `stdout` in the folder that is named.
+//! Writes the fixed list: the cases as `stdin` and the answers as `stdout`, in the folder that is named.
 
 use std::path::PathBuf;
 use std::process::ExitCode;
@@ -12,7 +12,7 @@ fn main() -> ExitCode {
     };
     let cases = list::cases();
     let written = std::fs::create_dir_all(&folder)
-        .and_then(|()| std::fs::write(folder.join("cases"), list::bytes(&cases)))
+        .and_then(|()| std::fs::write(folder.join("stdin"), list::bytes(&cases)))
         .and_then(|()| std::fs::write(folder.join("stdout"), list::text(&cases)));
     match written {
         Ok(()) => ExitCode::SUCCESS,

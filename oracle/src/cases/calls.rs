@@ -18,6 +18,13 @@ pub struct CountCall {
     pub labels: Vec<u32>,
 }
 
+/// Decoding: the tables, and the buffer that is lent for the path, with what lies in it.
+#[derive(Debug, Clone, PartialEq)]
+pub struct DecodeCall {
+    pub scores: Scores,
+    pub path: Vec<u32>,
+}
+
 #[derive(Debug, Clone, PartialEq)]
 pub struct PathCall {
     pub scores: Scores,
@@ -48,7 +55,7 @@ pub fn count(rng: &mut Rng) -> CountCall {
     CountCall { model, line, labels }
 }
 
-pub fn decode(rng: &mut Rng) -> Scores {
+pub fn scores(rng: &mut Rng) -> Scores {
     let Size { labels, words, .. } = Size::drawn(rng);
     let palette = rng.pick(&PALETTES);
     let mut scores = make::scores(rng, labels, words, palette);
@@ -56,9 +63,17 @@ pub fn decode(rng: &mut Rng) -> Scores {
     scores
 }
 
+/// The path's buffer is as long as the line or longer.
+pub fn decode(rng: &mut Rng) -> DecodeCall {
+    let scores = scores(rng);
+    let room = scores.words + if rng.chance(30) { 0 } else { rng.between(1, 9) };
+    let path = (0..room).map(|_| rng.draw() as u32).collect();
+    DecodeCall { scores, path }
+}
+
 /// A path as long as the line, shorter, or empty.
 pub fn path(rng: &mut Rng) -> PathCall {
-    let scores = decode(rng);
+    let scores = scores(rng);
     let length = if rng.chance(50) { scores.words } else { rng.between(0, scores.words) };
     let path = longer_path(rng, scores.labels, length);
     PathCall { scores, path, length }

@@ -1,6 +1,6 @@
 //! Damaged copies: for every table and every rule of the refusals a fault that breaks it, alone or two at once.
 
-use super::calls::{CountCall, LineCall, PathCall, TrainCall};
+use super::calls::{CountCall, DecodeCall, LineCall, PathCall, TrainCall};
 use super::make::NOT_FINITE;
 use super::rng::Rng;
 use crate::refusals::{
@@ -72,33 +72,17 @@ pub fn of_count_call() -> Vec<Fault<CountCall>> {
     all
 }
 
-pub fn of_decode_call() -> Vec<Fault<Scores>> {
-    let states = |s: &Scores| s.words * s.labels;
-    let moves = |s: &Scores| s.labels * s.labels;
-    vec![
-        Fault::new(1, "labels", |s: &mut Scores, rng| set(&mut s.labels, rng.pick(&[0, LABELS + 1]))),
-        Fault::new(4, "words", |s: &mut Scores, rng| set(&mut s.words, rng.pick(&[0, WORDS + 1]))),
-        Fault::new(2, "states short", move |s: &mut Scores, _| {
-            let need = states(s);
-            shorten(&mut s.states, need)
-        }),
-        Fault::new(2, "transitions short", move |s: &mut Scores, _| {
-            let need = moves(s);
-            shorten(&mut s.transitions, need)
-        }),
-        Fault::new(6, "transition", move |s: &mut Scores, rng| {
-            let count = moves(s);
-            spoil(rng, &mut s.transitions, count, &NOT_FINITE)
-        }),
-        Fault::new(6, "state", move |s: &mut Scores, rng| {
-            let count = states(s);
-            spoil(rng, &mut s.states, count, &NOT_FINITE)
-        }),
-    ]
+pub fn of_decode_call() -> Vec<Fault<DecodeCall>> {
+    let mut all = inside(of_scores(), |call: &mut DecodeCall| &mut call.scores);
+    all.push(Fault::new(2, "path buffer short", |call: &mut DecodeCall, rng| {
+        let needed = rng.pick(&[1, call.scores.words]);
+        shorten(&mut call.path, needed)
+    }));
+    all
 }
 
 pub fn of_path_call() -> Vec<Fault<PathCall>> {
-    let mut all = inside(of_decode_call(), |call: &mut PathCall| &mut call.scores);
+    let mut all = inside(of_scores(), |call: &mut PathCall| &mut call.scores);
     all.push(Fault::new(4, "path longer than its table", |call: &mut PathCall, rng| {
         let words = call.scores.words;
         set(&mut call.length, rng.pick(&[words.saturating_add(1), u32::MAX]))
@@ -214,6 +198,34 @@ fn of_weights() -> Vec<Fault<Model>> {
     vec![
         Fault::new(2, "weights short", |m: &mut Model, _| shorten(&mut m.weights, m.counts.features)),
         Fault::new(6, "weight", |m: &mut Model, rng| spoil(rng, &mut m.weights, m.counts.features, &NOT_FINITE)),
+    ]
+}
+
+/// Score tables. Some numbers of labels and words have products that come out small at 32 bits.
+fn of_scores() -> Vec<Fault<Scores>> {
+    let states = |s: &Scores| s.words.saturating_mul(s.labels);
+    let moves = |s: &Scores| s.labels.saturating_mul(s.labels);
+    vec![
+        Fault::new(1, "labels", |s: &mut Scores, rng| {
+            set(&mut s.labels, rng.pick(&[0, LABELS + 1, 1 << 16, u32::MAX]))
+        }),
+        Fault::new(4, "words", |s: &mut Scores, rng| set(&mut s.words, rng.pick(&[0, WORDS + 1, 1 << 31, u32::MAX]))),
+        Fault::new(2, "states short", move |s: &mut Scores, _| {
+            let need = states(s);
+            shorten(&mut s.states, need)
+        }),
+        Fault::new(2, "transitions short", move |s: &mut Scores, _| {
+            let need = moves(s);
+            shorten(&mut s.transitions, need)
+        }),
+        Fault::new(6, "transition", move |s: &mut Scores, rng| {
+            let count = moves(s);
+            spoil(rng, &mut s.transitions, count, &NOT_FINITE)
+        }),
+        Fault::new(6, "state", move |s: &mut Scores, rng| {
+            let count = states(s);
+            spoil(rng, &mut s.states, count, &NOT_FINITE)
+        }),
     ]
 }
 

@@ -1,0 +1,34 @@
+// From an open file to its answer line on standard output. What is read and written stands in no contract: everything
+// between is `print_sheet`.
+ghost use Prim.Native.Nat.{_≤_};
+ghost use lib.ListN.{length};
+use libc::STDOUT_FILENO;
+
+// The bytes of a file, as many as the buffer holds: how many there are, or none where a read fails, since the end of the
+// file was never seen then.
+fn read_bytes(fd: i32, bytes: &mut [u8]) -> usize
+    ensures { λ r. ⌜ r ≤ length (now (bytes .exit)) ⌝ }
+{
+    let mut done = 0usize;
+    while done < bytes.len() {
+        let got = libc::read(fd, &mut bytes[done..]);
+        if got < 0 {
+            return 0;
+        }
+        let more = io::count(got, &bytes[done..]);
+        if more == 0 {
+            return done;
+        }
+        done += more;
+    }
+    done
+}
+
+// The buffer has one byte more than the longest sheet, 8 + 8·(32·32 + 128·32) bytes, by which a longer file is known.
+pub fn answer_file(fd: i32) {
+    let mut bytes = [0u8; 40969];
+    let n = read_bytes(fd, &mut bytes);
+    let mut line = [0u8; 406];
+    let size = decode_sheet::print_sheet(&bytes[..n], &mut line);
+    io::write_all(STDOUT_FILENO, &line[..size]);
+}

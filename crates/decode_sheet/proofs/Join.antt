@@ -1,0 +1,111 @@
+-- From what the reader promises of the bytes to what is promised of the line. Assumes nothing.
+use mathlib.Core.Path.{_≡_, sym, _∙_}
+use mathlib.Core.List.{List, [], _∷_, _++_, append-assoc, append-nil}
+use Prim.Native.Nat.{ℕ, _*_, _<_, _≤_}
+use native.Mathlib.Omega.{arith}
+use borrow.Author.Tests.{ltb-false}
+use lib.ListN.{length, take, drop, length-append}
+use lib.Seq.{take-at, length-take-le}
+use lib.Ieee.{Float}
+use Rattle.refusals.specs.declared.Refusal.{Refusal}
+use Rattle.refusals.specs.declared.Checked.the-variants.{Accepted, Refused}
+use Rattle.refusals.specs.Refusals.{refuse}
+use Rattle.refusals.specs.Tables.{short}
+use Rattle.refusals.proofs.Laws.{all-accepted, passes}
+use Rattle.score_tables.specs.Rows.{one, four, sixes}
+use Rattle.score_tables.specs.Sound.{Sound}
+use Rattle.sheet.specs.declared.Reading.{Reading}
+use Rattle.sheet.specs.Fields.{labelsIn, wordsIn, transitionsIn, statesIn}
+use Rattle.sheet.specs.Promise.{Lent, wrongHead, wrongLength, sheetChecked}
+use Rattle.sheet.specs.Promise as reader
+use Rattle.sheet.proofs.Rows.{accepts}
+use Rattle.answer_line.specs.Line as line
+use Rattle.decode_sheet.specs.declared.Written.{Written}
+use Rattle.decode_sheet.specs.Answer.{pathLineOf, lineChecked}
+use Rattle.decode_sheet.specs.Promise.{answerTo, lineAfter, Promised}
+use Rattle.decode_sheet.proofs.Rows.{Lends, rows, refused-by, read-by, transitions-size, states-size, sound-in}
+
+-- the room that is lent of the transitions: none where the line is too short, else all
+pub record Chosen (before : List ℕ) (transitions states : List Float) (room : ℕ) : Type 0 where
+  pub none : length before < 406 → room ≡ 0
+  pub all : 406 ≤ length before → room ≡ length transitions
+  pub inside : room ≤ length transitions
+  pub long-transitions : 1024 ≤ length transitions
+  pub long-states : 4096 ≤ length states
+
+abbrev pub lent : List Float → List Float → ℕ → Lent
+lent transitions states room = record { transitions = take room transitions; states = states }
+
+-- the promise, by the two answers
+module _ (bytes before : List ℕ) where
+  pub promised-refused : (why : Refusal) → lineChecked bytes (length before) ≡ Refused why → Promised (record { bytes = bytes }) before (record { answer = Written.Refused why; line = before })
+  unfolding answerTo lineAfter
+  promised-refused why h = record { answers = rw h; fills-line = rw h }
+
+  pub promised-path : (size : ℕ) (after : List ℕ) → lineChecked bytes (length before) ≡ Accepted → line.Written (pathLineOf bytes) before size after → Promised (record { bytes = bytes }) before (record { answer = Written.Path size; line = after })
+  unfolding answerTo lineAfter
+  promised-path size after h w = record { answers = rw (h, w .counted); fills-line = rw h (w .written) }
+
+  -- a line that is accepted has its room
+  roomy : lineChecked bytes (length before) ≡ Accepted → 406 ≤ length before
+  unfolding lineChecked
+  roomy h =
+      let a = all-accepted Accepted (refuse 10 0 (wrongHead bytes) ∷ one (labelsIn bytes) ∷ four (wordsIn bytes) ∷ refuse 2 0 (short (length before) 406) ∷ refuse 10 0 (wrongLength bytes) ∷ sixes (labelsIn bytes) (wordsIn bytes) (transitionsIn bytes) (statesIn bytes)) h .1 in
+      ltb-false (length before) 406 (passes 2 0 _ (a .1 .1 .1 .0))
+
+-- what a file that is read gives to the decoder
+pub record Tables (bytes before : List ℕ) (transitions states : List Float) (room labels words : ℕ) (o : reader.Outcome) : Type 0 where
+  pub accepted : lineChecked bytes (length before) ≡ Accepted
+  pub line-long : 406 ≤ length before
+  pub labels-are : labels ≡ labelsIn bytes
+  pub words-are : words ≡ wordsIn bytes
+  pub sound : Sound (labelsIn bytes) (wordsIn bytes) (transitionsIn bytes) (statesIn bytes)
+  pub transitions-front : take (labelsIn bytes * labelsIn bytes) (o .transitions ++ drop room transitions) ≡ transitionsIn bytes
+  pub states-front : take (wordsIn bytes * labelsIn bytes) (o .states) ≡ statesIn bytes
+  pub transitions-long : labelsIn bytes * labelsIn bytes ≤ length (o .transitions ++ drop room transitions)
+  pub states-long : wordsIn bytes * labelsIn bytes ≤ length (o .states)
+
+-- the front of a table that was filled
+front : (table rest more : List Float) (n : ℕ) → length table ≡ n → (take n ((table ++ rest) ++ more) ≡ table) × (n ≤ length ((table ++ rest) ++ more))
+front table rest more n e =
+    (rw (append-assoc table rest more) (take-at table (rest ++ more) n e), rw (append-assoc table rest more, length-append table (rest ++ more)) (omega arith))
+
+module _ (bytes before : List ℕ) (transitions states : List Float) (room : ℕ) (chosen : Chosen before transitions states room) where
+  lends : Lends (length before) (lent transitions states room)
+  lends =
+      let e = length-take-le room transitions (chosen .inside) in
+      record {
+        none = λ h. omega (arith, chosen .none h);
+        enough = λ h. omega (arith, chosen .all h, chosen .long-transitions);
+        states = chosen .long-states;
+      }
+
+  checked : sheetChecked (record { bytes = bytes }) (lent transitions states room) ≡ lineChecked bytes (length before)
+  checked = rows bytes (length before) (lent transitions states room) lends
+
+  pub read-refused : (o : reader.Outcome) → reader.Promised (record { bytes = bytes }) (lent transitions states room) o → (why : Refusal) → o .answer ≡ Reading.Refused why → Promised (record { bytes = bytes }) before (record { answer = Written.Refused why; line = before })
+  unfolding reader.answerTo
+  read-refused o p why h = promised-refused bytes before why (sym checked ∙ refused-by bytes _ why (rw h at (p .answers)))
+
+  pub read-tables : (o : reader.Outcome) → reader.Promised (record { bytes = bytes }) (lent transitions states room) o → (labels words : ℕ) → o .answer ≡ Reading.Read labels words → Tables bytes before transitions states room labels words o
+  unfolding reader.answerTo reader.transitionsAfter reader.statesAfter
+  read-tables o p labels words h =
+      let r = read-by bytes (sheetChecked (record { bytes = bytes }) (lent transitions states room)) labels words (rw h at (p .answers)) in
+      let sound = sound-in bytes (lent transitions states room) (accepts bytes (lent transitions states room) (r .accepted)) in
+      let t : o .transitions ≡ transitionsIn bytes ++ drop (length (transitionsIn bytes)) (take room transitions) = p .fills-transitions ∙ rw (r .accepted) in
+      let s : o .states ≡ statesIn bytes ++ drop (length (statesIn bytes)) states = p .fills-states ∙ rw (r .accepted) in
+      let m = labelsIn bytes * labelsIn bytes in
+      let n = wordsIn bytes * labelsIn bytes in
+      let f = front (transitionsIn bytes) (drop (length (transitionsIn bytes)) (take room transitions)) (drop room transitions) m (transitions-size bytes) in
+      let g = front (statesIn bytes) (drop (length (statesIn bytes)) states) [] n (states-size bytes) in
+      record {
+        accepted = sym checked ∙ r .accepted;
+        line-long = roomy bytes before (sym checked ∙ r .accepted);
+        labels-are = r .labels-are;
+        words-are = r .words-are;
+        sound = sound;
+        transitions-front = rw t (f .0);
+        states-front = rw (s, ← append-nil (statesIn bytes ++ drop (length (statesIn bytes)) states)) (g .0);
+        transitions-long = rw t (f .1);
+        states-long = rw (s, ← append-nil (statesIn bytes ++ drop (length (statesIn bytes)) states)) (g .1);
+      }

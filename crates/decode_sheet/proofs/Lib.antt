@@ -1,0 +1,6 @@
+pub mod Line
+pub mod Rows
+pub mod Join
+pub mod Print
+pub mod Once
+pub mod Prints

@@ -1,0 +1,102 @@
+-- The rows of a sheet that is decoded into a line, by way of the reader's rows over tables with room for every sheet. Assumes nothing.
+use mathlib.Core.Path.{_≡_, refl, ap}
+use mathlib.Core.Bool.{Bool, true, false}
+use mathlib.Core.List.{List, [], _∷_}
+use Prim.Native.Nat.{ℕ, _*_, _<_, _≤_}
+use native.Mathlib.Nat.{mul-le-mul}
+use native.Mathlib.Omega.{arith}
+use borrow.Author.Tests.{lt-ltb, le-ltb, ltb-true, ltb-false}
+use lib.Dec.{ltb}
+use lib.ListN.{length}
+use Rattle.refusals.specs.declared.Refusal.{Refusal}
+use Rattle.refusals.specs.declared.Checked.{Checked}
+use Rattle.refusals.specs.declared.Checked.the-variants.{Accepted, Refused}
+use Rattle.refusals.specs.Refusals.{refuse, orNext, firstFrom}
+use Rattle.refusals.specs.Tables.{short}
+use Rattle.refusals.proofs.Laws.{all-accepted}
+use Rattle.score_tables.specs.Rows.{one, four, two, sixes}
+use Rattle.score_tables.specs.Sound.{LabelsIn, WordsIn, Sound}
+use Rattle.score_tables.proofs.Laws.{labels-in, words-in, all-finite}
+use Rattle.sheet.specs.Fields.{labelsIn, wordsIn, transitionsIn, statesIn}
+use Rattle.sheet.specs.Promise.{Lent, read, refused, wrongHead, wrongLength, sheetChecked, answerBy}
+use Rattle.sheet.proofs.Laws.{length-numbers}
+use Rattle.sheet.proofs.Rows.{Accepts}
+use Rattle.sheet.proofs.Once.{same-refusal}
+use Rattle.decode_sheet.specs.Answer.{lineChecked}
+
+-- a row that is only reached where the answer so far accepts
+same-row : (answer x y : Checked) (rest : List Checked) → (answer ≡ Accepted → x ≡ y) → firstFrom (orNext answer x) rest ≡ firstFrom (orNext answer y) rest
+unfolding orNext
+same-row Accepted x y rest h = ap (λ (c : Checked). firstFrom c rest) (h refl)
+same-row (Refused why) x y rest h = refl
+
+-- the room of the tables that are lent: none for a line that is too short
+pub record Lends (room : ℕ) (before : Lent) : Type 0 where
+  pub none : room < 406 → length (before .transitions) ≡ 0
+  pub enough : 406 ≤ room → 1024 ≤ length (before .transitions)
+  pub states : 4096 ≤ length (before .states)
+
+module _ (bytes : List ℕ) (room : ℕ) (before : Lent) (lends : Lends room before) where
+  two-row : LabelsIn (labelsIn bytes) → WordsIn (wordsIn bytes) → two (labelsIn bytes) (wordsIn bytes) (before .transitions) (before .states) ≡ refuse 2 0 (short room 406)
+  two-row l w = go (ltb room 406) refl
+    where
+      go : (b : Bool) → ltb room 406 ≡ b → two (labelsIn bytes) (wordsIn bytes) (before .transitions) (before .states) ≡ refuse 2 0 (short room 406)
+      go true e =
+          let h : length (before .transitions) < labelsIn bytes * labelsIn bytes = omega (arith, lends .none (ltb-true room 406 e), mul-le-mul (l .low) (l .low)) in
+          rw (lt-ltb _ _ h, e)
+      go false e =
+          let h : labelsIn bytes * labelsIn bytes ≤ length (before .transitions) = omega (arith, lends .enough (ltb-false room 406 e), mul-le-mul (l .high) (l .high)) in
+          let k : wordsIn bytes * labelsIn bytes ≤ length (before .states) = omega (arith, lends .states, mul-le-mul (w .high) (l .high)) in
+          rw (le-ltb _ _ h, le-ltb _ _ k, e)
+
+  -- the reader's rows are the line's
+  pub rows : sheetChecked (record { bytes = bytes }) before ≡ lineChecked bytes room
+  unfolding sheetChecked lineChecked
+  rows =
+      same-row _ _ _ (refuse 10 0 (wrongLength bytes) ∷ sixes (labelsIn bytes) (wordsIn bytes) (transitionsIn bytes) (statesIn bytes))
+      (λ h.
+      let a = all-accepted Accepted (refuse 10 0 (wrongHead bytes) ∷ one (labelsIn bytes) ∷ four (wordsIn bytes) ∷ []) h .1 in
+      two-row (labels-in (a .1 .0)) (words-in (a .1 .1 .0)))
+
+-- ---- what the reader answers
+
+pub refused-by : (bytes : List ℕ) (c : Checked) (why : Refusal) → refused (why .number) (why .place) ≡ answerBy c bytes → c ≡ Refused why
+refused-by bytes Accepted why h = let z : _≡_ {A = ℕ} 0 1 = cc in absurd (omega arith)
+refused-by bytes (Refused other) why h = ap Refused (same-refusal other why (cc) (cc))
+
+pub record ReadBy (bytes : List ℕ) (c : Checked) (labels words : ℕ) : Type 0 where
+  pub accepted : c ≡ Accepted
+  pub labels-are : labels ≡ labelsIn bytes
+  pub words-are : words ≡ wordsIn bytes
+
+pub read-by : (bytes : List ℕ) (c : Checked) (labels words : ℕ) → read labels words ≡ answerBy c bytes → ReadBy bytes c labels words
+read-by bytes Accepted labels words h = record { accepted = refl; labels-are = cc; words-are = cc }
+read-by bytes (Refused why) labels words h = let z : _≡_ {A = ℕ} 0 1 = cc in absurd (omega arith)
+
+-- how many numbers a file's tables have
+pub transitions-size : (bytes : List ℕ) → length (transitionsIn bytes) ≡ labelsIn bytes * labelsIn bytes
+unfolding transitionsIn
+transitions-size bytes = length-numbers _ _
+
+pub states-size : (bytes : List ℕ) → length (statesIn bytes) ≡ wordsIn bytes * labelsIn bytes
+unfolding statesIn
+states-size bytes = length-numbers _ _
+
+-- the tables that an accepted file holds are sound
+pub sound-in : (bytes : List ℕ) (before : Lent) → Accepts bytes before → Sound (labelsIn bytes) (wordsIn bytes) (transitionsIn bytes) (statesIn bytes)
+sound-in bytes before a =
+    let l = a .sizes-in .room .labels-in in
+    let w = a .sizes-in .room .words-in in
+    let t = transitions-size bytes in
+    let s = states-size bytes in
+    record {
+      sized =
+          record {
+            labels-in = l;
+            words-in = w;
+            room = record { long-transitions = omega arith; long-states = omega arith };
+            few-transitions = a .sizes-in .room .few-transitions;
+            few-states = a .sizes-in .room .few-states;
+          };
+      finite = all-finite (labelsIn bytes) (wordsIn bytes) (transitionsIn bytes) (statesIn bytes) (a .transitions-in) (a .states-in);
+    }

@@ -1,0 +1,3 @@
+pub mod Folds
+pub mod Same
+pub mod NoScore

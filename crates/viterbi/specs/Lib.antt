@@ -1,0 +1,4 @@
+pub mod Rows
+pub mod Answered
+pub mod Promise
+pub mod Demand3
