@@ -1,9 +1,85 @@
-// The tables of a model and of lines, and what the scores and the feature counts of a line are. Definitions and their laws
-// only, and the attribute that scoring and counting hand on; the code that meets them is in compute_scores and
-// extract_features.
+// The tables of a model and of lines, what the scores and the feature counts of a line are, and the laws of these definitions.
+// Of code only what scoring and counting share: the attribute that they hand on, how an attribute and the places of its list are
+// read, and how a buffer's front is cleared. The loops over these are in compute_scores and extract_features.
+ghost use mathlib.Core.Path.{_≡_};
+ghost use mathlib.Core.List.{List, _++_};
+ghost use Prim.Native.Nat.{ℕ, _+_, _≤_, _<_, min};
+ghost use lib.ListN.{length, getD, drop, replicate};
+ghost use Rattle.lines.specs.Passes.{nought};
+ghost use Rattle.lines.specs.Spans.{attributeBefore, spanOf};
 
 // "An attribute is an id with a value."
 pub struct Attribute {
     pub id: u32,
     pub value: f64,
+}
+
+// The places of a list among the entries: from the first up to the last, which is not one of them.
+pub struct Span {
+    pub first: usize,
+    pub last: usize,
+}
+
+// The number at a place, as an index.
+pub fn at(table: &[u32], i: usize) -> usize
+    requires { ⌜ i < length (now table) ⌝ }
+    ensures { λ r. ⌜ r ≡ getD (now (table .entry)) i 0 ⌝ }
+{
+    table[i] as usize
+}
+
+// The attribute at a place, or the last before the end where the place is past that: a loop that looks one attribute ahead stays
+// in the table, and does so without a branch.
+pub fn attribute_before(ids: &[u32], values: &[f64], end: usize, a: usize) -> Attribute
+    requires { ⌜ 0 < end ⌝ }
+    requires { ⌜ end ≤ length (now ids) ⌝ }
+    requires { ⌜ end ≤ length (now values) ⌝ }
+    ensures { λ r. ⌜ r ≡ attributeBefore (now (ids .entry)) (now (values .entry)) end a ⌝ }
+{
+    let i = smaller(a, end - 1);
+    Attribute {
+        id: ids[i],
+        value: values[i],
+    }
+}
+
+// The smaller of two numbers.
+pub fn smaller(a: usize, b: usize) -> usize
+    ensures { λ r. ⌜ r ≡ min a b ⌝ }
+{
+    if a < b { a } else { b }
+}
+
+// The places of a list, of so many; none where there is no such list.
+pub fn list_span(lists: usize, starts: &[u32], list: usize) -> Span
+    requires { ⌜ lists < length (now starts) ⌝ }
+    ensures { λ r. ⌜ r ≡ spanOf lists (now (starts .entry)) list ⌝ }
+{
+    if list < lists {
+        return Span {
+            first: at(starts, list),
+            last: at(starts, list + 1),
+        };
+    }
+    Span { first: 0, last: 0 }
+}
+
+// The places of an attribute's list: "An attribute id without a list is ignored".
+pub fn attribute_span(lists: usize, starts: &[u32], attribute: Attribute) -> Span
+    requires { ⌜ lists < length (now starts) ⌝ }
+    ensures { λ r. ⌜ r ≡ spanOf lists (now (starts .entry)) (attribute .id) ⌝ }
+{
+    list_span(lists, starts, attribute.id as usize)
+}
+
+// The first n are +0, and what comes after them stays.
+pub fn clear_front(buffer: &mut [f64], n: usize)
+    requires { ⌜ n ≤ length (now buffer) ⌝ }
+    ensures { λ _. ⌜ now (buffer .exit) ≡ replicate n nought ++ drop n (now (buffer .entry)) ⌝ }
+{
+    let mut i = 0;
+    while i < n {
+        buffer[i] = 0.0;
+        i += 1;
+    }
 }

@@ -3,25 +3,18 @@ use mathlib.Core.Path.{_≡_, sym, ap, _∙_}
 use mathlib.Core.Bool.{Bool, true, false}
 use mathlib.Core.List.{List}
 use Prim.Native.Nat.{ℕ, zero, suc, _+_, _-_, _≤_}
-use native.Mathlib.Numerals.{add-one}
-use native.Mathlib.Nat.{le-antisymm, zero-add, suc-add}
+use native.Mathlib.Nat.{zero-add, suc-add}
 use native.Mathlib.Omega.{arith}
 use lib.ListN.{getD}
 use lib.Ieee.{Float}
 use Rattle.lines.specs.Passes.{through}
+use Rattle.lines.proofs.Laws.{through-next, through-end}
 use Rattle.shuffle.specs.Shuffle.{Deal, shuffled}
 use Rattle.training.specs.Visits.{State}
 use Rattle.training.specs.Epochs.{Run, isRefused, endsAfter, opened, visitedAt, epochOver, epoch, epochUnlessOver}
 
--- ---- a pass over a range, turn by turn, and a step that changes nothing from some point on
+-- ---- a step that changes nothing from some point on
 module _ {S : Type 0} (step : ℕ → S → S) where
-  through-next : (n : ℕ) (s : S) {t u : S} → t ≡ through step 0 n s → u ≡ step n t → u ≡ through step 0 (n + 1) s
-  unfolding through
-  through-next n s p q = q ∙ ap (step n) p ∙ rw (add-one, zero-add)
-
-  through-end : (i n : ℕ) (s : S) → i ≤ n → n ≤ i → through step 0 i s ≡ through step 0 n s
-  through-end i n s p q = rw (le-antisymm p q)
-
   stays : (n k : ℕ) (s : S) → ((j : ℕ) → step j (through step 0 n s) ≡ through step 0 n s) → through step 0 (k + n) s ≡ through step 0 n s
   unfolding through
   stays n zero s h = rw zero-add

@@ -71,7 +71,6 @@ module _ (n words : â„•) (transitions states : List Float) (path steps : List â„
     some = ready .sized .labels-in .low;
     few = ready .sized .labels-in .high;
     any = ready .sized .words-in .low;
-    short = ready .sized .words-in .high;
     long-path = ready .long-path;
     long-steps = long;
     within = steps-within (tabled n transitions states) steps (ready .sized .labels-in .low) words (done .leads);

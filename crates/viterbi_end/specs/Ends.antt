@@ -46,7 +46,6 @@ pub record Walk (n words : ℕ) (steps path : List ℕ) : Type 0 where
   pub some : 0 < n
   pub few : n ≤ 32
   pub any : 0 < words
-  pub short : words ≤ 128
   pub long-path : words ≤ length path
   pub long-steps : words * n ≤ length steps
   pub within : StepsWithin steps n words

@@ -43,7 +43,7 @@ fn other_label(last: usize, k: usize) -> usize
     if k < last { k } else { k + 1 }
 }
 
-// The largest score of the labels other than `last`, of which there is one.
+// The largest score of the labels other than `last`, of which there is at least one.
 fn rival(row: &[f64; 32], n: usize, last: usize) -> f64
     requires { ⌜ (1 < n) × (n ≤ 32) ⌝ }
     ensures { λ r. ⌜ r ≡ rivalOf (now (row .entry)) n last ⌝ }
@@ -66,7 +66,7 @@ fn positive_zero(x: f64) -> f64
     if x == 0.0 { 0.0 } else { x }
 }
 
-// The difference of two scores, where both are finite.
+// "no lead .. when either score is not finite".
 fn lead_by(best: f64, rival: f64) -> Lead
     ensures { λ r. ⌜ leadSaid r ≡ difference best rival ⌝ }
 {
@@ -77,6 +77,7 @@ fn lead_by(best: f64, rival: f64) -> Lead
     }
 }
 
+// "no lead" with L = 1.
 fn lead_of(row: &[f64; 32], n: usize, last: usize) -> Lead
     requires { ⌜ (last < n) × (n ≤ 32) ⌝ }
     ensures { λ r. ⌜ leadSaid r ≡ leadOf (now (row .entry)) n last ⌝ }

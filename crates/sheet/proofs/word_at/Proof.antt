@@ -1,6 +1,6 @@
 -- `sheet::word_at` meets its contract. Assumes nothing.
 use borrow.Author.Needs.{needs}
-use native.Mathlib.Omega.{arith}
+use mathlib.Core.Path.{sym}
 use Rattle.sheet.proofs.Laws.{four-halves}
 use Rattle.sheet.proofs.word_at.Statement.{statement}
 use Rattle.sheet.proofs.word_at.Tie as tie
@@ -47,7 +47,8 @@ add-result-3 c = search needs
 returns : tie.Need-returns
 returns c =
     let a = c .before .before .before .before .before in
-    omega (arith, four-halves (a .args .bytes .now) (a .args .at) (a .pre))
+    rw (c .half-at4 .ensures .0, c .before .half-at3 .ensures .0, c .before .before .half-at2 .ensures .0, c .before .before .before .half-at .ensures .0)
+    (sym (four-halves (a .args .bytes .now) (a .args .at) (a .pre)))
 
 pub word-at-spec : {M : Type 1} → statement M
 word-at-spec =

@@ -95,7 +95,7 @@ loop-again c =
     let second = c .before .before .next-row2 in
     let e : l .loop .word + 1 + 1 ≡ l .loop .word + 2 = omega arith in
     let done = done-more (second-before (c .before .before .before)) (first-done-more first) _ _ (second .ensures) in
-    (c .before .before .before .before .before .before .before .before .before .before .before .before .before .before .loop-test .taken, second .kept .1 .1 .1 .1 .1 .1 .0 ∙ first .next-row .kept .1 .1 .1 .1 .1 .1 .0 ∙ l .loop .inv .1, first-done-more first .wide, rw e at done)
+    (omega (arith, c .before .before .before .before .before .before .before .before .before .before .before .before .before .before .loop-test .taken), second .kept .1 .1 .1 .1 .1 .1 .0 ∙ first .next-row .kept .1 .1 .1 .1 .1 .1 .0 ∙ l .loop .inv .1, first-done-more first .wide, rw e at done)
 
 add-if1 : tie.Need-add-if1 Inv-loop μ-loop
 add-if1 c = search needs

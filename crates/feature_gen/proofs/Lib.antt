@@ -1,0 +1,4 @@
+pub mod Laws
+pub mod Sound
+pub mod Meant
+pub mod Unique

@@ -1,0 +1,38 @@
+-- A model as a call is lent it: counts, and tables beside them. Assumes nothing.
+use mathlib.Core.List.{List}
+use Prim.Native.Nat.{ℕ}
+use Rattle.lines.specs.Tables.{Features, Lists, Model}
+use Rattle.feature_gen.specs.declared.Counts.{Counts}
+
+abbrev pub featuresOf : Counts → List ℕ → List ℕ → List ℕ → Features
+featuresOf counts kinds destinations sources = record {
+  count = counts .features;
+  kinds = kinds;
+  destinations = destinations;
+  sources = sources;
+}
+
+abbrev pub attributeListsOf : Counts → List ℕ → List ℕ → Lists
+attributeListsOf counts starts entries = record {
+  count = counts .«attribute_lists»;
+  starts = starts;
+  size = counts .«attribute_entries»;
+  entries = entries;
+}
+
+abbrev pub labelListsOf : Counts → List ℕ → List ℕ → Lists
+labelListsOf counts starts entries = record {
+  count = counts .«label_lists»;
+  starts = starts;
+  size = counts .«label_entries»;
+  entries = entries;
+}
+
+-- L, the counts, kinds, destinations and sources; starts and entries of the attribute lists, then of the label lists
+abbrev pub modelOf : ℕ → Counts → List ℕ → List ℕ → List ℕ → List ℕ → List ℕ → List ℕ → List ℕ → Model
+modelOf labels counts kinds destinations sources attributeStarts attributeEntries labelStarts labelEntries = record {
+  labels = labels;
+  features = featuresOf counts kinds destinations sources;
+  attributeLists = attributeListsOf counts attributeStarts attributeEntries;
+  labelLists = labelListsOf counts labelStarts labelEntries;
+}

@@ -1,0 +1,44 @@
+-- What the check of a model and `set_weights` refuse, in plain terms: each number exactly when document 01 gives it, and with which place. The proofs are in proofs/Meant.
+use mathlib.Core.Path.{_≡_}
+use mathlib.Core.List.{List, [], _∷_, _++_}
+use mathlib.Core.Logic.{_↔_}
+use Prim.Native.Nat.{ℕ}
+use lib.Ieee.{Float}
+use Rattle.refusals.specs.declared.Refusal.{Refusal}
+use Rattle.refusals.specs.declared.Checked.the-variants.{Accepted, Refused}
+use Rattle.refusals.specs.Refusals.{refusedAt}
+use Rattle.score_tables.specs.Sound.{LabelsIn}
+use Rattle.refusal_rows.specs.Limits.{AllWithin}
+use Rattle.refusal_rows.specs.Tests.{AllGood, FirstBadOf}
+use Rattle.refusal_rows.specs.Given.{AtZero, OneOf}
+use Rattle.lines.specs.Tables.{Model}
+use Rattle.feature_gen.specs.Rows.{modelLimits, weightLimits, startTests, idTests, weightTests, modelChecked}
+use Rattle.feature_gen.specs.SetWeights.{Setting, newLimits, newTests, newChecked}
+use Rattle.feature_gen.specs.Sound.{Weighted}
+
+-- every count is within its bound, and every table has room
+abbrev pub Fits : Model → List Float → Type 0
+Fits m weights = AllWithin (modelLimits m ++ weightLimits m weights)
+
+pub record Meaning (m : Model) (weights : List Float) : Type 0 where
+  pub one : (place : ℕ) → modelChecked m weights ≡ refusedAt 1 place ↔ AtZero (LabelsIn (m .labels)) place
+  pub two : (place : ℕ) → modelChecked m weights ≡ refusedAt 2 place ↔ LabelsIn (m .labels) × AtZero (Fits m weights) place
+  pub three : (place : ℕ) → modelChecked m weights ≡ refusedAt 3 place ↔ (LabelsIn (m .labels) × Fits m weights) × FirstBadOf (startTests m) place
+  pub five : (place : ℕ) → modelChecked m weights ≡ refusedAt 5 place ↔ (LabelsIn (m .labels) × (Fits m weights × AllGood (startTests m))) × FirstBadOf (idTests m) place
+  pub six : (place : ℕ) → modelChecked m weights ≡ refusedAt 6 place ↔ (LabelsIn (m .labels) × (Fits m weights × (AllGood (startTests m) × AllGood (idTests m)))) × FirstBadOf (weightTests m weights) place
+  pub only : (why : Refusal) → modelChecked m weights ≡ Refused why → OneOf (1 ∷ 2 ∷ 3 ∷ 5 ∷ 6 ∷ []) (why .number)
+  pub accepted : modelChecked m weights ≡ Accepted ↔ LabelsIn (m .labels) × (Fits m weights × (AllGood (startTests m) × (AllGood (idTests m) × AllGood (weightTests m weights))))
+  pub sound : modelChecked m weights ≡ Accepted → Weighted m weights
+
+abbrev pub ModelsMean : Type 0
+ModelsMean = (m : Model) (weights : List Float) → Meaning m weights
+
+-- what `set_weights` refuses, for a table that has so many places
+pub record NewMeaning (given : Setting) (have : ℕ) : Type 0 where
+  pub two : (place : ℕ) → newChecked given have ≡ refusedAt 2 place ↔ AtZero (AllWithin (newLimits given have)) place
+  pub six : (place : ℕ) → newChecked given have ≡ refusedAt 6 place ↔ AllWithin (newLimits given have) × FirstBadOf (newTests given) place
+  pub only : (why : Refusal) → newChecked given have ≡ Refused why → OneOf (2 ∷ 6 ∷ []) (why .number)
+  pub accepted : newChecked given have ≡ Accepted ↔ AllWithin (newLimits given have) × AllGood (newTests given)
+
+abbrev pub NewWeightsMean : Type 0
+NewWeightsMean = (given : Setting) (have : ℕ) → NewMeaning given have

@@ -1,0 +1,231 @@
+// Features and the model that holds them, after `feature_gen.rs`: kinds State 0 and Transition 1, the check of a model's
+// tables, and `set_weights`. What a line or a trainer tests of the same tables is said here once.
+ghost use mathlib.Core.Path.{_≡_};
+ghost use mathlib.Core.List.{[], _∷_, _++_};
+ghost use Prim.Native.Nat.{_<_, _≤_};
+ghost use lib.ListN.{length, take, drop};
+ghost use Rattle.refusals.specs.Refusals.{firstFrom};
+ghost use Rattle.refusal_rows.specs.Limits.{anyBroken};
+ghost use Rattle.refusal_rows.specs.Tests.{startsRise, idsBelow, checks};
+ghost use Rattle.feature_gen.specs.Rows.{limits, featureTests, modelSized};
+ghost use Rattle.feature_gen.specs.Lent.{featuresOf, attributeListsOf, labelListsOf, modelOf};
+ghost use Rattle.feature_gen.specs.CheckModel.{ModelChecked};
+ghost use Rattle.feature_gen.specs.SetWeights.{newChecked, WeightsSet};
+use refusals::Checked;
+
+pub const STATE: u8 = 0;
+
+pub const TRANSITION: u8 = 1;
+
+pub const MOST_FEATURES: u32 = 65535;
+
+pub const MOST_ATTRIBUTE_LISTS: u32 = 65535;
+
+pub const MOST_LABEL_LISTS: u32 = 32;
+
+pub const MOST_ENTRIES: u32 = 1048576;
+
+// The counts of a model, which are numbers of their own beside the tables.
+#[repr(C)]
+pub struct Counts {
+    pub features: u32,
+    pub attribute_lists: u32,
+    pub label_lists: u32,
+    pub attribute_entries: u32,
+    pub label_entries: u32,
+}
+
+// 2: whether a count is outside its bound, or a table other than the weights too short.
+pub fn exceeds(
+    counts: Counts,
+    kinds: &[u8],
+    destinations: &[u32],
+    sources: &[u32],
+    attribute_starts: &[u32],
+    attribute_entries: &[u32],
+    label_starts: &[u32],
+    label_entries: &[u32],
+) -> bool
+    ensures { λ r. ⌜ r ≡ anyBroken (limits (featuresOf counts (now (kinds .entry)) (now (destinations .entry)) (now (sources .entry))) (attributeListsOf counts (now («attribute_starts» .entry)) (now («attribute_entries» .entry))) (labelListsOf counts (now («label_starts» .entry)) (now («label_entries» .entry)))) ⌝ }
+{
+    (MOST_FEATURES < counts.features)
+        | (MOST_ATTRIBUTE_LISTS < counts.attribute_lists)
+        | (MOST_LABEL_LISTS < counts.label_lists)
+        | (MOST_ENTRIES < counts.attribute_entries)
+        | (MOST_ENTRIES < counts.label_entries)
+        | (kinds.len() < counts.features as usize)
+        | (destinations.len() < counts.features as usize)
+        | (sources.len() < counts.features as usize)
+        | (attribute_starts.len() < counts.attribute_lists as usize + 1)
+        | (attribute_entries.len() < counts.attribute_entries as usize)
+        | (label_starts.len() < counts.label_lists as usize + 1)
+        | (label_entries.len() < counts.label_entries as usize)
+}
+
+// 3 for the lists: attribute lists, then label lists.
+pub fn check_starts(
+    answer: Checked,
+    counts: Counts,
+    attribute_starts: &[u32],
+    label_starts: &[u32],
+) -> Checked
+    requires { ⌜ counts .«attribute_lists» < length (now «attribute_starts») ⌝ }
+    requires { ⌜ counts .«label_lists» < length (now «label_starts») ⌝ }
+    ensures { λ r. ⌜ r ≡ firstFrom answer (checks (startsRise (now («attribute_starts» .entry)) (counts .«attribute_lists») (counts .«attribute_entries») ∷ startsRise (now («label_starts» .entry)) (counts .«label_lists») (counts .«label_entries») ∷ [])) ⌝ }
+{
+    let attributes = counts.attribute_lists as usize;
+    let labels = counts.label_lists as usize;
+    let a = refusals::check_starts(
+        answer,
+        attribute_starts,
+        attributes,
+        counts.attribute_entries,
+    );
+    refusals::check_starts(a, label_starts, labels, counts.label_entries)
+}
+
+// 5 for the features: kinds, then destinations, then sources.
+pub fn check_features(
+    answer: Checked,
+    labels: u32,
+    counts: Counts,
+    kinds: &[u8],
+    destinations: &[u32],
+    sources: &[u32],
+) -> Checked
+    requires { ⌜ counts .features ≤ length (now kinds) ⌝ }
+    requires { ⌜ counts .features ≤ length (now destinations) ⌝ }
+    requires { ⌜ counts .features ≤ length (now sources) ⌝ }
+    ensures { λ r. ⌜ r ≡ firstFrom answer (checks (featureTests labels (featuresOf counts (now (kinds .entry)) (now (destinations .entry)) (now (sources .entry))))) ⌝ }
+{
+    let n = counts.features as usize;
+    let a = refusals::check_kinds(answer, kinds, n);
+    let b = refusals::check_ids(a, destinations, n, labels);
+    refusals::check_sources(b, kinds, sources, n, labels)
+}
+
+// 5 for the lists: entries of attribute lists, then of label lists.
+pub fn check_entries(
+    answer: Checked,
+    counts: Counts,
+    attribute_entries: &[u32],
+    label_entries: &[u32],
+) -> Checked
+    requires { ⌜ counts .«attribute_entries» ≤ length (now «attribute_entries») ⌝ }
+    requires { ⌜ counts .«label_entries» ≤ length (now «label_entries») ⌝ }
+    ensures { λ r. ⌜ r ≡ firstFrom answer (checks (idsBelow (now («attribute_entries» .entry)) (counts .«attribute_entries») (counts .features) ∷ idsBelow (now («label_entries» .entry)) (counts .«label_entries») (counts .features) ∷ [])) ⌝ }
+{
+    let attributes = counts.attribute_entries as usize;
+    let labels = counts.label_entries as usize;
+    let a = refusals::check_ids(answer, attribute_entries, attributes, counts.features);
+    refusals::check_ids(a, label_entries, labels, counts.features)
+}
+
+// 1 and 2: what can be said before any table is read.
+fn check_sizes(
+    labels: u32,
+    counts: Counts,
+    kinds: &[u8],
+    destinations: &[u32],
+    sources: &[u32],
+    weights: &[f64],
+    attribute_starts: &[u32],
+    attribute_entries: &[u32],
+    label_starts: &[u32],
+    label_entries: &[u32],
+) -> Checked
+    ensures { λ r. ⌜ r ≡ modelSized (modelOf labels counts (now (kinds .entry)) (now (destinations .entry)) (now (sources .entry)) (now («attribute_starts» .entry)) (now («attribute_entries» .entry)) (now («label_starts» .entry)) (now («label_entries» .entry))) (now (weights .entry)) ⌝ }
+{
+    let one = refusals::refuse_if(
+        Checked::Accepted,
+        1,
+        0,
+        refusals::is_outside(1, score_tables::MOST_LABELS, labels),
+    );
+    let outside = exceeds(
+        counts,
+        kinds,
+        destinations,
+        sources,
+        attribute_starts,
+        attribute_entries,
+        label_starts,
+        label_entries,
+    );
+    let short = weights.len() < counts.features as usize;
+    refusals::refuse_if(one, 2, 0, outside | short)
+}
+
+// Whether a model is one that document 01 accepts: 1, 2, 3, 5, 6.
+pub fn check_model(
+    labels: u32,
+    counts: Counts,
+    kinds: &[u8],
+    destinations: &[u32],
+    sources: &[u32],
+    weights: &[f64],
+    attribute_starts: &[u32],
+    attribute_entries: &[u32],
+    label_starts: &[u32],
+    label_entries: &[u32],
+) -> Checked
+    ensures { λ r. ⌜ ModelChecked (record { model = modelOf labels counts (now (kinds .entry)) (now (destinations .entry)) (now (sources .entry)) (now («attribute_starts» .entry)) (now («attribute_entries» .entry)) (now («label_starts» .entry)) (now («label_entries» .entry)); weights = now (weights .entry) }) r ⌝ }
+{
+    let sizes = check_sizes(
+        labels,
+        counts,
+        kinds,
+        destinations,
+        sources,
+        weights,
+        attribute_starts,
+        attribute_entries,
+        label_starts,
+        label_entries,
+    );
+    if let Checked::Refused(why) = sizes {
+        return Checked::Refused(why);
+    }
+    let three = check_starts(sizes, counts, attribute_starts, label_starts);
+    let features = check_features(three, labels, counts, kinds, destinations, sources);
+    let five = check_entries(features, counts, attribute_entries, label_entries);
+    refusals::check_numbers(five, weights, counts.features as usize)
+}
+
+// The first n of a table become those of another.
+fn copy_front(n: usize, new: &[f64], weights: &mut [f64])
+    requires { ⌜ n ≤ length (now new) ⌝ }
+    requires { ⌜ n ≤ length (now weights) ⌝ }
+    ensures { λ _. ⌜ now (weights .exit) ≡ take n (now (new .entry)) ++ drop n (now (weights .entry)) ⌝ }
+{
+    let mut i = 0usize;
+    while i < n {
+        weights[i] = new[i];
+        i += 1;
+    }
+}
+
+// 2, then 6, of new weights for a table of this length.
+fn check_new(features: u32, new: &[f64], have: usize) -> Checked
+    ensures { λ r. ⌜ r ≡ newChecked (record { features = features; new = now (new .entry) }) have ⌝ }
+{
+    let n = features as usize;
+    let outside = (MOST_FEATURES < features) | (new.len() < n) | (have < n);
+    let two = refusals::refuse_if(Checked::Accepted, 2, 0, outside);
+    if let Checked::Refused(why) = two {
+        return Checked::Refused(why);
+    }
+    refusals::check_numbers(two, new, n)
+}
+
+// Every feature gets a new weight. A call that is refused changes nothing.
+pub fn set_weights(features: u32, new: &[f64], weights: &mut [f64]) -> Checked
+    ensures { λ r. ⌜ WeightsSet (record { features = features; new = now (new .entry) }) (now (weights .entry)) (record { answer = r; weights = now (weights .exit) }) ⌝ }
+{
+    let answer = check_new(features, new, weights.len());
+    if let Checked::Refused(why) = answer {
+        return Checked::Refused(why);
+    }
+    copy_front(features as usize, new, weights);
+    Checked::Accepted
+}

@@ -1,0 +1,112 @@
+-- What the sizes give a call on a line that accepts them. Assumes nothing.
+use mathlib.Core.Path.{_≡_, refl, sym, _∙_, ap}
+use mathlib.Core.Bool.{Bool, _||_}
+use mathlib.Core.List.{List, [], _∷_, _++_}
+use Prim.Native.Nat.{ℕ, _+_, _*_, _<_, _≤_}
+use native.Mathlib.Omega.{arith}
+use lib.ListN.{length}
+use Rattle.refusals.specs.declared.Refusal.{Refusal}
+use Rattle.refusals.specs.declared.Checked.{Checked}
+use Rattle.refusals.specs.declared.Checked.the-variants.{Accepted, Refused}
+use Rattle.refusals.specs.Refusals.{first, refuse}
+use Rattle.refusals.proofs.Laws.{settled, all-accepted}
+use Rattle.score_tables.specs.Rows.{one, four}
+use Rattle.refusal_rows.specs.Limits.{Limit, anyBroken, two, AllWithin}
+use Rattle.refusal_rows.specs.Tests.{checks}
+use Rattle.refusal_rows.proofs.Means.{two-means, broken-thirds, within-parts}
+use Rattle.lines.specs.Tables.{Words}
+use Rattle.feature_gen.specs.Rows.{modelLimits, weightLimits, idTests, weightTests}
+use Rattle.feature_gen.specs.Sound.{Sized}
+use Rattle.feature_gen.proofs.Laws.{sized}
+use Rattle.line_check.specs.Rows.{Scoring, Counting, lineLimits, scoreLimits, scoringLimits, countLimits, countingLimits, lineStarts, labelTests, valueTests, sizesTested, scoringSized, scoringChecked, countingSized, countingChecked}
+use Rattle.line_check.specs.Sound.{LineSized, ScoringFits, CountingFits}
+
+pub line-sized : (words : ℕ) (line : Words) → AllWithin (lineLimits words line) → LineSized words line
+line-sized words line w = record {
+  few-attributes = w .0;
+  starts = omega (arith, w .1 .0);
+  ids = w .1 .1 .0;
+  values = w .1 .1 .1 .0;
+}
+
+-- sizes that are accepted are within their limits
+within : (labels words : ℕ) (limits : List Limit) (r : Checked) → r ≡ sizesTested labels words (anyBroken limits) → r ≡ Accepted → AllWithin limits
+within labels words limits r e h =
+    two-means limits .accepted .0 (all-accepted Accepted (one labels ∷ four words ∷ two limits ∷ []) (sym e ∙ h) .1 .1 .1 .0)
+
+module _ (s : Scoring) where
+  abbrev tables : List Limit
+  tables = modelLimits (s .model) ++ weightLimits (s .model) (s .weights)
+
+  abbrev line : List Limit
+  line = lineLimits (s .words) (s .line)
+
+  abbrev scores : List Limit
+  scores = scoreLimits (s .model .labels) (s .words) (s .states) (s .transitions)
+
+  -- sizes that are tested part by part
+  pub scoring-sized : sizesTested (s .model .labels) (s .words) (anyBroken tables || anyBroken line || anyBroken scores) ≡ scoringSized s
+  unfolding scoringSized
+  scoring-sized = ap (sizesTested (s .model .labels) (s .words)) (broken-thirds tables line scores)
+
+  -- a refusal by size is the call's
+  pub scoring-stopped : (why : Refusal) → scoringSized s ≡ Refused why → Refused why ≡ scoringChecked s
+  unfolding scoringSized scoringChecked
+  scoring-stopped why h =
+      sym
+      (settled (sizesTested (s .model .labels) (s .words) (anyBroken (scoringLimits s)))
+      (checks (lineStarts (s .model) (s .words) (s .line .starts) (s .line .size)) ++ checks (idTests (s .model)) ++ checks (weightTests (s .model) (s .weights) ++ valueTests (s .line)))
+      why
+      h)
+
+  pub scoring-within : AllWithin (scoringLimits s) → ScoringFits s
+  scoring-within w =
+      let p = within-parts (tables ++ line) scores w in
+      let q = within-parts tables line (p .0) in
+      let t = within-parts (modelLimits (s .model)) (weightLimits (s .model) (s .weights)) (q .0) in
+      record {
+        model = sized (s .model) (t .0);
+        weights = t .1 .0;
+        line = line-sized (s .words) (s .line) (q .1);
+        states = p .1 .0;
+        transitions = p .1 .1 .0;
+      }
+
+  pub scoring-fits : (r : Checked) → r ≡ scoringSized s → r ≡ Accepted → ScoringFits s
+  unfolding scoringSized
+  scoring-fits r e h = scoring-within (within (s .model .labels) (s .words) (scoringLimits s) r e h)
+
+module _ (c : Counting) where
+  abbrev model : List Limit
+  model = modelLimits (c .model)
+
+  abbrev words : List Limit
+  words = lineLimits (c .words) (c .line)
+
+  pub counting-sized : sizesTested (c .model .labels) (c .words) (anyBroken model || anyBroken words || anyBroken (countLimits c)) ≡ countingSized c
+  unfolding countingSized
+  counting-sized = ap (sizesTested (c .model .labels) (c .words)) (broken-thirds model words (countLimits c))
+
+  pub counting-stopped : (why : Refusal) → countingSized c ≡ Refused why → Refused why ≡ countingChecked c
+  unfolding countingSized countingChecked
+  counting-stopped why h =
+      sym
+      (settled (sizesTested (c .model .labels) (c .words) (anyBroken (countingLimits c)))
+      (checks (lineStarts (c .model) (c .words) (c .line .starts) (c .line .size)) ++ checks (idTests (c .model) ++ labelTests c) ++ checks (valueTests (c .line)))
+      why
+      h)
+
+  pub counting-within : AllWithin (countingLimits c) → CountingFits c
+  counting-within w =
+      let p = within-parts (model ++ words) (countLimits c) w in
+      let q = within-parts model words (p .0) in
+      record {
+        model = sized (c .model) (q .0);
+        line = line-sized (c .words) (c .line) (q .1);
+        path = p .1 .0;
+        features = p .1 .1 .0;
+      }
+
+  pub counting-fits : (r : Checked) → r ≡ countingSized c → r ≡ Accepted → CountingFits c
+  unfolding countingSized
+  counting-fits r e h = counting-within (within (c .model .labels) (c .words) (countingLimits c) r e h)

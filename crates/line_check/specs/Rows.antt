@@ -1,0 +1,123 @@
+-- Document 01, "Numbered refusals", the rows of a call on a single line, and their order: 1, 4, 2, 3, 5, 6. Assumes nothing.
+use mathlib.Core.Bool.{Bool}
+use mathlib.Core.List.{List, [], _∷_, _++_}
+use Prim.Native.Nat.{ℕ, _+_, _*_}
+use lib.ListN.{length}
+use lib.Ieee.{Float}
+use Rattle.refusals.specs.declared.Checked.{Checked}
+use Rattle.refusals.specs.Refusals.{first, refuse}
+use Rattle.score_tables.specs.Rows.{one, four}
+use Rattle.refusal_rows.specs.Limits.{Limit, atMost, room, anyBroken, two}
+use Rattle.refusal_rows.specs.Tests.{Test, startsRise, idsBelow, numbersFinite, checks}
+use Rattle.lines.specs.Tables.{Model, Words}
+use Rattle.feature_gen.specs.Rows.{modelLimits, weightLimits, startTests, idTests, weightTests}
+
+-- what a call that scores a line is given: T, the line's attributes by words, and how long the buffers for the scores are
+pub record Scoring : Type 0 where
+  pub model : Model
+  pub weights : List Float
+  pub words : ℕ
+  pub line : Words
+  pub states : ℕ
+  pub transitions : ℕ
+
+-- what a call that counts features is given: a label for each word, and how long the buffer for the counts is; "Feature counts .. are lent no weight table"
+pub record Counting : Type 0 where
+  pub model : Model
+  pub words : ℕ
+  pub line : Words
+  pub path : List ℕ
+  pub features : ℕ
+
+-- "attributes in all: at most 4,194,304"
+abbrev pub mostAttributes : ℕ
+mostAttributes = 4194304
+
+-- ---- 2 | "a count other than L, T and epochs outside its bound, or a lent buffer too short" | 0
+
+-- the line: "for n lists, n+1 starts"
+abbrev pub lineLimits : ℕ → Words → List Limit
+lineLimits words line =
+    atMost mostAttributes (line .size)
+    ∷ room (length (line .starts)) (words + 1)
+    ∷ room (length (line .ids)) (line .size)
+    ∷ room (length (line .values)) (line .size)
+    ∷ []
+
+-- the buffers for the scores: T·L states, L·L transitions
+abbrev pub scoreLimits : ℕ → ℕ → ℕ → ℕ → List Limit
+scoreLimits labels words states transitions =
+    room states (words * labels)
+    ∷ room transitions (labels * labels)
+    ∷ []
+
+abbrev pub scoringLimits : Scoring → List Limit
+scoringLimits s =
+    modelLimits (s .model)
+    ++ weightLimits (s .model) (s .weights)
+    ++ lineLimits (s .words) (s .line)
+    ++ scoreLimits (s .model .labels) (s .words) (s .states) (s .transitions)
+
+-- the labels, and the buffer for the counts
+abbrev pub countLimits : Counting → List Limit
+countLimits c =
+    room (length (c .path)) (c .words)
+    ∷ room (c .features) (c .model .features .count)
+    ∷ []
+
+abbrev pub countingLimits : Counting → List Limit
+countingLimits c =
+    modelLimits (c .model)
+    ++ lineLimits (c .words) (c .line)
+    ++ countLimits c
+
+-- ---- 3 | "a rule of starts is broken" | "index of the first bad start": attribute lists, label lists, then the line's attributes
+
+abbrev pub lineStarts : Model → ℕ → List ℕ → ℕ → List Test
+lineStarts m words starts attributes = startTests m ++ startsRise starts words attributes ∷ []
+
+-- 3, then the rows of 5 that every call on a line has
+abbrev pub listTests : Model → ℕ → List ℕ → ℕ → List Test
+listTests m words starts attributes = lineStarts m words starts attributes ++ idTests m
+
+-- ---- 5 | "label at or above L" | "index in its table", after the model's own rows
+
+abbrev pub labelTests : Counting → List Test
+labelTests c = idsBelow (c .path) (c .words) (c .model .labels) ∷ []
+
+-- ---- 6 | "a weight, value .. not finite" | "index in its table"
+
+abbrev pub valueTests : Words → List Test
+valueTests line = numbersFinite (line .values) (line .size) ∷ []
+
+-- ---- the order: "a call that takes T as a number tests 4 right after 1"
+
+-- 1, 4 and 2: what can be said before any table is read
+abbrev pub sizesTested : ℕ → ℕ → Bool → Checked
+sizesTested labels words outside = first (one labels ∷ four words ∷ refuse 2 0 outside ∷ [])
+
+unfoldable pub scoringSized : Scoring → Checked
+scoringSized s = sizesTested (s .model .labels) (s .words) (anyBroken (scoringLimits s))
+
+unfoldable pub scoringChecked : Scoring → Checked
+scoringChecked s =
+    first
+    (one (s .model .labels)
+    ∷ four (s .words)
+    ∷ two (scoringLimits s)
+    ∷ checks (lineStarts (s .model) (s .words) (s .line .starts) (s .line .size))
+    ++ checks (idTests (s .model))
+    ++ checks (weightTests (s .model) (s .weights) ++ valueTests (s .line)))
+
+unfoldable pub countingSized : Counting → Checked
+countingSized c = sizesTested (c .model .labels) (c .words) (anyBroken (countingLimits c))
+
+unfoldable pub countingChecked : Counting → Checked
+countingChecked c =
+    first
+    (one (c .model .labels)
+    ∷ four (c .words)
+    ∷ two (countingLimits c)
+    ∷ checks (lineStarts (c .model) (c .words) (c .line .starts) (c .line .size))
+    ++ checks (idTests (c .model) ++ labelTests c)
+    ++ checks (valueTests (c .line)))

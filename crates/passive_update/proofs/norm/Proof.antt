@@ -1,0 +1,62 @@
+-- `passive_update::norm` meets its contract: the loop is a pass of `squared` from +0. Assumes nothing.
+use mathlib.Core.Path.{_≡_, refl, _∙_}
+use Prim.Native.Nat.{_≤_, _-_}
+use native.Mathlib.Omega.{arith}
+use borrow.Author.Needs.{needs}
+use lib.Ieee.{ofBits}
+use Rattle.lines.specs.Passes.{through, nought}
+use Rattle.training.specs.Rules.{squared}
+use Rattle.lines.proofs.Laws.{through-none, through-next, through-end}
+use Rattle.passive_update.proofs.norm.Statement.{statement}
+use Rattle.passive_update.proofs.norm.Tie as tie
+
+abbrev Inv-loop : tie.InvT-loop
+Inv-loop features truly predicted sum₀ i₀ sum i = (i ≤ features) × (sum ≡ through (squared truly predicted) 0 i nought)
+
+abbrev μ-loop : tie.MeasureT-loop
+μ-loop features truly predicted sum₀ i₀ sum i = features - i
+
+loop-holds : tie.Need-loop-holds Inv-loop μ-loop
+unfolding ofBits
+loop-holds c = (omega arith, through-none _ _ _)
+
+mul-delta : tie.Need-mul-delta Inv-loop μ-loop
+mul-delta c = search needs
+
+shared-slice-read-delta : tie.Need-shared-slice-read-delta Inv-loop μ-loop
+shared-slice-read-delta c = search needs
+
+mul-delta-2 : tie.Need-mul-delta-2 Inv-loop μ-loop
+mul-delta-2 c = search needs
+
+shared-slice-read-delta-2 : tie.Need-shared-slice-read-delta-2 Inv-loop μ-loop
+shared-slice-read-delta-2 c = search needs
+
+add-i : tie.Need-add-i Inv-loop μ-loop
+add-i c = search needs
+
+loop-less : tie.Need-loop-less Inv-loop μ-loop
+loop-less c = search needs
+
+loop-again : tie.Need-loop-again Inv-loop μ-loop
+unfolding squared
+loop-again c = (omega arith, through-next _ _ _ (c .before .before .before .loop .inv .1) refl)
+
+returns : tie.Need-returns Inv-loop μ-loop
+returns c = c .before .loop .inv .1 ∙ through-end _ _ _ _ (c .before .loop .inv .0) (c .loop-test .left)
+
+pub norm-spec : {M : Type 1} → statement M
+norm-spec =
+    tie.close
+    (tie.spec
+    Inv-loop
+    μ-loop
+    loop-holds
+    mul-delta
+    shared-slice-read-delta
+    mul-delta-2
+    shared-slice-read-delta-2
+    add-i
+    loop-less
+    loop-again
+    returns)

@@ -1,0 +1,132 @@
+// The passive-aggressive update: weights and, with averaging, running sums after a visit whose labels differ, and what it
+// adds to the epoch's loss.
+ghost use mathlib.Core.Bool.{cond};
+ghost use mathlib.Core.Path.{_≡_};
+ghost use Prim.Native.Nat.{ℕ, _≤_};
+ghost use lib.ListN.{length};
+ghost use lib.Ieee.{lt};
+ghost use Rattle.roots.specs.Root.{nearestRoot};
+ghost use Rattle.lines.specs.Passes.{through, nought};
+ghost use Rattle.training.specs.Data.{whole};
+ghost use Rattle.training.specs.Rules.{squared, stepOf, pulled, passive, _⊕_, _⊖_};
+ghost use Rattle.training_tables.specs.Tables.{Both, Held, Moved, Updated};
+use training_tables::Outcome;
+
+// The differences of counts, squared and added up. The instance's weight is not in them.
+pub fn norm(features: usize, truly: &[f64], predicted: &[f64]) -> f64
+    requires { ⌜ Both features (length (now truly)) (length (now predicted)) ⌝ }
+    ensures { λ r. ⌜ r ≡ through (squared (now (truly .entry)) (now (predicted .entry))) 0 features nought ⌝ }
+{
+    let mut sum = 0.0;
+    let mut i = 0usize;
+    while i < features {
+        let delta = truly[i] - predicted[i];
+        sum = sum + delta * delta;
+        i += 1;
+    }
+    sum
+}
+
+// How far the predicted path's score is above the true one's, and the root of the number of wrong labels or 1.
+pub fn cost_of(sensitive: bool, wrong: u32, reached: f64, wanted: f64) -> f64
+    requires { ⌜ wrong ≤ 128 ⌝ }
+    ensures { λ r. ⌜ r ≡ (reached ⊖ wanted) ⊕ cond sensitive (nearestRoot wrong) (whole 1) ⌝ }
+{
+    if sensitive {
+        reached - wanted + roots::root(wrong)
+    } else {
+        reached - wanted + 1.0
+    }
+}
+
+// The step by its variant: 0 Pa, 1 PaI, 2 PaII.
+pub fn step_of(variant: u32, c: f64, cost: f64, norm: f64) -> f64
+    ensures { λ r. ⌜ r ≡ stepOf variant c cost norm ⌝ }
+{
+    if variant == 0 {
+        return cost / norm;
+    }
+    if variant == 1 {
+        return binary64::min(c, cost / norm);
+    }
+    cost / (norm + 1.0 / (2.0 * c))
+}
+
+// No step where no feature tells the two paths apart.
+pub fn tau_of(variant: u32, c: f64, cost: f64, norm: f64) -> f64
+    ensures { λ r. ⌜ r ≡ cond (lt nought norm) (stepOf variant c cost norm) nought ⌝ }
+{
+    if 0.0 < norm {
+        step_of(variant, c, cost, norm)
+    } else {
+        0.0
+    }
+}
+
+// Each feature's difference of counts, times the step, goes to its weight and, with averaging, times the counter too, to its
+// running sum. The answer is whether both tables are finite then.
+pub fn pull(
+    features: usize,
+    averaging: bool,
+    tau: f64,
+    counter: f64,
+    truly: &[f64],
+    predicted: &[f64],
+    weights: &mut [f64],
+    sums: &mut [f64],
+) -> bool
+    requires { ⌜ Held features (length (now truly)) (length (now predicted)) (length (now weights)) (length (now sums)) ⌝ }
+    ensures { λ r. ⌜ Moved features (pulled (now (truly .entry)) (now (predicted .entry)) averaging tau counter) (record { weights = now (weights .entry); beside = now (sums .entry) }) (record { weights = now (weights .exit); beside = now (sums .exit) }) r ⌝ }
+{
+    let mut all = true;
+    let mut i = 0usize;
+    while i < features {
+        let delta = truly[i] - predicted[i];
+        let w = weights[i] + tau * delta;
+        weights[i] = w;
+        if averaging {
+            sums[i] = sums[i] + tau * counter * delta;
+        }
+        all = all & training_tables::are_finite(w, sums[i]);
+        i += 1;
+    }
+    all
+}
+
+// The whole update. It does not look at the number of words.
+pub fn update(
+    features: usize,
+    variant: u32,
+    c: f64,
+    sensitive: bool,
+    averaging: bool,
+    wrong: u32,
+    reached: f64,
+    wanted: f64,
+    weight: f64,
+    counter: f64,
+    truly: &[f64],
+    predicted: &[f64],
+    weights: &mut [f64],
+    sums: &mut [f64],
+) -> Outcome
+    requires { ⌜ (wrong ≤ 128) × Held features (length (now truly)) (length (now predicted)) (length (now weights)) (length (now sums)) ⌝ }
+    ensures { λ r. ⌜ ((words : ℕ) → Updated (passive variant c sensitive averaging) features (record { words = words; wrong = wrong; truly = now (truly .entry); predicted = now (predicted .entry); trueScore = wanted; predictedScore = reached; weight = weight; counter = counter }) (record { weights = now (weights .entry); beside = now (sums .entry) }) (record { weights = now (weights .exit); beside = now (sums .exit) }) r) ⌝ }
+{
+    let cost = cost_of(sensitive, wrong, reached, wanted);
+    let tau = tau_of(variant, c, cost, norm(features, truly, predicted));
+    let all = pull(
+        features,
+        averaging,
+        tau * weight,
+        counter,
+        truly,
+        predicted,
+        weights,
+        sums,
+    );
+    Outcome {
+        loss: cost * weight,
+        finite: all,
+    }
+}

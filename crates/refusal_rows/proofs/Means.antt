@@ -1,0 +1,130 @@
+-- Limits and tests refuse exactly what they say in plain terms. Assumes nothing.
+use mathlib.Core.Path.{_≡_, refl, sym, _∙_, ap}
+use mathlib.Core.Bool.{Bool, true, false, _||_}
+use mathlib.Core.List.{List, [], _∷_, _++_}
+use mathlib.Core.Logic.{_↔_, inl, inr}
+use Prim.Native.Nat.{ℕ, _<_, _≤_}
+use native.Mathlib.Omega.{arith}
+use borrow.Author.Tests.{ltb-false, le-ltb}
+use lib.Dec.{ltb}
+use Rattle.refusals.specs.declared.Checked.the-variants.{Accepted}
+use Rattle.refusals.specs.Tables.{outside}
+use Rattle.refusals.specs.Meaning.{Exactly, AllAccepted, FirstRefused, StartsMean, KindsMean, IdsMean, SourcesMean, NumbersMean}
+use Rattle.refusals.proofs.Laws.{neither, passes}
+use Rattle.refusals.proofs.Meant.{exactly, starts-mean, kinds-mean, ids-mean, sources-mean, numbers-mean}
+use Rattle.score_tables.specs.Sound.{WordsIn}
+use Rattle.score_tables.specs.Meaning.{Row}
+use Rattle.score_tables.proofs.Order.{row, Never, not-table, why}
+use Rattle.refusal_rows.specs.Limits.{Limit, atMost, between, room, broken, brokenFrom, anyBroken, two, Within, AllWithin}
+use Rattle.refusal_rows.specs.Tests.{Test, startsRise, linesFit, kindsKnown, idsBelow, sourcesBelow, numbersFinite, wordsIn, badLength, checked, checks, numberOf, places, Bad, Good, AllGood, FirstBadOf}
+
+-- ---- limits
+
+pub outside-means : (least most n : ℕ) → outside least most n ≡ false ↔ (least ≤ n) × (n ≤ most)
+outside-means least most n = (
+  λ h. let o = neither (ltb n least) (ltb most n) h in (ltb-false n least (o .0), ltb-false most n (o .1)),
+  λ w. rw (le-ltb n least (w .0), le-ltb most n (w .1)),
+)
+
+limit-means : (limit : Limit) → broken limit ≡ false ↔ Within limit
+limit-means (atMost most n) = (ltb-false most n, le-ltb most n)
+limit-means (between least most n) = outside-means least most n
+limit-means (room have need) = (ltb-false have need, le-ltb have need)
+
+-- the answer so far is no, and no limit is broken
+none-broken : (answer : Bool) (limits : List Limit) → brokenFrom answer limits ≡ false ↔ (answer ≡ false) × AllWithin limits
+none-broken answer [] = (λ h. (h, tt), λ p. p .0)
+none-broken answer (limit ∷ limits) =
+    let r = none-broken (answer || broken limit) limits in (
+      λ h.
+          let s = r .0 h in
+          let o = neither answer (broken limit) (s .0) in
+          (o .0, (limit-means limit .0 (o .1), s .1)),
+      λ p. r .1 (rw (p .0, limit-means limit .1 (p .1 .0)), p .1 .1),
+    )
+
+pub limits-mean : (limits : List Limit) → anyBroken limits ≡ false ↔ AllWithin limits
+limits-mean limits = let n = none-broken false limits in (λ h. n .0 h .1, λ a. n .1 (refl, a))
+
+-- 2 is given exactly when a limit is broken
+pub two-means : (limits : List Limit) → Row (two limits) 2 (AllWithin limits)
+two-means limits = row 2 _ (λ h. limits-mean limits .0 (passes 2 0 _ h)) (limits-mean limits .1)
+
+or-assoc : (a b c : Bool) → (a || b || c) ≡ (a || (b || c))
+or-assoc true b c = refl
+or-assoc false b c = refl
+
+broken-or : (answer : Bool) (limits : List Limit) → brokenFrom answer limits ≡ (answer || anyBroken limits)
+broken-or true [] = refl
+broken-or false [] = refl
+broken-or answer (limit ∷ limits) =
+    broken-or (answer || broken limit) limits ∙ or-assoc answer (broken limit) (anyBroken limits) ∙ rw (broken-or (broken limit) limits)
+
+broken-on : (answer : Bool) (these those : List Limit) → brokenFrom answer (these ++ those) ≡ brokenFrom (brokenFrom answer these) those
+broken-on answer [] those = refl
+broken-on answer (limit ∷ these) those = broken-on (answer || broken limit) these those
+
+-- limits in two parts
+pub broken-parts : (these those : List Limit) → anyBroken (these ++ those) ≡ (anyBroken these || anyBroken those)
+broken-parts these those = broken-on false these those ∙ broken-or (anyBroken these) those
+
+pub broken-thirds : (these those others : List Limit) → (anyBroken these || anyBroken those || anyBroken others) ≡ anyBroken (these ++ those ++ others)
+broken-thirds these those others =
+    sym (broken-parts (these ++ those) others ∙ ap (λ (t : Bool). t || anyBroken others) (broken-parts these those))
+
+pub within-parts : (these those : List Limit) → AllWithin (these ++ those) → AllWithin these × AllWithin those
+within-parts [] those a = (tt, a)
+within-parts (limit ∷ these) those a = let s = within-parts these those (a .1) in ((a .0, s .0), s .1)
+
+-- ---- tests
+
+lengths-mean : (table : List ℕ) (n : ℕ) → Exactly (checked (linesFit table n)) 4 n (Bad (linesFit table n))
+lengths-mean table n = exactly 4 (badLength table) n _ (λ i. (λ t w. clash (outside-means 1 128 (wordsIn table i) .1 (w .low, w .high)) t, λ b. unless (outside 1 128 (wordsIn table i)) (λ e. let o = outside-means 1 128 (wordsIn table i) .0 e in b (record { low = o .0; high = o .1 }))))
+  where
+    clash : {b : Bool} → b ≡ false → b ≡ true → ⊥
+    clash p q = let z : _≡_ {A = ℕ} 0 1 = cc in omega arith
+
+    unless : (b : Bool) → (b ≡ false → ⊥) → b ≡ true
+    unless true n = refl
+    unless false n = absurd (n refl)
+
+pub test-means : (test : Test) → Exactly (checked test) (numberOf test) (places test) (Bad test)
+test-means (startsRise table n entries) = starts-mean table n entries
+test-means (linesFit table n) = lengths-mean table n
+test-means (kindsKnown table n) = kinds-mean table n
+test-means (idsBelow table n bound) = ids-mean table n bound
+test-means (sourcesBelow kinds table n labels) = sources-mean kinds table n labels
+test-means (numbersFinite table n) = numbers-mean table n
+
+-- every test has this number
+abbrev pub Numbered : ℕ → List Test → Type 0
+Numbered k [] = Unit
+Numbered k (test ∷ tests) = (numberOf test ≡ k) × Numbered k tests
+
+pub all-mean : (tests : List Test) → AllAccepted (checks tests) ↔ AllGood tests
+all-mean [] = (λ a. a, λ g. g)
+all-mean (test ∷ tests) =
+    let m = test-means test .accepted in
+    let r = all-mean tests in
+    (λ a. (m .0 (a .0), r .0 (a .1)), λ g. (m .1 (g .0), r .1 (g .1)))
+
+pub first-means : (k place : ℕ) (tests : List Test) → Numbered k tests → FirstRefused (why k place) (checks tests) ↔ FirstBadOf tests place
+first-means k place tests e = (to tests e, from tests e)
+  where
+    to : (tests : List Test) → Numbered k tests → FirstRefused (why k place) (checks tests) → FirstBadOf tests place
+    to [] e h = h
+    to (test ∷ tests) e (inl h) = inl (test-means test .refused place .0 (rw (e .0) h))
+    to (test ∷ tests) e (inr p) = inr (test-means test .accepted .0 (p .0), to tests (e .1) (p .1))
+
+    from : (tests : List Test) → Numbered k tests → FirstBadOf tests place → FirstRefused (why k place) (checks tests)
+    from [] e h = h
+    from (test ∷ tests) e (inl b) = inl (rw (e .0) at (test-means test .refused place .1 b))
+    from (test ∷ tests) e (inr p) = inr (test-means test .accepted .1 (p .0), from tests (e .1) (p .1))
+
+pub never-means : (k j : ℕ) (tests : List Test) → Numbered k tests → (k ≡ j → ⊥) → Never j (checks tests)
+never-means k j [] e d = tt
+never-means k j (test ∷ tests) e d = (not-table (test-means test) (rw (e .0) d), never-means k j tests (e .1) d)
+
+pub good-parts : (these those : List Test) → AllGood (these ++ those) → AllGood these × AllGood those
+good-parts [] those a = (tt, a)
+good-parts (test ∷ these) those a = let s = good-parts these those (a .1) in ((a .0, s .0), s .1)

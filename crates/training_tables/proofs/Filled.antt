@@ -1,0 +1,41 @@
+-- A loop that gives the front of a table the entries of a list, one after the other. Assumes nothing.
+use mathlib.Core.Path.{_≡_, refl, sym, ap, _∙_}
+use mathlib.Core.List.{List, _++_}
+use Prim.Native.Nat.{ℕ, zero, suc, _+_, _≤_, _<_}
+use native.Mathlib.Numerals.{add-one}
+use native.Mathlib.Nat.{le-antisymm, zero-add}
+use native.Mathlib.Omega.{arith}
+use lib.ListN.{length, getD, set, take, drop}
+use lib.Seq.{paste-zero, paste-suc, take-length}
+use Rattle.training.specs.Epochs.{countedFrom}
+
+-- the first i of the list, before the rest of the table
+unfoldable pub filled : {A : Type 0} → List A → List A → ℕ → List A
+filled table list i = take i list ++ drop i table
+
+module _ {A : Type 0} (table list : List A) where
+  pub filled-none : table ≡ filled table list 0
+  unfolding filled
+  filled-none = paste-zero table 0 list
+
+  -- a turn that stores at i what the list has there
+  pub filled-next : (i : ℕ) {t : List A} (d x : A) → i < length table → i < length list → t ≡ filled table list i → x ≡ getD list i d → set t i x ≡ filled table list (i + 1)
+  unfolding filled
+  filled-next i d x h k e p =
+      let h' : 0 + i < length table = omega arith in
+      rw (e, p, add-one) (simp zero-add at (paste-suc table 0 list i d h' k))
+
+  pub filled-end : (i n : ℕ) → length list ≡ n → i ≤ n → n ≤ i → filled table list i ≡ list ++ drop n table
+  unfolding filled
+  filled-end i n e p q = rw (le-antisymm p q, sym e, take-length)
+
+pub length-counted : (k n : ℕ) → length (countedFrom k n) ≡ n
+unfolding countedFrom
+length-counted k zero = refl
+length-counted k (suc n) = ap suc (length-counted (suc k) n)
+
+pub getD-counted : (k n i : ℕ) → i < n → getD (countedFrom k n) i 0 ≡ k + i
+unfolding countedFrom
+getD-counted k zero i h = omega arith
+getD-counted k (suc n) zero h = omega arith
+getD-counted k (suc n) (suc i) h = getD-counted (suc k) n i (omega arith) ∙ omega arith

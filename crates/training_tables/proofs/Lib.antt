@@ -1,0 +1,5 @@
+pub mod Finite
+pub mod Moves
+pub mod Filled
+pub mod Fronts
+mod Itself

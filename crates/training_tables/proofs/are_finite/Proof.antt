@@ -1,0 +1,10 @@
+-- `training_tables::are_finite` meets its contract. Assumes nothing.
+use Rattle.training_tables.proofs.Itself.{two-finite}
+use Rattle.training_tables.proofs.are_finite.Statement.{statement}
+use Rattle.training_tables.proofs.are_finite.Tie as tie
+
+returns : tie.Need-returns
+returns c = two-finite (c .args .x) (c .args .y)
+
+pub are-finite-spec : {M : Type 1} → statement M
+are-finite-spec = tie.close (tie.spec returns)
