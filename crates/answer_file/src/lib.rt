@@ -24,11 +24,15 @@ fn read_bytes(fd: i32, bytes: &mut [u8]) -> usize
     done
 }
 
-// The buffer has one byte more than the longest sheet, 8 + 8·(32·32 + 128·32) bytes, by which a longer file is known.
-pub fn answer_file(fd: i32) {
+// The buffer has one byte more than the longest sheet, 8 + 8·(32·32 + 128·32) bytes, by which a longer file is known. The
+// answer is how many bytes the line speaks of.
+pub fn answer_file(fd: i32) -> usize
+    ensures { λ r. ⌜ r ≤ 40969 ⌝ }
+{
     let mut bytes = [0u8; 40969];
     let n = read_bytes(fd, &mut bytes);
     let mut line = [0u8; 406];
     let size = decode_sheet::print_sheet(&bytes[..n], &mut line);
     io::write_all(STDOUT_FILENO, &line[..size]);
+    n
 }

@@ -1,0 +1,107 @@
+-- `scoring::compute_scores` keeps its promise. Assumes nothing.
+use mathlib.Core.Path.{_≡_, refl, sym, _∙_, ap}
+use borrow.Author.Needs.{needs}
+use Rattle.refusals.specs.declared.Checked.the-variants.{Accepted}
+use Rattle.feature_gen.specs.Lent.{modelOf}
+use Rattle.line_check.proofs.Meant.{scoring-sound}
+use Rattle.finished.specs.Said.{saidOf}
+use Rattle.scoring.specs.Promise.{Given, Buffers, scoringOf, checkedOf}
+use Rattle.scoring.proofs.Kept.{sized, refused-kept, made-kept}
+use Rattle.scoring.proofs.compute_scores.Statement.{statement}
+use Rattle.scoring.proofs.compute_scores.Tie as tie
+
+-- what the call is given, what it is lent, and that it is accepted
+abbrev given : tie.Start → Given
+given s =
+    let a = s .args in
+    record {
+      model = modelOf (a .labels) (a .counts) (a .kinds .now) (a .destinations .now) (a .sources .now) (a .attribute-starts .now) (a .attribute-entries .now) (a .label-starts .now) (a .label-entries .now);
+      weights = a .weights .now;
+      words = a .words;
+      line = record { starts = a .begins .now; size = a .attributes; ids = a .ids .now; values = a .values .now };
+    }
+
+abbrev lent : tie.Start → Buffers
+lent s = record { states = s .args .states .now; transitions = s .args .transitions .now }
+
+abbrev start : tie.After-enum-told → tie.Start
+start c = c .before .before .before .before .before .before .before .before .before .before .before .before .before .before .before .before
+
+accepted : (c : tie.After-enum-told) → checkedOf (given (start c)) (lent (start c)) ≡ Accepted
+accepted c = sym (c .before .before .check-scoring .ensures) ∙ c .enum-told .given .1
+
+check-scoring-requires : tie.Need-check-scoring-requires
+check-scoring-requires c κs = search needs
+
+enum-known-checked : tie.Need-enum-known-checked
+enum-known-checked c = search needs
+
+returns : tie.Need-returns
+returns c = refused-kept _ _ _ (sym (c .before .before .before .check-scoring .ensures) ∙ c .before .checked .given .1)
+
+enum-told : tie.Need-enum-told
+enum-told c = search needs
+
+fill-scores-requires : tie.Need-fill-scores-requires
+fill-scores-requires c κs = let t = c .before .before in scoring-sound (scoringOf (given (start t)) (lent (start t))) (accepted t)
+
+finish-scores-requires : tie.Need-finish-scores-requires
+finish-scores-requires c κs =
+    let f = c .before .before .before .before .before .before in
+    let t = f .before .before .before in
+    sized (given (start t)) (lent (start t)) (scoring-sound (scoringOf (given (start t)) (lent (start t))) (accepted t)) _ _
+    (f .fill-scores .kept .1 .1 .1 .1 .1 .1 .1 .1 .1 .1 .1 .1 .1 .1 .1 .0)
+    (f .fill-scores .kept .1 .1 .1 .1 .1 .1 .1 .1 .1 .1 .1 .1 .1 .1 .1 .1 .0)
+
+enum-known-finished : tie.Need-enum-known-finished
+enum-known-finished c = search needs
+
+same-length : tie.Need-same-length
+same-length c = search needs
+
+same-length-2 : tie.Need-same-length-2
+same-length-2 c = search needs
+
+returns-2 : tie.Need-returns-2
+returns-2 c =
+    let e = c .before .before .before .before .before .before .before in
+    let f = e .before .before .before .before .before .before .before in
+    let t = f .before .before .before in
+    made-kept (given (start t)) (lent (start t)) (accepted t) _ (f .fill-scores .ensures .0) (f .fill-scores .ensures .1) (e .finish-scores .ensures .0) (e .finish-scores .ensures .1 .0) (e .finish-scores .ensures .1 .1)
+    (ap saidOf (sym (c .before .finished .given .1)))
+
+enum-told-2 : tie.Need-enum-told-2
+enum-told-2 c = search needs
+
+same-length-3 : tie.Need-same-length-3
+same-length-3 c = search needs
+
+same-length-4 : tie.Need-same-length-4
+same-length-4 c = search needs
+
+returns-3 : tie.Need-returns-3
+returns-3 c =
+    let e = c .before .before .before .before .before .before in
+    let f = e .before .before .before .before .before .before .before in
+    let t = f .before .before .before in
+    made-kept (given (start t)) (lent (start t)) (accepted t) _ (f .fill-scores .ensures .0) (f .fill-scores .ensures .1) (e .finish-scores .ensures .0) (e .finish-scores .ensures .1 .0) (e .finish-scores .ensures .1 .1)
+    (ap saidOf (sym (c .enum-told2 .given .1)))
+
+pub compute-scores-spec : {M : Type 1} → statement M
+compute-scores-spec =
+    tie.close
+    (tie.spec
+    check-scoring-requires
+    enum-known-checked
+    returns
+    enum-told
+    fill-scores-requires
+    finish-scores-requires
+    enum-known-finished
+    same-length
+    same-length-2
+    returns-2
+    enum-told-2
+    same-length-3
+    same-length-4
+    returns-3)

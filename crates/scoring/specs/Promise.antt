@@ -1,0 +1,92 @@
+-- What scoring a line promises: document 01's answer to what the call is given, and what the lent buffers hold afterwards. Assumes nothing.
+use mathlib.Core.Path.{_≡_}
+use mathlib.Core.List.{List}
+use Prim.Native.Nat.{ℕ, _*_}
+use lib.ListN.{length}
+use lib.Ieee.{Float}
+use Rattle.refusals.specs.declared.Checked.{Checked}
+use Rattle.refusals.specs.Refusals.{orNext}
+use Rattle.lines.specs.Passes.{nought}
+use Rattle.lines.specs.Tables.{Model, Words}
+use Rattle.lines.specs.Scored.{statesOf, transitionsOf}
+use Rattle.line_check.specs.Rows.{Scoring, scoringChecked}
+use Rattle.finished.specs.Rows.{scoresFinished}
+use Rattle.finished.specs.After.{contents}
+use Rattle.finished.specs.Said.{Said, done, refused, saidOf}
+use Rattle.scoring.specs.declared.LineScores.{LineScores}
+
+-- what the call is given: a model with its weights, T, and the line's attributes by words
+pub record Given : Type 0 where
+  pub model : Model
+  pub weights : List Float
+  pub words : ℕ
+  pub line : Words
+
+-- the buffers that it is lent
+pub record Buffers : Type 0 where
+  pub states : List Float
+  pub transitions : List Float
+
+-- the answer, and what the buffers hold afterwards
+pub record Outcome : Type 0 where
+  pub answer : LineScores
+  pub states : List Float
+  pub transitions : List Float
+
+-- how many entries are needed: T·L states, L·L transitions
+abbrev pub stateEntries : Given → ℕ
+stateEntries given = given .words * given .model .labels
+
+abbrev pub transitionEntries : Given → ℕ
+transitionEntries given = given .model .labels * given .model .labels
+
+-- the line's scores
+abbrev pub statesOfLine : Given → List Float
+statesOfLine given = statesOf (given .model) (given .weights) (given .line) 0 (given .words)
+
+abbrev pub transitionsOfLine : Given → List Float
+transitionsOfLine given = transitionsOf (given .model) (given .weights)
+
+-- 1, 4, 2, 3, 5, 6
+abbrev pub scoringOf : Given → Buffers → Scoring
+scoringOf given before = record {
+  model = given .model;
+  weights = given .weights;
+  words = given .words;
+  line = given .line;
+  states = length (before .states);
+  transitions = length (before .transitions);
+}
+
+abbrev pub checkedOf : Given → Buffers → Checked
+checkedOf given before = scoringChecked (scoringOf given before)
+
+-- 8
+abbrev pub finishedOf : Given → Checked
+finishedOf given = scoresFinished (given .model .labels) (given .words) (statesOfLine given) (transitionsOfLine given)
+
+-- document 01's number and place for each case of the answer
+abbrev pub said : LineScores → Said
+said LineScores.Scored = done
+said (LineScores.Refused why) = refused (why .number) (why .place)
+
+-- what document 01 says: "The lowest number wins", so 8 comes last
+unfoldable pub answerTo : Given → Buffers → Said
+answerTo given before = saidOf (orNext (checkedOf given before) (finishedOf given))
+
+unfoldable pub statesAfter : Given → Buffers → List Float
+statesAfter given before = contents (checkedOf given before) (finishedOf given) nought (stateEntries given) (before .states) (statesOfLine given)
+
+unfoldable pub transitionsAfter : Given → Buffers → List Float
+transitionsAfter given before =
+    contents (checkedOf given before) (finishedOf given) nought (transitionEntries given) (before .transitions) (transitionsOfLine given)
+
+-- the promise
+pub record Promised (given : Given) (before : Buffers) (outcome : Outcome) : Type 0 where
+  pub answers : said (outcome .answer) ≡ answerTo given before
+  pub states : outcome .states ≡ statesAfter given before
+  pub transitions : outcome .transitions ≡ transitionsAfter given before
+
+-- no two different outcomes satisfy one promise; proved in proofs/Unique
+abbrev pub OnlyOne : Type 0
+OnlyOne = (given : Given) (before : Buffers) (a b : Outcome) → Promised given before a → Promised given before b → a ≡ b
