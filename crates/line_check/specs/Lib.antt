@@ -1,3 +1,4 @@
 pub mod Rows
 pub mod Sound
 pub mod Meaning
+pub mod Examples

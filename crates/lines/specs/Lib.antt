@@ -5,3 +5,4 @@ pub mod Counted
 pub mod Sound
 pub mod Spans
 pub mod Lent
+pub mod Examples

@@ -1,7 +1,7 @@
 -- A call's rows in groups of one number each: the number is given exactly when the groups before are fine, and at the places that its own group says. Assumes nothing.
 use mathlib.Core.Path.{_≡_, refl, sym, _∙_, ap}
 use mathlib.Core.Bool.{Bool, true, false, not, _&&_}
-use mathlib.Core.List.{List, [], _∷_, _++_, append-assoc}
+use mathlib.Core.List.{List, [], _∷_, _++_, append-nil, append-assoc}
 use mathlib.Core.Logic.{_↔_, _⊎_, inl, inr, ⊎-elim}
 use Prim.Native.Nat.{ℕ}
 use native.Mathlib.Omega.{arith}
@@ -63,7 +63,12 @@ tested number tests e = record {
 -- all rows of several groups, in order
 abbrev pub rowsOf : List Group → List Checked
 rowsOf [] = []
-rowsOf (group ∷ groups) = group .rows ++ rowsOf groups
+rowsOf (group ∷ []) = group .rows
+rowsOf (group ∷ next ∷ groups) = group .rows ++ rowsOf (next ∷ groups)
+
+rows-cons : (group : Group) (groups : List Group) → rowsOf (group ∷ groups) ≡ group .rows ++ rowsOf groups
+rows-cons group [] = sym (append-nil (group .rows))
+rows-cons group (next ∷ groups) = refl
 
 abbrev pub AllFine : List Group → Type 0
 AllFine [] = Unit
@@ -72,9 +77,7 @@ AllFine (group ∷ next ∷ groups) = group .Fine × AllFine (next ∷ groups)
 
 pub all-fine : (groups : List Group) → AllAccepted (rowsOf groups) ↔ AllFine groups
 all-fine [] = (λ a. a, λ f. f)
-all-fine (group ∷ []) =
-    let p = parted (group .rows) [] in
-    (λ a. group .fine .0 (p .0 a .0), λ f. p .1 (group .fine .1 f, tt))
+all-fine (group ∷ []) = group .fine
 all-fine (group ∷ next ∷ groups) =
     let p = parted (group .rows) (rowsOf (next ∷ groups)) in
     let r = all-fine (next ∷ groups) in
@@ -104,21 +107,28 @@ never-of : (k : ℕ) (groups : List Group) → T (without k groups) → Never k 
 never-of k [] t = tt
 never-of k (group ∷ groups) t =
     let s = both (not (eqb (group .number) k)) (without k groups) t in
-    no-rows (group .rows) (rowsOf groups) k (group .other k (differ (group .number) k (s .0))) (never-of k groups (s .1))
+    rw (rows-cons group groups)
+    (no-rows (group .rows) (rowsOf groups) k (group .other k (differ (group .number) k (s .0))) (never-of k groups (s .1)))
 
 rows-append : (xs ys : List Group) → rowsOf (xs ++ ys) ≡ rowsOf xs ++ rowsOf ys
 rows-append [] ys = refl
-rows-append (group ∷ xs) ys = ap (λ (rows : List Checked). group .rows ++ rows) (rows-append xs ys) ∙ sym (append-assoc (group .rows) (rowsOf xs) (rowsOf ys))
+rows-append (group ∷ xs) ys =
+    rows-cons group (xs ++ ys)
+    ∙ ap (λ (rows : List Checked). group .rows ++ rows) (rows-append xs ys)
+    ∙ sym (append-assoc (group .rows) (rowsOf xs) (rowsOf ys))
+    ∙ ap (λ (rows : List Checked). rows ++ rowsOf ys) (sym (rows-cons group xs))
 
 module _ (place : ℕ) where
   pub given-first : (mine : Group) (after : List Group) → T (without (mine .number) after) →
       first (rowsOf (mine ∷ after)) ≡ refusedAt (mine .number) place ↔ mine .At place
-  given-first mine after ta = foremost (mine .number) place (mine .rows) (rowsOf after) (never-of (mine .number) after ta) (mine .at place)
+  given-first mine after ta =
+      rw (rows-cons mine after)
+      (foremost (mine .number) place (mine .rows) (rowsOf after) (never-of (mine .number) after ta) (mine .at place))
 
   pub given-after : (before : List Group) (mine : Group) (after : List Group) → T (without (mine .number) before) → T (without (mine .number) after) →
       first (rowsOf (before ++ mine ∷ after)) ≡ refusedAt (mine .number) place ↔ AllFine before × mine .At place
   given-after before mine after tb ta =
-      rw (rows-append before (mine ∷ after))
+      rw (rows-append before (mine ∷ after), rows-cons mine after)
       (given (mine .number) place (rowsOf before) (mine .rows) (rowsOf after)
       (never-of (mine .number) before tb) (never-of (mine .number) after ta)
       (all-fine before) (mine .at place))
@@ -152,7 +162,7 @@ module _ (refusal : Refusal) where
 
   whose : (groups : List Group) → FirstRefused refusal (rowsOf groups) → OneOf (numbersOf groups) (refusal .number)
   whose [] r = r
-  whose (group ∷ groups) r = ⊎-elim (λ m. inl (own group m)) (λ m. inr (whose groups m)) (parts (group .rows) (rowsOf groups) r)
+  whose (group ∷ groups) r = ⊎-elim (λ m. inl (own group m)) (λ m. inr (whose groups m)) (parts (group .rows) (rowsOf groups) (rw (rows-cons group groups) at r))
 
   pub given-only : (groups : List Group) → first (rowsOf groups) ≡ Refused refusal → OneOf (numbersOf groups) (refusal .number)
   given-only groups h = whose groups (first-refused refusal (rowsOf groups) h)

@@ -12,6 +12,7 @@ use Rattle.refusals.specs.Tables.{outside}
 use Rattle.refusals.specs.Meaning.{Exactly, AllAccepted, FirstRefused, StartsMean, KindsMean, IdsMean, SourcesMean, NumbersMean}
 use Rattle.refusals.proofs.Laws.{neither, passes}
 use Rattle.refusals.proofs.Meant.{exactly, starts-mean, kinds-mean, ids-mean, sources-mean, numbers-mean}
+use Rattle.score_tables.specs.Rows.{mostWords}
 use Rattle.score_tables.specs.Sound.{WordsIn}
 use Rattle.score_tables.specs.Meaning.{Row}
 use Rattle.score_tables.proofs.Order.{row, Never, not-table, why}
@@ -78,15 +79,28 @@ within-parts (limit ∷ these) those a = let s = within-parts these those (a .1)
 
 -- ---- tests
 
-lengths-mean : (table : List ℕ) (n : ℕ) → Exactly (checked (linesFit table n)) 4 n (Bad (linesFit table n))
-lengths-mean table n = exactly 4 (badLength table) n _ (λ i. (λ t w. clash (outside-means 1 128 (wordsIn table i) .1 (w .low, w .high)) t, λ b. unless (outside 1 128 (wordsIn table i)) (λ e. let o = outside-means 1 128 (wordsIn table i) .0 e in b (record { low = o .0; high = o .1 }))))
-  where
-    clash : {b : Bool} → b ≡ false → b ≡ true → ⊥
-    clash p q = let z : _≡_ {A = ℕ} 0 1 = cc in omega arith
+-- a test that fails exactly where something holds, holds exactly where it does not
+otherwise : {Fine : Type 0} (b : Bool) → b ≡ false ↔ Fine → b ≡ true ↔ (Fine → ⊥)
+otherwise true m = (λ e f. let z : _≡_ {A = ℕ} 0 1 = cc (m .1 f) in omega arith, λ n. refl)
+otherwise false m = (λ e f. let z : _≡_ {A = ℕ} 0 1 = cc in omega arith, λ n. absurd (n (m .0 refl)))
 
-    unless : (b : Bool) → (b ≡ false → ⊥) → b ≡ true
-    unless true n = refl
-    unless false n = absurd (n refl)
+words-mean : (n : ℕ) → outside 1 mostWords n ≡ false ↔ WordsIn n
+words-mean n = let m = outside-means 1 mostWords n in (λ h. record { low = m .0 h .0; high = m .0 h .1 }, λ w. m .1 (w .low, w .high))
+
+lengths-mean : (table : List ℕ) (n : ℕ) → Exactly (checked (linesFit table n)) 4 n (Bad (linesFit table n))
+lengths-mean table n =
+    exactly 4 (badLength table) n (Bad (linesFit table n))
+    (λ i. otherwise (outside 1 mostWords (wordsIn table i)) (words-mean (wordsIn table i)))
+
+le-unless : {a b : ℕ} → (b < a → ⊥) → a ≤ b
+le-unless h = omega arith
+
+-- instances that all fit
+pub fitting : (table : List ℕ) (n : ℕ) → Good (linesFit table n) → (i : ℕ) → i < n → WordsIn (wordsIn table i)
+fitting table n g i l = record {
+  low = le-unless (λ b. g i l (λ w. omega (arith, w .low)));
+  high = le-unless (λ b. g i l (λ w. omega (arith, w .high)));
+}
 
 pub test-means : (test : Test) → Exactly (checked test) (numberOf test) (places test) (Bad test)
 test-means (startsRise table n entries) = starts-mean table n entries

@@ -1,8 +1,7 @@
 -- What an accepted line gives its scores' tables, and how the call keeps its promise. Assumes nothing.
-use mathlib.Core.Path.{_≡_, refl, sym, _∙_}
+use mathlib.Core.Path.{_≡_, _∙_}
 use mathlib.Core.List.{List, _++_}
-use Prim.Native.Nat.{ℕ, _+_, _*_}
-use native.Mathlib.Nat.{zero-add, mul-le-mul}
+use native.Mathlib.Nat.{mul-le-mul}
 use lib.ListN.{length, drop}
 use lib.Ieee.{Float}
 use Rattle.refusals.specs.declared.Refusal.{Refusal}
@@ -10,20 +9,14 @@ use Rattle.refusals.specs.declared.Checked.{Checked}
 use Rattle.refusals.specs.declared.Checked.the-variants.{Accepted, Refused}
 use Rattle.refusals.specs.Refusals.{orNext}
 use Rattle.score_tables.specs.Sound.{Sized}
-use Rattle.lines.specs.Sound.{SoundWords}
 use Rattle.lines.proofs.Fronts.{length-states, length-transitions}
 use Rattle.line_check.specs.Sound.{SoundScoring}
-use Rattle.line_check.proofs.Meant.{scoring-sound}
 use Rattle.finished.specs.Rows.{scoresFinished}
 use Rattle.finished.specs.After.{clearedWhere}
 use Rattle.finished.specs.Said.{saidOf}
 use Rattle.finished.proofs.Laws.{scores-front, contents-kept}
 use Rattle.scoring.specs.declared.LineScores.{LineScores}
 use Rattle.scoring.specs.Promise.{Given, Buffers, stateEntries, transitionEntries, statesOfLine, transitionsOfLine, scoringOf, checkedOf, finishedOf, said, answerTo, statesAfter, transitionsAfter, Promised}
-
--- the line begins at the first word
-pub from-first : (words : ℕ) (starts ids : List ℕ) (values : List Float) → SoundWords words starts ids values → SoundWords (0 + words) starts ids values
-from-first words starts ids values s = rw (zero-add words) s
 
 -- tables that are as long as an accepted call's buffers have room
 pub sized : (given : Given) (before : Buffers) → SoundScoring (scoringOf given before) → (states transitions : List Float) → length states ≡ length (before .states) → length transitions ≡ length (before .transitions) → Sized (given .model .labels) (given .words) transitions states
@@ -66,6 +59,6 @@ module _ (given : Given) (before : Buffers) (accepted : checkedOf given before �
       let e : r ≡ finishedOf given = f ∙ finished-is given before p q in
       record {
         answers = rw (accepted, ← e) a;
-        states = rw (accepted, ← e) (contents-kept r (stateEntries given) (before .states) (statesOfLine given) (length-states (given .model) (given .weights) (given .line) 0 (given .words)) p s);
-        transitions = rw (accepted, ← e) (contents-kept r (transitionEntries given) (before .transitions) (transitionsOfLine given) (length-transitions (given .model) (given .weights)) q t);
+        states = rw (accepted, ← e, contents-kept r (stateEntries given) (before .states) (statesOfLine given) (length-states (given .model) (given .weights) (given .line) 0 (given .words)) p s);
+        transitions = rw (accepted, ← e, contents-kept r (transitionEntries given) (before .transitions) (transitionsOfLine given) (length-transitions (given .model) (given .weights)) q t);
       }

@@ -1,6 +1,4 @@
 -- What scoring a line answers means what `Meaning` says. Assumes nothing.
-use mathlib.Core.Path.{_≡_}
-use Prim.Native.Nat.{ℕ}
 use Rattle.refusals.specs.declared.Checked.{Checked}
 use Rattle.refusals.specs.Refusals.{orNext}
 use Rattle.line_check.proofs.Meant.{scoring-means}

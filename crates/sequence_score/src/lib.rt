@@ -33,7 +33,13 @@ fn entry(table: &[f64], width: usize, row: usize, column: usize) -> f64
 }
 
 // The score of the first `count` words of a path, each state before the transition that leads to it.
-fn score_path(labels: usize, transitions: &[f64], states: &[f64], path: &[u32], count: usize) -> f64
+pub fn score_path(
+    labels: usize,
+    transitions: &[f64],
+    states: &[f64],
+    path: &[u32],
+    count: usize,
+) -> f64
     requires { ⌜ Met labels (now transitions) (now states) (now path) count ⌝ }
     ensures { λ r. ⌜ r ≡ pathScore (tabled labels (now (transitions .entry)) (now (states .entry))) (now (path .entry)) count ⌝ }
 {

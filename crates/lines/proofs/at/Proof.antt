@@ -1,9 +1,8 @@
+-- `lines::at` meets its contract: a number of 32 bits fits an index. Assumes nothing.
 use native.Mathlib.Omega.{arith}
 use borrow.Author.Needs.{needs}
 use Rattle.lines.proofs.at.Statement.{statement}
 use Rattle.lines.proofs.at.Tie as tie
-use Rattle.lines.proofs.at.Reads as reads
-use Rattle.lines.proofs.at.Lts as lts
 
 mul-result : tie.Need-mul-result
 mul-result c = search needs

@@ -1,10 +1,8 @@
-use Rattle.lines.specs.Spans.{attributeBefore}
+-- `lines::attribute_before` meets its contract. Assumes nothing.
 use borrow.Author.Needs.{needs}
+use Rattle.lines.specs.Spans.{attributeBefore}
 use Rattle.lines.proofs.attribute_before.Statement.{statement}
 use Rattle.lines.proofs.attribute_before.Tie as tie
-use Rattle.lines.proofs.attribute_before.Reads as reads
-use Rattle.lines.proofs.attribute_before.Lts as lts
-use Rattle.lines.proofs.smaller.Reads as smaller-reads
 
 sub-smaller : tie.Need-sub-smaller
 sub-smaller c = search needs

@@ -1,17 +1,15 @@
-use Rattle.lines.proofs.Literals.{literal-nought}
-use mathlib.Core.Path.{_≡_, sym, ap, _∙_}
-use mathlib.Core.List.{_++_}
+-- `lines::clear_front` meets its contract. The loop's invariant: so many are +0, and the rest is as it was. Assumes nothing.
 use Prim.Native.Nat.{_≤_, _<_, _-_}
+use mathlib.Core.Path.{_≡_}
+use mathlib.Core.List.{_++_}
 use native.Mathlib.Omega.{arith}
-use native.Mathlib.Nat.{le-antisymm}
 use borrow.Author.Needs.{needs}
 use lib.ListN.{length, drop, replicate}
+use Rattle.lines.proofs.Literals.{literal-nought}
 use Rattle.lines.specs.Passes.{nought}
-use Rattle.lines.proofs.Laws.{fill-none, fill-more}
+use Rattle.lines.proofs.Laws.{fill-more}
 use Rattle.lines.proofs.clear_front.Statement.{statement}
 use Rattle.lines.proofs.clear_front.Tie as tie
-use Rattle.lines.proofs.clear_front.Reads as reads
-use Rattle.lines.proofs.clear_front.Lts as lts
 
 abbrev Inv-loop : tie.InvT-loop
 Inv-loop buffer₀ n i₀ buffer i = (i ≤ n) × (length buffer ≡ length buffer₀) × (buffer ≡ replicate i nought ++ drop i buffer₀)

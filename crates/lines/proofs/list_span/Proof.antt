@@ -1,11 +1,9 @@
+-- `lines::list_span` meets its contract. Assumes nothing.
 use borrow.Author.Tests.{lt-ltb, le-ltb}
-use Rattle.lines.specs.Spans.{spanOf}
 use borrow.Author.Needs.{needs}
+use Rattle.lines.specs.Spans.{spanOf}
 use Rattle.lines.proofs.list_span.Statement.{statement}
 use Rattle.lines.proofs.list_span.Tie as tie
-use Rattle.lines.proofs.list_span.Reads as reads
-use Rattle.lines.proofs.list_span.Lts as lts
-use Rattle.lines.proofs.at.Reads as at-reads
 
 at-requires : tie.Need-at-requires
 at-requires c κs = search needs

@@ -1,5 +1,5 @@
 -- `scoring::compute_scores` keeps its promise. Assumes nothing.
-use mathlib.Core.Path.{_≡_, refl, sym, _∙_, ap}
+use mathlib.Core.Path.{_≡_, sym, _∙_, ap}
 use borrow.Author.Needs.{needs}
 use Rattle.refusals.specs.declared.Checked.the-variants.{Accepted}
 use Rattle.feature_gen.specs.Lent.{modelOf}

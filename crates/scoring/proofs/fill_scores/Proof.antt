@@ -2,7 +2,7 @@
 use borrow.Author.Needs.{needs}
 use Rattle.lines.specs.Tables.{Model}
 use Rattle.feature_gen.specs.Lent.{modelOf}
-use Rattle.scoring.proofs.Kept.{from-first}
+use Rattle.finished.proofs.Laws.{from-first}
 use Rattle.scoring.proofs.fill_scores.Statement.{statement}
 use Rattle.scoring.proofs.fill_scores.Tie as tie
 

@@ -1,0 +1,85 @@
+-- Loops over visits and over epochs, whose turns agree with the definition's up to the tables of a refused visit. Assumes nothing.
+use mathlib.Core.Path.{_≡_, refl, sym, ap, _∙_, subst}
+use mathlib.Core.Bool.{Bool, true, false, _||_, true≢false}
+use mathlib.Core.List.{List}
+use Prim.Native.Nat.{ℕ, _+_, _≤_, _<_}
+use native.Mathlib.Omega.{arith}
+use lib.ListN.{getD}
+use lib.Ieee.{Float}
+use Rattle.shuffle.specs.Shuffle.{Deal, shuffled}
+use Rattle.lines.specs.Passes.{through}
+use Rattle.lines.proofs.Laws.{through-end}
+use Rattle.training.specs.declared.Step.{Step}
+use Rattle.training.specs.Rules.{Learned}
+use Rattle.training.specs.Visits.{State}
+use Rattle.training.specs.Epochs.{Run, isRefused, opened, visitedAt, epochOver, endsAfter, epoch, epochUnlessOver}
+use Rattle.training.proofs.Epochs.{epoch-next, epoch-cut, epoch-made, run-next, run-cut}
+use Rattle.visits.specs.Visiting.{Agreed}
+use Rattle.epochs.specs.Running.{Finished}
+
+-- whether a state's visit was refused can be told by its step
+same-end : {made meant : State} {b : Bool} → Agreed made meant → isRefused (made .step .visit) ≡ b → isRefused (meant .step .visit) ≡ b
+same-end a e = ap (λ (s : Step). isRefused (s .visit)) (sym (a .step)) ∙ e
+
+-- ---- an epoch's visits
+module _ (visit : ℕ → State → State) (order : List ℕ) where
+  -- one visit more: t is the state before it, u after it
+  pub visited-next : (j i : ℕ) (s : State) {t u : State} → i ≡ getD order j 0 → isRefused (t .step .visit) ≡ false → t ≡ through (visitedAt visit order) 0 j s → Agreed u (visit i t) → isRefused (u .step .visit) ≡ false → u ≡ through (visitedAt visit order) 0 (j + 1) s
+  visited-next j i s k r p a f = epoch-next visit order j i s k r p (a .whole (same-end a f))
+
+  -- it was refused
+  pub visited-cut : (j i n : ℕ) (s : State) {t u : State} → j < n → i ≡ getD order j 0 → isRefused (t .step .visit) ≡ false → t ≡ through (visitedAt visit order) 0 j (opened s) → Agreed u (visit i t) → isRefused (u .step .visit) ≡ true → Agreed u (epochOver visit order n s)
+  visited-cut j i n s {t} {u} h k r p a f =
+      let e : visit i t ≡ epochOver visit order n s = epoch-cut visit order (j + 1) n s (omega arith) (same-end a f) (epoch-next visit order j i (opened s) k r p refl) in
+      subst (λ (w : State). Agreed u w) e a
+
+-- ---- epochs
+first-false : (a b : Bool) → a || b ≡ false → a ≡ false
+first-false true b e = absurd (true≢false e)
+first-false false b e = refl
+
+module _ (visit : ℕ → State → State) (stop : Float → Bool) (n : ℕ) (r₀ : Run) where
+  -- none of the epochs allowed ended training
+  pub all-run : (e allowed : ℕ) (s : State) (k : Deal) → e ≤ allowed → allowed ≤ e → s .step .visits ≤ 16384000 → _≡_ {A = Run} (record { state = s; deal = k; epochs = e; over = false }) (through (epochUnlessOver visit stop n) 0 e r₀) → Finished (record { step = s .step; epochs = e }) (s .learned .weights) (s .learned .beside) (through (epochUnlessOver visit stop n) 0 allowed r₀)
+  all-run e allowed s k h l v p =
+      let q = p ∙ through-end (epochUnlessOver visit stop n) e allowed r₀ h l in
+      record {
+        step = ap (λ (r : Run). r .state .step) q;
+        epochs = λ _. ap (λ (r : Run). r .epochs) q;
+        learned = λ _. ap (λ (r : Run). r .state .learned) q;
+        visits = v;
+      }
+
+  -- one epoch more: s and k are what e epochs left, t and l what it leaves, and o whether training ends
+  module _ (e : ℕ) {s t : State} {k l : Deal} {o : Bool} (p : _≡_ {A = Run} (record { state = s; deal = k; epochs = e; over = false }) (through (epochUnlessOver visit stop n) 0 e r₀)) (d : l ≡ shuffled n k) (a : Agreed t (epochOver visit (l .order) n s)) (q : o ≡ endsAfter stop n (t .step)) where
+    pub run-on : o ≡ false → _≡_ {A = Run} (record { state = t; deal = l; epochs = e + 1; over = false }) (through (epochUnlessOver visit stop n) 0 (e + 1) r₀)
+    run-on f =
+        let w : t ≡ epochOver visit (l .order) n s = a .whole (same-end a (first-false _ _ (sym q ∙ f))) in
+        rw f at (run-next visit stop n e r₀ refl p (epoch-made visit stop n _ l t o d w q))
+
+    after : Run
+    after = epoch visit stop n (record { state = s; deal = k; epochs = e; over = false })
+
+    agreed : Agreed t (after .state)
+    unfolding epoch after
+    agreed = rw d at a
+
+    over : o ≡ true → after .over ≡ true
+    unfolding epoch after
+    over f = ap (λ (x : Step). endsAfter stop n x) (sym (agreed .step)) ∙ sym q ∙ f
+
+    counts : after .epochs ≡ e + 1
+    unfolding epoch after
+    counts = refl
+
+    pub run-ended : (allowed : ℕ) → e < allowed → o ≡ true → t .step .visits ≤ 16384000 → Finished (record { step = t .step; epochs = e + 1 }) (t .learned .weights) (t .learned .beside) (through (epochUnlessOver visit stop n) 0 allowed r₀)
+    unfolding after
+    run-ended allowed h f v =
+        let u : after ≡ through (epochUnlessOver visit stop n) 0 allowed r₀ = run-cut visit stop n (e + 1) allowed r₀ (omega arith) (over f) (run-next visit stop n e r₀ refl p refl) in
+        subst (λ (r : Run). Finished (record { step = t .step; epochs = e + 1 }) (t .learned .weights) (t .learned .beside) r) u
+        (record {
+          step = agreed .step;
+          epochs = λ _. sym counts;
+          learned = λ g. ap (λ (x : State). x .learned) (agreed .whole g);
+          visits = v;
+        })

@@ -1,0 +1,211 @@
+// An epoch's visits in the order of the shuffle, and epochs until training ends.
+ghost use mathlib.Core.Path.{_≡_};
+ghost use mathlib.Core.Bool.{true, false};
+ghost use Prim.Native.Nat.{ℕ, _+_, _≤_, _<_, _^_};
+ghost use lib.ListN.{length, getD};
+ghost use Rattle.lines.specs.Passes.{through, nought};
+ghost use Rattle.training.specs.Rules.{stops};
+ghost use Rattle.training.specs.Visits.{visited};
+ghost use Rattle.training.specs.Epochs.{isRefused, endsAfter, epochOver, epochUnlessOver};
+ghost use Rattle.training.specs.Orders.{OrderOf};
+ghost use Rattle.prediction.specs.Tables.{modelOf, dataOf, SoundModel, SoundData};
+ghost use Rattle.visits.specs.Visiting.{ruleOf, stateOf, Agreed, Exact};
+ghost use Rattle.epochs.specs.Running.{CountedIn, Finished, firstStep};
+use prediction::Sizes;
+use training::Step;
+use training::Visit;
+use visits::Trainer;
+
+// What a run of epochs comes to: the last step, and how many epochs were run.
+pub struct Ran {
+    pub step: Step,
+    pub epochs: u64,
+}
+
+pub fn is_refused(v: Visit) -> bool
+    ensures { λ r. ⌜ r ≡ isRefused v ⌝ }
+{
+    match v {
+        Visit::Refused(_) => true,
+        Visit::Updated => false,
+        Visit::Unchanged => false,
+    }
+}
+
+// Whether an epoch's rate of loss ends training: below epsilon, with AROW also at it.
+fn is_low(trainer: Trainer, epsilon: f64, rate: f64) -> bool
+    ensures { λ r. ⌜ r ≡ stops (ruleOf trainer) epsilon rate ⌝ }
+{
+    match trainer {
+        Trainer::Perceptron => rate < epsilon,
+        Trainer::Passive { .. } => rate < epsilon,
+        Trainer::Arow { .. } => rate <= epsilon,
+    }
+}
+
+// Whether training ends after an epoch.
+fn ends(trainer: Trainer, epsilon: f64, instances: usize, s: Step) -> bool
+    requires { ⌜ instances ≤ 16384 ⌝ }
+    ensures { λ r. ⌜ r ≡ endsAfter (stops (ruleOf trainer) epsilon) instances s ⌝ }
+{
+    let v = s.visit;
+    let loss = s.loss;
+    if is_refused(v) {
+        return true;
+    }
+    is_low(trainer, epsilon, loss / (instances as f64))
+}
+
+// An epoch's visits: the first that is refused ends it.
+fn epoch(
+    trainer: Trainer,
+    sizes: Sizes,
+    kinds: &[u8],
+    destinations: &[u32],
+    sources: &[u32],
+    starts: &[u32],
+    entries: &[u32],
+    label_starts: &[u32],
+    label_entries: &[u32],
+    lines: &[u32],
+    begins: &[u32],
+    ids: &[u32],
+    values: &[f64],
+    references: &[u32],
+    shares: &[f64],
+    order: &[u32],
+    s: Step,
+    weights: &mut [f64],
+    beside: &mut [f64],
+    truly: &mut [f64],
+    predicted: &mut [f64],
+) -> Step
+    requires { ⌜ SoundModel (modelOf sizes (now kinds) (now destinations) (now sources) (now starts) (now entries) (now «label_starts») (now «label_entries»)) ⌝ }
+    requires { ⌜ SoundData (sizes .labels) (dataOf sizes (now lines) (now begins) (now ids) (now values) (now references) (now shares)) ⌝ }
+    requires { ⌜ Exact (sizes .features) (now weights) (now beside) (now truly) (now predicted) ⌝ }
+    requires { ⌜ (sizes .instances ≤ length (now order)) × ((j : ℕ) → j < sizes .instances → getD (now order) j 0 < sizes .instances) ⌝ }
+    requires { ⌜ (s .visits + sizes .instances ≤ 2 ^ 53) × (s .updates ≤ s .visits) ⌝ }
+    ensures { λ r. ⌜ Agreed (stateOf r (now (weights .exit)) (now (beside .exit))) (epochOver (visited (ruleOf trainer) (modelOf sizes (now (kinds .entry)) (now (destinations .entry)) (now (sources .entry)) (now (starts .entry)) (now (entries .entry)) (now («label_starts» .entry)) (now («label_entries» .entry))) (dataOf sizes (now (lines .entry)) (now (begins .entry)) (now (ids .entry)) (now (values .entry)) (now (references .entry)) (now (shares .entry)))) (now (order .entry)) (sizes .instances) (stateOf s (now (weights .entry)) (now (beside .entry)))) ⌝ }
+    ensures { λ r. ⌜ CountedIn (sizes .instances) s r ⌝ }
+{
+    let n = sizes.instances;
+    let mut step = Step {
+        visit: Visit::Unchanged,
+        visits: s.visits,
+        updates: s.updates,
+        loss: 0.0,
+    };
+    let mut j = 0usize;
+    while j < n {
+        let i = lines::at(order, j);
+        step = visits::visit(
+            trainer,
+            sizes,
+            kinds,
+            destinations,
+            sources,
+            starts,
+            entries,
+            label_starts,
+            label_entries,
+            lines,
+            begins,
+            ids,
+            values,
+            references,
+            shares,
+            i,
+            step,
+            weights,
+            beside,
+            truly,
+            predicted,
+        );
+        let v = step.visit;
+        if is_refused(v) {
+            return step;
+        }
+        j += 1;
+    }
+    step
+}
+
+// Epochs, each with the order shuffled anew, until training ends or none is left.
+pub fn run(
+    trainer: Trainer,
+    sizes: Sizes,
+    kinds: &[u8],
+    destinations: &[u32],
+    sources: &[u32],
+    starts: &[u32],
+    entries: &[u32],
+    label_starts: &[u32],
+    label_entries: &[u32],
+    lines: &[u32],
+    begins: &[u32],
+    ids: &[u32],
+    values: &[f64],
+    references: &[u32],
+    shares: &[f64],
+    allowed: u64,
+    epsilon: f64,
+    seed: u64,
+    order: &mut [u32],
+    weights: &mut [f64],
+    beside: &mut [f64],
+    truly: &mut [f64],
+    predicted: &mut [f64],
+) -> Ran
+    requires { ⌜ SoundModel (modelOf sizes (now kinds) (now destinations) (now sources) (now starts) (now entries) (now «label_starts») (now «label_entries»)) ⌝ }
+    requires { ⌜ SoundData (sizes .labels) (dataOf sizes (now lines) (now begins) (now ids) (now values) (now references) (now shares)) ⌝ }
+    requires { ⌜ Exact (sizes .features) (now weights) (now beside) (now truly) (now predicted) ⌝ }
+    requires { ⌜ (allowed ≤ 1000) × OrderOf (sizes .instances) (now order) ⌝ }
+    ensures { λ r. ⌜ Finished r (now (weights .exit)) (now (beside .exit)) (through (epochUnlessOver (visited (ruleOf trainer) (modelOf sizes (now (kinds .entry)) (now (destinations .entry)) (now (sources .entry)) (now (starts .entry)) (now (entries .entry)) (now («label_starts» .entry)) (now («label_entries» .entry))) (dataOf sizes (now (lines .entry)) (now (begins .entry)) (now (ids .entry)) (now (values .entry)) (now (references .entry)) (now (shares .entry)))) (stops (ruleOf trainer) epsilon) (sizes .instances)) 0 allowed (record { state = stateOf firstStep (now (weights .entry)) (now (beside .entry)); deal = record { state = seed; order = now (order .entry) }; epochs = 0; over = false })) ⌝ }
+{
+    let n = sizes.instances;
+    let mut step = Step {
+        visit: Visit::Unchanged,
+        visits: 0,
+        updates: 0,
+        loss: 0.0,
+    };
+    let mut g = seed;
+    let mut e = 0u64;
+    while e < allowed {
+        g = shuffle::shuffle(g, n, order);
+        step = epoch(
+            trainer,
+            sizes,
+            kinds,
+            destinations,
+            sources,
+            starts,
+            entries,
+            label_starts,
+            label_entries,
+            lines,
+            begins,
+            ids,
+            values,
+            references,
+            shares,
+            order,
+            step,
+            weights,
+            beside,
+            truly,
+            predicted,
+        );
+        e += 1;
+        if ends(trainer, epsilon, n, step) {
+            return Ran {
+                step: step,
+                epochs: e,
+            };
+        }
+    }
+    Ran {
+        step: step,
+        epochs: e,
+    }
+}

@@ -1,0 +1,62 @@
+-- `finished::check_finished` meets its contract, by the laws of a search. Assumes nothing.
+use Prim.Native.Nat.{_-_}
+use native.Mathlib.Omega.{arith}
+use borrow.Author.Needs.{needs}
+use Rattle.refusals.specs.Tables.{notFinite}
+use Rattle.refusals.proofs.Laws.{Passed, begin, step}
+use Rattle.finished.proofs.Laws.{placed}
+use Rattle.finished.proofs.check_finished.Statement.{statement}
+use Rattle.finished.proofs.check_finished.Tie as tie
+
+abbrev Inv-loop : tie.InvT-loop
+Inv-loop numbers n others i₀ i = Passed 8 (notFinite numbers) n i
+
+abbrev μ-loop : tie.MeasureT-loop
+μ-loop numbers n others i₀ i = n - i
+
+loop-holds : tie.Need-loop-holds Inv-loop μ-loop
+loop-holds c = begin
+
+mul-is-finite : tie.Need-mul-is-finite Inv-loop μ-loop
+mul-is-finite c = search needs
+
+shared-slice-read-is-finite : tie.Need-shared-slice-read-is-finite Inv-loop μ-loop
+shared-slice-read-is-finite c = search needs
+
+is-finite-requires : tie.Need-is-finite-requires Inv-loop μ-loop
+is-finite-requires c κs = search needs
+
+add-i : tie.Need-add-i Inv-loop μ-loop
+add-i c = search needs
+
+loop-less : tie.Need-loop-less Inv-loop μ-loop
+loop-less c = search needs
+
+loop-again : tie.Need-loop-again Inv-loop μ-loop
+loop-again c = step (c .before .before .before .before .loop .inv) (omega arith) (rw (c .before .is-finite .ensures) at (c .if1 .left))
+
+add-refuse-if : tie.Need-add-refuse-if Inv-loop μ-loop
+add-refuse-if c = search needs
+
+refuse-if-requires : tie.Need-refuse-if-requires Inv-loop μ-loop
+refuse-if-requires c κs = search needs
+
+returns : tie.Need-returns Inv-loop μ-loop
+returns c = placed _ (c .refuse-if .ensures) (c .before .before .loop .inv) (λ w. w .left) (λ w. (w .0 .taken, rw (w .2 .ensures) at (w .3 .taken))) (c .before .loop-test .came)
+
+pub check-finished-spec : {M : Type 1} → statement M
+check-finished-spec =
+    tie.close
+    (tie.spec
+    Inv-loop
+    μ-loop
+    loop-holds
+    mul-is-finite
+    shared-slice-read-is-finite
+    is-finite-requires
+    add-i
+    loop-less
+    loop-again
+    add-refuse-if
+    refuse-if-requires
+    returns)

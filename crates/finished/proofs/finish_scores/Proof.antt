@@ -1,0 +1,73 @@
+-- `finished::finish_scores` meets its contract. Assumes nothing.
+use mathlib.Core.Path.{refl, sym, _∙_}
+use native.Mathlib.Omega.{arith}
+use borrow.Author.Needs.{needs}
+use Rattle.finished.proofs.Laws.{cleared-to}
+use Rattle.finished.proofs.finish_scores.Statement.{statement}
+use Rattle.finished.proofs.finish_scores.Tie as tie
+
+check-scores-requires : tie.Need-check-scores-requires
+check-scores-requires c κs = c .before .before .before .before .pre
+
+enum-known-finished : tie.Need-enum-known-finished
+enum-known-finished c = search needs
+
+entries-requires : tie.Need-entries-requires
+entries-requires c κs = search needs
+
+clear-front-requires : tie.Need-clear-front-requires
+clear-front-requires c κs =
+    omega (arith, c .entries .ensures, c .before .before .before .before .before .before .before .before .before .before .pre .room .long-states)
+
+entries-requires-2 : tie.Need-entries-requires-2
+entries-requires-2 c κs = search needs
+
+clear-front-requires-2 : tie.Need-clear-front-requires-2
+clear-front-requires-2 c κs =
+    let s = c .before .before .before .before .before in
+    omega (arith, c .entries2 .ensures, s .before .before .before .before .before .before .before .before .before .before .pre .room .long-transitions)
+
+same-length : tie.Need-same-length
+same-length c = search needs
+
+same-length-2 : tie.Need-same-length-2
+same-length-2 c = search needs
+
+returns : tie.Need-returns
+returns c =
+    let t = c .before .before in
+    let s = t .before .before .before .before .before in
+    let f = s .before .before .before .before in (
+      sym (f .finished .given .1) ∙ f .before .before .check-scores .ensures,
+      (cleared-to _ _ (s .before .entries .ensures) (s .clear-front .ensures), cleared-to _ _ (t .before .entries2 .ensures) (t .clear-front2 .ensures)),
+    )
+
+enum-told : tie.Need-enum-told
+enum-told c = search needs
+
+same-length-3 : tie.Need-same-length-3
+same-length-3 c = search needs
+
+same-length-4 : tie.Need-same-length-4
+same-length-4 c = search needs
+
+returns-2 : tie.Need-returns-2
+returns-2 c = (sym (c .enum-told .given .1) ∙ c .before .before .check-scores .ensures, (refl, refl))
+
+pub finish-scores-spec : {M : Type 1} → statement M
+finish-scores-spec =
+    tie.close
+    (tie.spec
+    check-scores-requires
+    enum-known-finished
+    entries-requires
+    clear-front-requires
+    entries-requires-2
+    clear-front-requires-2
+    same-length
+    same-length-2
+    returns
+    enum-told
+    same-length-3
+    same-length-4
+    returns-2)

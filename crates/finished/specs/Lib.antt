@@ -1,0 +1,4 @@
+pub mod Rows
+pub mod After
+pub mod Said
+pub mod Meaning

@@ -1,0 +1,72 @@
+// Refusal 8 of a call on a single line: the finished scores, or the finished counts, are looked at, and where one of them is not
+// finite the needed front of what was made is zero again.
+ghost use mathlib.Core.Path.{_≡_};
+ghost use Prim.Native.Nat.{_*_, _≤_};
+ghost use lib.ListN.{length};
+ghost use Rattle.score_tables.specs.Sound.{Sized};
+ghost use Rattle.finished.specs.Rows.{placedAfter, finishedChecked, scoresFinished};
+ghost use Rattle.finished.specs.After.{clearedWhere};
+use refusals::Checked;
+
+// 8: neither a NaN nor an infinity among the first n, whose places follow on others.
+fn check_finished(numbers: &[f64], n: usize, others: usize) -> Checked
+    requires { ⌜ n ≤ length (now numbers) ⌝ }
+    requires { ⌜ others ≤ 4096 ⌝ }
+    ensures { λ r. ⌜ r ≡ placedAfter others (finishedChecked (now (numbers .entry)) n) ⌝ }
+{
+    let mut i = 0usize;
+    while i < n {
+        let bad = !binary64::is_finite(numbers[i]);
+        if bad {
+            break;
+        }
+        i += 1;
+    }
+    refusals::refuse_if(Checked::Accepted, 8, others + i, i < n)
+}
+
+// 8 of a line's scores: states, then transitions.
+pub fn check_scores(labels: u32, words: u32, states: &[f64], transitions: &[f64]) -> Checked
+    requires { ⌜ Sized labels words (now transitions) (now states) ⌝ }
+    ensures { λ r. ⌜ r ≡ scoresFinished labels words (now (states .entry)) (now (transitions .entry)) ⌝ }
+{
+    let n = score_tables::entries(words, labels);
+    let first = check_finished(states, n, 0);
+    let then = check_finished(transitions, score_tables::entries(labels, labels), n);
+    refusals::or_next(first, then)
+}
+
+// 8 of a line's scores, which are cleared where it is given.
+pub fn finish_scores(
+    labels: u32,
+    words: u32,
+    states: &mut [f64],
+    transitions: &mut [f64],
+) -> Checked
+    requires { ⌜ Sized labels words (now transitions) (now states) ⌝ }
+    ensures { λ r. ⌜ r ≡ scoresFinished labels words (now (states .entry)) (now (transitions .entry)) ⌝ }
+    ensures { λ r. ⌜ now (states .exit) ≡ clearedWhere r (words * labels) (now (states .entry)) ⌝ }
+    ensures { λ r. ⌜ now (transitions .exit) ≡ clearedWhere r (labels * labels) (now (transitions .entry)) ⌝ }
+{
+    let finished = check_scores(labels, words, states, transitions);
+    if let Checked::Refused(why) = finished {
+        lines::clear_front(states, score_tables::entries(words, labels));
+        lines::clear_front(transitions, score_tables::entries(labels, labels));
+        return Checked::Refused(why);
+    }
+    Checked::Accepted
+}
+
+// 8 of feature counts, which are cleared where it is given.
+pub fn finish_counts(features: usize, counts: &mut [f64]) -> Checked
+    requires { ⌜ features ≤ length (now counts) ⌝ }
+    ensures { λ r. ⌜ r ≡ finishedChecked (now (counts .entry)) features ⌝ }
+    ensures { λ r. ⌜ now (counts .exit) ≡ clearedWhere r features (now (counts .entry)) ⌝ }
+{
+    let finished = check_finished(counts, features, 0);
+    if let Checked::Refused(why) = finished {
+        lines::clear_front(counts, features);
+        return Checked::Refused(why);
+    }
+    Checked::Accepted
+}

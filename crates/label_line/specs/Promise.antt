@@ -1,0 +1,55 @@
+-- What labelling a line promises: document 01's answer to what the call is given, and what the lent buffer holds afterwards. Assumes nothing.
+use mathlib.Core.Path.{_≡_}
+use mathlib.Core.List.{List}
+use Prim.Native.Nat.{ℕ}
+use lib.ListN.{length}
+use Rattle.refusals.specs.declared.Checked.{Checked}
+use Rattle.refusals.specs.declared.Checked.the-variants.{Accepted}
+use Rattle.refusals.specs.Refusals.{orNext}
+use Rattle.best_path.specs.Scores.{Scores, tabled}
+use Rattle.best_path.specs.Decoded.{decodedPath, decodedSum}
+use Rattle.best_path.specs.Lead.{lead}
+use Rattle.viterbi.specs.declared.Decoding.{Decoding}
+use Rattle.viterbi.specs.Promise.{Said, decoded, said, orRefused}
+use Rattle.finished.specs.After.{contents}
+use Rattle.scoring.specs.Promise.{Given, statesOfLine, transitionsOfLine, finishedOf}
+use Rattle.label_line.specs.Rows.{labelChecked}
+
+-- the answer, and what the lent buffer holds afterwards
+pub record Outcome : Type 0 where
+  pub answer : Decoding
+  pub path : List ℕ
+
+-- the scores of the line
+abbrev pub scoresOf : Given → Scores
+scoresOf given = tabled (given .model .labels) (transitionsOfLine given) (statesOfLine given)
+
+-- 1, 4, 2, 3, 5, 6
+abbrev pub checkedOf : Given → List ℕ → Checked
+checkedOf given before = labelChecked given (length before)
+
+-- "The answer is the path and its rounded sum", with the lead
+abbrev pub decodedOf : Given → Said
+decodedOf given = decoded (decodedSum (scoresOf given) (given .words)) (lead (scoresOf given) (given .words))
+
+-- what document 01 says: "The lowest number wins", so 8, of the scores, comes last
+unfoldable pub answerTo : Given → List ℕ → Said
+answerTo given before = orRefused (orNext (checkedOf given before) (finishedOf given)) (decodedOf given)
+
+unfoldable pub pathAfter : Given → List ℕ → List ℕ
+pathAfter given before =
+    contents (checkedOf given before) (finishedOf given) 0 (given .words) before (decodedPath (scoresOf given) (given .words))
+
+-- the promise
+pub record Promised (given : Given) (before : List ℕ) (outcome : Outcome) : Type 0 where
+  pub answers : said (outcome .answer) ≡ answerTo given before
+  pub path : outcome .path ≡ pathAfter given before
+
+-- the part of it that is left where nothing of 1 to 6 applies
+pub record Labelled (given : Given) (before : List ℕ) (outcome : Outcome) : Type 0 where
+  pub answers : said (outcome .answer) ≡ orRefused (finishedOf given) (decodedOf given)
+  pub path : outcome .path ≡ contents Accepted (finishedOf given) 0 (given .words) before (decodedPath (scoresOf given) (given .words))
+
+-- no two different outcomes satisfy one promise; proved in proofs/Unique
+abbrev pub OnlyOne : Type 0
+OnlyOne = (given : Given) (before : List ℕ) (a b : Outcome) → Promised given before a → Promised given before b → a ≡ b

@@ -1,0 +1,71 @@
+use mathlib.Core.Path.{_≡_, refl, sym, ap, _∙_}
+use mathlib.Core.Bool.{true, false}
+use Prim.Native.Nat.{ℕ, _+_, _-_, _*_, _≤_, _<_}
+use native.Mathlib.Omega.{arith}
+use borrow.Author.Needs.{needs}
+use lib.Ieee.{ofBits}
+use Rattle.prediction.proofs.Laws.{all-of}
+use Rattle.learning.proofs.sweep.Statement.{statement}
+use Rattle.learning.proofs.sweep.Tie as tie
+use Rattle.learning.proofs.sweep.Reads as reads
+use Rattle.learning.proofs.sweep.Lts as lts
+use Rattle.training_tables.proofs.clear.Reads as clear-reads
+use Rattle.training_tables.proofs.fill.Reads as fill-reads
+
+-- src/lib.rt:148:5
+clear-requires : tie.Need-clear-requires
+clear-requires c κs = search needs
+
+-- src/lib.rt:149:5
+fill-requires : tie.Need-fill-requires
+fill-requires c κs = search needs
+
+-- src/lib.rt:150:5
+fill-requires-2 : tie.Need-fill-requires-2
+fill-requires-2 c κs = search needs
+
+-- src/lib.rt:151:5
+fill-requires-3 : tie.Need-fill-requires-3
+fill-requires-3 c κs = search needs
+
+-- src/lib.rt:137:1
+same-length : tie.Need-same-length
+same-length c = search needs
+
+-- src/lib.rt:137:1
+same-length-2 : tie.Need-same-length-2
+same-length-2 c = search needs
+
+-- src/lib.rt:137:1
+same-length-3 : tie.Need-same-length-3
+same-length-3 c = search needs
+
+-- src/lib.rt:137:1
+same-length-4 : tie.Need-same-length-4
+same-length-4 c = search needs
+
+-- src/lib.rt:137:1
+returns : tie.Need-returns
+unfolding ofBits
+returns c =
+    let s = c .before .before .before .before .before .before .before .before .before .before .before .before .before .before .before .before .before .before .before .before in
+    record {
+      order-is = c .before .before .before .before .before .before .before .before .before .before .before .before .before .before .clear .ensures ∙ all-of _ _ _ (s .pre .0);
+      beside-is = c .before .before .before .before .before .before .before .before .before .before .fill .ensures ∙ all-of _ _ _ (s .pre .1);
+      truly-is = c .before .before .before .before .before .before .fill2 .ensures ∙ all-of _ _ _ (s .pre .2);
+      predicted-is = c .before .before .fill3 .ensures ∙ all-of _ _ _ (s .pre .3);
+    }
+
+pub sweep-spec : {M : Type 1} → statement M
+sweep-spec =
+    tie.close
+    (tie.spec
+    clear-requires
+    fill-requires
+    fill-requires-2
+    fill-requires-3
+    same-length
+    same-length-2
+    same-length-3
+    same-length-4
+    returns)

@@ -1,0 +1,83 @@
+// The parameters of the three trainers, and refusal 7: "each trainer tests only its own".
+ghost use mathlib.Core.Path.{_≡_};
+ghost use mathlib.Core.List.{[], _∷_};
+ghost use Rattle.refusals.specs.Refusals.{firstFrom};
+ghost use Rattle.parameters.specs.Parameters.{negative, notAboveZero, epochs, epsilon, sevens, perceptronsOwn, passivesOwn, arowsOwn};
+use refusals::Checked;
+
+pub const MOST_EPOCHS: u32 = 1000;
+
+pub const LAST_VARIANT: u32 = 2;
+
+#[repr(C)]
+pub struct Perceptron {
+    pub epochs: u32,
+    pub epsilon: f64,
+    pub seed: u64,
+}
+
+// Variants 0 Pa, 1 PaI, 2 PaII. Of the two switches 0 is off and all else on.
+#[repr(C)]
+pub struct Passive {
+    pub epochs: u32,
+    pub epsilon: f64,
+    pub seed: u64,
+    pub variant: u32,
+    pub c: f64,
+    pub sensitive: u32,
+    pub averaging: u32,
+}
+
+#[repr(C)]
+pub struct Arow {
+    pub epochs: u32,
+    pub epsilon: f64,
+    pub seed: u64,
+    pub variance: f64,
+    pub gamma: f64,
+}
+
+// Below 0, or not finite: −0 is neither.
+fn is_negative(x: f64) -> bool
+    ensures { λ r. ⌜ r ≡ negative x ⌝ }
+{
+    (x < 0.0) | !binary64::is_finite(x)
+}
+
+// Not above 0, or not finite.
+fn is_not_above_zero(x: f64) -> bool
+    ensures { λ r. ⌜ r ≡ notAboveZero x ⌝ }
+{
+    !(0.0 < x) | !binary64::is_finite(x)
+}
+
+// Epochs and epsilon, which every trainer has.
+fn check_shared(answer: Checked, rounds: u32, stop: f64) -> Checked
+    ensures { λ r. ⌜ r ≡ firstFrom answer (sevens (epochs rounds ∷ epsilon stop ∷ [])) ⌝ }
+{
+    let one = refusals::refuse_if(answer, 7, 1, refusals::is_outside(1, MOST_EPOCHS, rounds));
+    refusals::refuse_if(one, 7, 2, is_negative(stop))
+}
+
+pub fn check_perceptron(answer: Checked, parameters: Perceptron) -> Checked
+    ensures { λ r. ⌜ r ≡ firstFrom answer (sevens (perceptronsOwn parameters)) ⌝ }
+{
+    check_shared(answer, parameters.epochs, parameters.epsilon)
+}
+
+// C is tested for every variant, as in the Rust's setter.
+pub fn check_passive(answer: Checked, parameters: Passive) -> Checked
+    ensures { λ r. ⌜ r ≡ firstFrom answer (sevens (passivesOwn parameters)) ⌝ }
+{
+    let two = check_shared(answer, parameters.epochs, parameters.epsilon);
+    let three = refusals::refuse_if(two, 7, 3, is_not_above_zero(parameters.c));
+    refusals::refuse_if(three, 7, 5, LAST_VARIANT < parameters.variant)
+}
+
+pub fn check_arow(answer: Checked, parameters: Arow) -> Checked
+    ensures { λ r. ⌜ r ≡ firstFrom answer (sevens (arowsOwn parameters)) ⌝ }
+{
+    let two = check_shared(answer, parameters.epochs, parameters.epsilon);
+    let three = refusals::refuse_if(two, 7, 3, is_not_above_zero(parameters.variance));
+    refusals::refuse_if(three, 7, 4, is_not_above_zero(parameters.gamma))
+}

@@ -1,0 +1,315 @@
+// What a visit does before it learns: it scores an instance with the present weights, decodes, and compares the path with the
+// reference labels.
+ghost use mathlib.Core.Path.{_≡_};
+ghost use Prim.Native.Nat.{_*_, _≤_};
+ghost use lib.ListN.{length};
+ghost use Rattle.lines.specs.Scored.{statesOf, transitionsOf};
+ghost use Rattle.training.specs.Data.{wrongOf};
+ghost use Rattle.prediction.specs.Tables.{modelOf, wordsIn, SoundModel, SoundLine};
+ghost use Rattle.prediction.specs.Judged.{Judged, Scored};
+
+// The counts of a trainer's tables.
+pub struct Sizes {
+    pub labels: usize,
+    pub features: usize,
+    pub attribute_lists: usize,
+    pub label_lists: usize,
+    pub attribute_entries: usize,
+    pub label_entries: usize,
+    pub instances: usize,
+    pub words: usize,
+    pub attributes: usize,
+}
+
+// Whether the scores are finite, how many labels are wrong, and where some are, the scores of the predicted and the true path.
+pub struct Prediction {
+    pub finite: bool,
+    pub wrong: u32,
+    pub reached: f64,
+    pub wanted: f64,
+}
+
+// In how many words two paths differ.
+fn count_wrong(path: &[u32], references: &[u32], words: usize) -> u32
+    requires { ⌜ (words ≤ 128) × (words ≤ length (now path)) × (words ≤ length (now references)) ⌝ }
+    ensures { λ r. ⌜ (r ≡ wrongOf (now (path .entry)) (now (references .entry)) words) × (r ≤ words) ⌝ }
+{
+    let mut wrong = 0u32;
+    let mut word = 0usize;
+    while word < words {
+        if path[word] != references[word] {
+            wrong += 1;
+        }
+        word += 1;
+    }
+    wrong
+}
+
+// 8 for the scores, then the path and the number of wrong labels, then the two path scores.
+fn judge(
+    labels: usize,
+    words: usize,
+    transitions: &[f64],
+    states: &[f64],
+    references: &[u32],
+    path: &mut [u32],
+) -> Prediction
+    requires { ⌜ Scored labels words (now transitions) (now states) (now references) (now path) ⌝ }
+    ensures { λ r. ⌜ Judged labels words (now (transitions .entry)) (now (states .entry)) (now (references .entry)) (now (path .exit)) r ⌝ }
+{
+    let finite = training_tables::all_finite(states, words * labels)
+        & training_tables::all_finite(transitions, labels * labels);
+    if !finite {
+        return Prediction {
+            finite: false,
+            wrong: 0,
+            reached: 0.0,
+            wanted: 0.0,
+        };
+    }
+    viterbi::decode_tables(labels, words, transitions, states, path);
+    let wrong = count_wrong(path, references, words);
+    if wrong == 0 {
+        return Prediction {
+            finite: true,
+            wrong: 0,
+            reached: 0.0,
+            wanted: 0.0,
+        };
+    }
+    let reached = sequence_score::score_path(labels, transitions, states, path, words);
+    let wanted = sequence_score::score_path(labels, transitions, states, references, words);
+    Prediction {
+        finite: true,
+        wrong: wrong,
+        reached: reached,
+        wanted: wanted,
+    }
+}
+
+// The scores in two lent tables that are exactly as long as they have to be.
+fn predict_in(
+    sizes: Sizes,
+    kinds: &[u8],
+    destinations: &[u32],
+    sources: &[u32],
+    starts: &[u32],
+    entries: &[u32],
+    label_starts: &[u32],
+    label_entries: &[u32],
+    begins: &[u32],
+    ids: &[u32],
+    values: &[f64],
+    weights: &[f64],
+    first: usize,
+    words: usize,
+    references: &[u32],
+    transitions: &mut [f64],
+    states: &mut [f64],
+    path: &mut [u32],
+) -> Prediction
+    requires { ⌜ SoundModel (modelOf sizes (now kinds) (now destinations) (now sources) (now starts) (now entries) (now «label_starts») (now «label_entries»)) ⌝ }
+    requires { ⌜ SoundLine (sizes .labels) (wordsIn sizes (now begins) (now ids) (now values)) first words (now references) ⌝ }
+    requires { ⌜ (length (now weights) ≡ sizes .features) × (length (now path) ≡ words) ⌝ }
+    requires { ⌜ (length (now transitions) ≡ sizes .labels * sizes .labels) × (length (now states) ≡ words * sizes .labels) ⌝ }
+    ensures { λ r. ⌜ Judged (sizes .labels) words (transitionsOf (modelOf sizes (now (kinds .entry)) (now (destinations .entry)) (now (sources .entry)) (now (starts .entry)) (now (entries .entry)) (now («label_starts» .entry)) (now («label_entries» .entry))) (now (weights .entry))) (statesOf (modelOf sizes (now (kinds .entry)) (now (destinations .entry)) (now (sources .entry)) (now (starts .entry)) (now (entries .entry)) (now («label_starts» .entry)) (now («label_entries» .entry))) (now (weights .entry)) (wordsIn sizes (now (begins .entry)) (now (ids .entry)) (now (values .entry))) first words) (now (references .entry)) (now (path .exit)) r ⌝ }
+{
+    let labels = sizes.labels;
+    let features = sizes.features;
+    compute_scores::score_transitions(
+        labels,
+        features,
+        kinds,
+        destinations,
+        sources,
+        weights,
+        sizes.label_lists,
+        label_starts,
+        label_entries,
+        transitions,
+    );
+    compute_scores::score_line(
+        labels,
+        features,
+        kinds,
+        destinations,
+        weights,
+        sizes.attribute_lists,
+        starts,
+        entries,
+        begins,
+        ids,
+        values,
+        first,
+        words,
+        states,
+    );
+    judge(labels, words, transitions, states, references, path)
+}
+
+// A short line has its scores in small arrays: clearing large ones would take longer than the line.
+fn predict_short(
+    sizes: Sizes,
+    kinds: &[u8],
+    destinations: &[u32],
+    sources: &[u32],
+    starts: &[u32],
+    entries: &[u32],
+    label_starts: &[u32],
+    label_entries: &[u32],
+    begins: &[u32],
+    ids: &[u32],
+    values: &[f64],
+    weights: &[f64],
+    first: usize,
+    words: usize,
+    references: &[u32],
+    path: &mut [u32],
+) -> Prediction
+    requires { ⌜ SoundModel (modelOf sizes (now kinds) (now destinations) (now sources) (now starts) (now entries) (now «label_starts») (now «label_entries»)) ⌝ }
+    requires { ⌜ SoundLine (sizes .labels) (wordsIn sizes (now begins) (now ids) (now values)) first words (now references) ⌝ }
+    requires { ⌜ (length (now weights) ≡ sizes .features) × (length (now path) ≡ words) ⌝ }
+    requires { ⌜ (sizes .labels * sizes .labels ≤ 256) × (words * sizes .labels ≤ 256) ⌝ }
+    ensures { λ r. ⌜ Judged (sizes .labels) words (transitionsOf (modelOf sizes (now (kinds .entry)) (now (destinations .entry)) (now (sources .entry)) (now (starts .entry)) (now (entries .entry)) (now («label_starts» .entry)) (now («label_entries» .entry))) (now (weights .entry))) (statesOf (modelOf sizes (now (kinds .entry)) (now (destinations .entry)) (now (sources .entry)) (now (starts .entry)) (now (entries .entry)) (now («label_starts» .entry)) (now («label_entries» .entry))) (now (weights .entry)) (wordsIn sizes (now (begins .entry)) (now (ids .entry)) (now (values .entry))) first words) (now (references .entry)) (now (path .exit)) r ⌝ }
+{
+    let mut transitions = [0.0; 256];
+    let mut states = [0.0; 256];
+    let square = sizes.labels * sizes.labels;
+    let rows = words * sizes.labels;
+    predict_in(
+        sizes,
+        kinds,
+        destinations,
+        sources,
+        starts,
+        entries,
+        label_starts,
+        label_entries,
+        begins,
+        ids,
+        values,
+        weights,
+        first,
+        words,
+        references,
+        &mut transitions[..square],
+        &mut states[..rows],
+        path,
+    )
+}
+
+// Any line: the most words, with the most labels each.
+fn predict_long(
+    sizes: Sizes,
+    kinds: &[u8],
+    destinations: &[u32],
+    sources: &[u32],
+    starts: &[u32],
+    entries: &[u32],
+    label_starts: &[u32],
+    label_entries: &[u32],
+    begins: &[u32],
+    ids: &[u32],
+    values: &[f64],
+    weights: &[f64],
+    first: usize,
+    words: usize,
+    references: &[u32],
+    path: &mut [u32],
+) -> Prediction
+    requires { ⌜ SoundModel (modelOf sizes (now kinds) (now destinations) (now sources) (now starts) (now entries) (now «label_starts») (now «label_entries»)) ⌝ }
+    requires { ⌜ SoundLine (sizes .labels) (wordsIn sizes (now begins) (now ids) (now values)) first words (now references) ⌝ }
+    requires { ⌜ (length (now weights) ≡ sizes .features) × (length (now path) ≡ words) ⌝ }
+    ensures { λ r. ⌜ Judged (sizes .labels) words (transitionsOf (modelOf sizes (now (kinds .entry)) (now (destinations .entry)) (now (sources .entry)) (now (starts .entry)) (now (entries .entry)) (now («label_starts» .entry)) (now («label_entries» .entry))) (now (weights .entry))) (statesOf (modelOf sizes (now (kinds .entry)) (now (destinations .entry)) (now (sources .entry)) (now (starts .entry)) (now (entries .entry)) (now («label_starts» .entry)) (now («label_entries» .entry))) (now (weights .entry)) (wordsIn sizes (now (begins .entry)) (now (ids .entry)) (now (values .entry))) first words) (now (references .entry)) (now (path .exit)) r ⌝ }
+{
+    let mut transitions = [0.0; 1024];
+    let mut states = [0.0; 4096];
+    let square = sizes.labels * sizes.labels;
+    let rows = words * sizes.labels;
+    predict_in(
+        sizes,
+        kinds,
+        destinations,
+        sources,
+        starts,
+        entries,
+        label_starts,
+        label_entries,
+        begins,
+        ids,
+        values,
+        weights,
+        first,
+        words,
+        references,
+        &mut transitions[..square],
+        &mut states[..rows],
+        path,
+    )
+}
+
+// The predicted path of the instance whose words begin at `first`, and what a visit has to know of it.
+pub fn predict(
+    sizes: Sizes,
+    kinds: &[u8],
+    destinations: &[u32],
+    sources: &[u32],
+    starts: &[u32],
+    entries: &[u32],
+    label_starts: &[u32],
+    label_entries: &[u32],
+    begins: &[u32],
+    ids: &[u32],
+    values: &[f64],
+    weights: &[f64],
+    first: usize,
+    words: usize,
+    references: &[u32],
+    path: &mut [u32],
+) -> Prediction
+    requires { ⌜ SoundModel (modelOf sizes (now kinds) (now destinations) (now sources) (now starts) (now entries) (now «label_starts») (now «label_entries»)) ⌝ }
+    requires { ⌜ SoundLine (sizes .labels) (wordsIn sizes (now begins) (now ids) (now values)) first words (now references) ⌝ }
+    requires { ⌜ (length (now weights) ≡ sizes .features) × (length (now path) ≡ words) ⌝ }
+    ensures { λ r. ⌜ Judged (sizes .labels) words (transitionsOf (modelOf sizes (now (kinds .entry)) (now (destinations .entry)) (now (sources .entry)) (now (starts .entry)) (now (entries .entry)) (now («label_starts» .entry)) (now («label_entries» .entry))) (now (weights .entry))) (statesOf (modelOf sizes (now (kinds .entry)) (now (destinations .entry)) (now (sources .entry)) (now (starts .entry)) (now (entries .entry)) (now («label_starts» .entry)) (now («label_entries» .entry))) (now (weights .entry)) (wordsIn sizes (now (begins .entry)) (now (ids .entry)) (now (values .entry))) first words) (now (references .entry)) (now (path .exit)) r ⌝ }
+{
+    let labels = sizes.labels;
+    if (labels * labels <= 256) & (words * labels <= 256) {
+        predict_short(
+            sizes,
+            kinds,
+            destinations,
+            sources,
+            starts,
+            entries,
+            label_starts,
+            label_entries,
+            begins,
+            ids,
+            values,
+            weights,
+            first,
+            words,
+            references,
+            path,
+        )
+    } else {
+        predict_long(
+            sizes,
+            kinds,
+            destinations,
+            sources,
+            starts,
+            entries,
+            label_starts,
+            label_entries,
+            begins,
+            ids,
+            values,
+            weights,
+            first,
+            words,
+            references,
+            path,
+        )
+    }
+}

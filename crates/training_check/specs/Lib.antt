@@ -1,0 +1,5 @@
+pub mod Lent
+pub mod Rows
+pub mod Sound
+pub mod Meaning
+pub mod Examples

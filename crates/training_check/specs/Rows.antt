@@ -1,0 +1,124 @@
+-- Document 01, "Numbered refusals", the rows of a trainer, and their order: 1, 2, 3, 4, 5, 6, 7. Assumes nothing.
+use mathlib.Core.List.{List, [], _∷_, _++_}
+use Prim.Native.Nat.{ℕ, _+_}
+use lib.ListN.{length}
+use Rattle.refusals.specs.declared.Checked.{Checked}
+use Rattle.refusals.specs.Refusals.{first}
+use Rattle.score_tables.specs.Rows.{one}
+use Rattle.refusal_rows.specs.Limits.{Limit, atMost, between, room, two}
+use Rattle.refusal_rows.specs.Tests.{Test, startsRise, linesFit, idsBelow, numbersFinite, checks}
+use Rattle.lines.specs.Tables.{Model}
+use Rattle.feature_gen.specs.Rows.{modelLimits, startTests, idTests}
+use Rattle.line_check.specs.Rows.{lineLimits, valueTests}
+use Rattle.training.specs.Data.{Data}
+use Rattle.parameters.specs.declared.Perceptron.{Perceptron}
+use Rattle.parameters.specs.declared.Passive.{Passive}
+use Rattle.parameters.specs.declared.Arow.{Arow}
+use Rattle.parameters.specs.Parameters.{Parameter, sevens, perceptronsOwn, passivesOwn, arowsOwn}
+use Rattle.training_check.specs.declared.Lent.{Lent}
+
+-- what every trainer is given: "Feature counts and trainers are lent no weight table"
+pub record Input : Type 0 where
+  pub model : Model
+  pub corpus : Data
+  pub lent : Lent
+
+-- "Instances N: 1 to 16,384."
+abbrev pub mostInstances : ℕ
+mostInstances = 16384
+
+-- "Words in all: at most 1,048,576"
+abbrev pub mostWordsInAll : ℕ
+mostWordsInAll = 1048576
+
+-- ---- 2 | "a count other than L, T and epochs outside its bound, or a lent buffer too short" | 0
+
+-- the instances; their words and attributes have the limits of a line of so many words
+abbrev pub dataLimits : Data → List Limit
+dataLimits d =
+    (between 1 mostInstances (d .instances)
+    ∷ atMost mostWordsInAll (d .count)
+    ∷ [])
+    ++ lineLimits (d .count) (d .words)
+    ++ (room (length (d .starts)) (d .instances + 1)
+    ∷ room (length (d .references)) (d .count)
+    ∷ room (length (d .weights)) (d .instances)
+    ∷ [])
+
+-- the result and work buffers
+abbrev pub lentLimits : ℕ → ℕ → Lent → List Limit
+lentLimits features instances lent =
+    room (lent .weights) features
+    ∷ room (lent .beside) features
+    ∷ room (lent .truly) features
+    ∷ room (lent .predicted) features
+    ∷ room (lent .order) instances
+    ∷ []
+
+abbrev pub inputLimits : Input → List Limit
+inputLimits g =
+    modelLimits (g .model)
+    ++ dataLimits (g .corpus)
+    ++ lentLimits (g .model .features .count) (g .corpus .instances) (g .lent)
+
+-- ---- 3 | "a rule of starts is broken" | "index of the first bad start": "attribute lists; label lists; words; attributes"
+
+abbrev pub inputStarts : Input → List Test
+inputStarts g =
+    startTests (g .model)
+    ++ (startsRise (g .corpus .starts) (g .corpus .instances) (g .corpus .count)
+    ∷ startsRise (g .corpus .words .starts) (g .corpus .count) (g .corpus .words .size)
+    ∷ [])
+
+-- ---- 4 | "a T outside 1 to 128" | "instance index"
+
+abbrev pub lengthTests : Data → List Test
+lengthTests d = linesFit (d .starts) (d .instances) ∷ []
+
+-- ---- 5 | ".. label at or above L" | "index in its table": after the model's own rows the reference labels
+
+abbrev pub inputIds : Input → List Test
+inputIds g = idTests (g .model) ++ idsBelow (g .corpus .references) (g .corpus .count) (g .model .labels) ∷ []
+
+-- ---- 6 | "a .. value, instance weight .. not finite" | "index in its table": "attributes; .. instance weights"
+
+abbrev pub inputNumbers : Data → List Test
+inputNumbers d = valueTests (d .words) ++ numbersFinite (d .weights) (d .instances) ∷ []
+
+-- ---- the order: "The lowest number wins"
+
+-- a trainer with these parameters of its own
+unfoldable pub trainingChecked : Input → List Parameter → Checked
+trainingChecked g parameters =
+    first
+    (one (g .model .labels)
+    ∷ two (inputLimits g)
+    ∷ checks (inputStarts g)
+    ++ checks (lengthTests (g .corpus))
+    ++ checks (inputIds g)
+    ++ checks (inputNumbers (g .corpus))
+    ++ sevens parameters)
+
+abbrev pub perceptronChecked : Input → Perceptron → Checked
+perceptronChecked g p = trainingChecked g (perceptronsOwn p)
+
+abbrev pub passiveChecked : Input → Passive → Checked
+passiveChecked g p = trainingChecked g (passivesOwn p)
+
+abbrev pub arowChecked : Input → Arow → Checked
+arowChecked g p = trainingChecked g (arowsOwn p)
+
+-- what the three share: everything before 7
+unfoldable pub inputChecked : Input → Checked
+inputChecked g =
+    first
+    (one (g .model .labels)
+    ∷ two (inputLimits g)
+    ∷ checks (inputStarts g)
+    ++ checks (lengthTests (g .corpus))
+    ++ checks (inputIds g)
+    ++ checks (inputNumbers (g .corpus)))
+
+-- the first two: what can be said before any table is read
+unfoldable pub inputSized : Input → Checked
+inputSized g = first (one (g .model .labels) ∷ two (inputLimits g) ∷ [])

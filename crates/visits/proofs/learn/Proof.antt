@@ -1,0 +1,85 @@
+use mathlib.Core.Path.{_≡_, refl, sym, ap, _∙_}
+use mathlib.Core.Bool.{true, false, _&&_}
+use Prim.Native.Nat.{_+_, _-_, _*_, _≤_, _<_}
+use native.Mathlib.Omega.{arith}
+use borrow.Author.Needs.{needs}
+use lib.Dec.{le→leb}
+use lib.Ieee.{inFloat}
+use Rattle.visits.proofs.Laws.{held, not-held, refused-counted}
+use Rattle.visits.proofs.learn.Statement.{statement}
+use Rattle.visits.proofs.learn.Tie as tie
+use Rattle.visits.proofs.learn.Reads as reads
+use Rattle.visits.proofs.learn.Lts as lts
+use Rattle.binary64.proofs.is_finite.Reads as is-finite-reads
+use Rattle.visits.proofs.refuse.Reads as refuse-reads
+use Rattle.visits.proofs.update.Reads as update-reads
+
+-- src/lib.rt:132:18
+add-visits : tie.Need-add-visits
+add-visits c = search needs
+
+-- src/lib.rt:133:19
+int-to-float-counter : tie.Need-int-to-float-counter
+unfolding inFloat
+int-to-float-counter c = le→leb (c .before .before .before .before .before .before .args .s .visits + 1) 9007199254740992 (omega (arith, c .before .before .before .before .before .before .pre .1))
+
+-- src/lib.rt:134:9
+update-requires : tie.Need-update-requires
+update-requires c κs = search needs
+
+-- src/lib.rt:136:25
+is-finite-requires : tie.Need-is-finite-requires
+is-finite-requires c κs = search needs
+
+-- src/lib.rt:140:22
+add-t22 : tie.Need-add-t22
+add-t22 c = search needs
+
+-- src/lib.rt:137:9
+same-length : tie.Need-same-length
+same-length c = search needs
+
+-- src/lib.rt:137:9
+same-length-2 : tie.Need-same-length-2
+same-length-2 c = search needs
+
+-- src/lib.rt:137:9
+returns : tie.Need-returns
+returns c =
+    let u = c .before .before .before .before .before .before .before .before .before .before .update .ensures in
+    (held _ _ _ _ u _ (c .before .before .before .is-finite .ensures) (c .before .if1 .taken), record { visits = omega arith; updates = omega (arith, c .before .before .before .before .before .before .before .before .before .before .before .before .before .before .before .before .before .before .before .pre .1) })
+
+-- src/lib.rt:144:5
+refuse-requires : tie.Need-refuse-requires
+refuse-requires c κs = search needs
+
+-- src/lib.rt:115:1
+same-length-3 : tie.Need-same-length-3
+same-length-3 c = search needs
+
+-- src/lib.rt:115:1
+same-length-4 : tie.Need-same-length-4
+same-length-4 c = search needs
+
+-- src/lib.rt:115:1
+returns-2 : tie.Need-returns-2
+returns-2 c =
+    let u = c .before .before .before .before .before .before .before .before .before .before .update .ensures in
+    (not-held _ _ _ _ u _ (c .before .before .before .is-finite .ensures) (c .before .if1 .left) (c .refuse .ensures _), refused-counted 9 _ _ (c .refuse .ensures) (c .before .before .before .before .before .before .before .before .before .before .before .before .before .before .before .before .before .before .before .pre .1 .1))
+
+pub learn-spec : {M : Type 1} → statement M
+learn-spec =
+    tie.close
+    (tie.spec
+    add-visits
+    int-to-float-counter
+    update-requires
+    is-finite-requires
+    add-t22
+    same-length
+    same-length-2
+    returns
+    refuse-requires
+    same-length-3
+    same-length-4
+    returns-2)

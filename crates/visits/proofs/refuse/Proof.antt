@@ -1,0 +1,18 @@
+use mathlib.Core.Path.{_≡_, refl, sym, ap, _∙_}
+use mathlib.Core.Bool.{true, false, _&&_}
+use Prim.Native.Nat.{_+_, _-_, _*_, _≤_, _<_}
+use native.Mathlib.Omega.{arith}
+use borrow.Author.Needs.{needs}
+use Rattle.training.specs.Visits.{refusedAs}
+use Rattle.visits.proofs.refuse.Statement.{statement}
+use Rattle.visits.proofs.refuse.Tie as tie
+use Rattle.visits.proofs.refuse.Reads as reads
+use Rattle.visits.proofs.refuse.Lts as lts
+
+-- src/lib.rt:100:1
+returns : tie.Need-returns
+unfolding refusedAs
+returns c = λ l. refl
+
+pub refuse-spec : {M : Type 1} → statement M
+refuse-spec = tie.close (tie.spec returns)
