@@ -1,5 +1,7 @@
 //! The declarations of include/bodkinbloom.h. Nothing holds one against the other but the runs.
 
+use oracle::tables;
+
 #[repr(C)]
 #[derive(Debug, Clone, Copy, PartialEq, Eq)]
 pub struct Refused {
@@ -23,6 +25,71 @@ pub struct Scored {
     pub number: u32,
     pub place: u64,
     pub score: f64,
+}
+
+#[repr(C)]
+#[derive(Debug, Clone, Copy, PartialEq, Eq)]
+pub struct Counts {
+    pub features: u32,
+    pub attribute_lists: u32,
+    pub label_lists: u32,
+    pub attribute_entries: u32,
+    pub label_entries: u32,
+}
+
+#[repr(C)]
+#[derive(Debug, Clone, Copy, PartialEq)]
+pub struct Perceptron {
+    pub epochs: u32,
+    pub epsilon: f64,
+    pub seed: u64,
+}
+
+#[repr(C)]
+#[derive(Debug, Clone, Copy, PartialEq)]
+pub struct Passive {
+    pub epochs: u32,
+    pub epsilon: f64,
+    pub seed: u64,
+    pub variant: u32,
+    pub c: f64,
+    pub sensitive: u32,
+    pub averaging: u32,
+}
+
+#[repr(C)]
+#[derive(Debug, Clone, Copy, PartialEq)]
+pub struct Arow {
+    pub epochs: u32,
+    pub epsilon: f64,
+    pub seed: u64,
+    pub variance: f64,
+    pub gamma: f64,
+}
+
+#[repr(C)]
+#[derive(Debug, Clone, Copy, PartialEq, Eq)]
+pub struct Totals {
+    pub instances: u32,
+    pub words: u32,
+    pub attributes: u32,
+}
+
+#[repr(C)]
+#[derive(Debug, Clone, Copy, PartialEq, Eq)]
+pub struct Trained {
+    pub number: u32,
+    pub place: u64,
+    pub epochs: u64,
+    pub visits: u64,
+    pub updates: u64,
+}
+
+impl From<tables::Counts> for Counts {
+    fn from(counts: tables::Counts) -> Self {
+        let tables::Counts { features, attribute_lists, label_lists, attribute_entries, label_entries } = counts;
+        Self { features, attribute_lists, label_lists, attribute_entries, label_entries }
+    }
 }
 
 unsafe extern "C" {
@@ -51,4 +118,81 @@ unsafe extern "C" {
         path_length: usize,
         length: u32,
     ) -> Scored;
+}
+
+/// Calls that take numbers, tables, numbers, tables, and buffers to change: each of those in brackets is a pointer, then
+/// its length.
+macro_rules! declared {
+    ($(fn $name:ident(
+        $($number:ident: $of:ty),*; [$($table:ident: $entry:ty),*];
+        $($more:ident: $kind:ty),*; [$($line:ident: $part:ty),*];
+        mut [$($buffer:ident: $lent:ty),*]
+    ) -> $answer:ty;)*) => {
+        unsafe extern "C" {
+            $(pub fn $name(
+                $($number: $of,)* $($table: *const $entry, _: usize,)*
+                $($more: $kind,)* $($line: *const $part, _: usize,)*
+                $($buffer: *mut $lent, _: usize,)*
+            ) -> $answer;)*
+        }
+    };
+}
+
+declared! {
+    fn bodkinbloom_check_model(
+        labels: u32, counts: Counts;
+        [kinds: u8, destinations: u32, sources: u32, weights: f64,
+         attribute_starts: u32, attribute_entries: u32, label_starts: u32, label_entries: u32];
+        ; []; mut []
+    ) -> Refused;
+
+    fn bodkinbloom_set_weights(features: u32; [new: f64]; ; []; mut [weights: f64]) -> Refused;
+
+    fn bodkinbloom_compute_scores(
+        labels: u32, counts: Counts;
+        [kinds: u8, destinations: u32, sources: u32, weights: f64,
+         attribute_starts: u32, attribute_entries: u32, label_starts: u32, label_entries: u32];
+        words: u32, attributes: u32; [begins: u32, ids: u32, values: f64];
+        mut [states: f64, transitions: f64]
+    ) -> Refused;
+
+    fn bodkinbloom_extract_features(
+        labels: u32, counts: Counts;
+        [kinds: u8, destinations: u32, sources: u32,
+         attribute_starts: u32, attribute_entries: u32, label_starts: u32, label_entries: u32];
+        words: u32, attributes: u32; [begins: u32, ids: u32, values: f64, path: u32];
+        mut [feature_counts: f64]
+    ) -> Refused;
+
+    fn bodkinbloom_label_line(
+        labels: u32, counts: Counts;
+        [kinds: u8, destinations: u32, sources: u32, weights: f64,
+         attribute_starts: u32, attribute_entries: u32, label_starts: u32, label_entries: u32];
+        words: u32, attributes: u32; [begins: u32, ids: u32, values: f64];
+        mut [path: u32]
+    ) -> Decoded;
+
+    fn bodkinbloom_averaged_perceptron(
+        parameters: Perceptron, labels: u32, counts: Counts;
+        [kinds: u8, destinations: u32, sources: u32,
+         attribute_starts: u32, attribute_entries: u32, label_starts: u32, label_entries: u32];
+        totals: Totals; [lines: u32, begins: u32, ids: u32, values: f64, references: u32, shares: f64];
+        mut [weights: f64, beside: f64, truly: f64, predicted: f64, order: u32]
+    ) -> Trained;
+
+    fn bodkinbloom_passive_aggressive(
+        parameters: Passive, labels: u32, counts: Counts;
+        [kinds: u8, destinations: u32, sources: u32,
+         attribute_starts: u32, attribute_entries: u32, label_starts: u32, label_entries: u32];
+        totals: Totals; [lines: u32, begins: u32, ids: u32, values: f64, references: u32, shares: f64];
+        mut [weights: f64, beside: f64, truly: f64, predicted: f64, order: u32]
+    ) -> Trained;
+
+    fn bodkinbloom_arow(
+        parameters: Arow, labels: u32, counts: Counts;
+        [kinds: u8, destinations: u32, sources: u32,
+         attribute_starts: u32, attribute_entries: u32, label_starts: u32, label_entries: u32];
+        totals: Totals; [lines: u32, begins: u32, ids: u32, values: f64, references: u32, shares: f64];
+        mut [weights: f64, beside: f64, truly: f64, predicted: f64, order: u32]
+    ) -> Trained;
 }

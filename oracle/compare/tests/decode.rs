@@ -1,24 +1,24 @@
 //! Decoding and the scores of paths by the archive: path and path score against the Rust, sum and lead against the
 //! reference beside it, refusals against the plain checker; to the bit, and all lent memory looked at.
 
-use std::collections::{BTreeMap, BTreeSet};
+mod shared;
+
 use std::ptr;
 
 use compare::decode::{self, sequence_score, viterbi_decode};
 use compare::{Refusal, calls};
 use oracle::cases::calls::{DecodeCall, PathCall};
-use oracle::cases::damage::{self, Fault};
+use oracle::cases::damage;
 use oracle::cases::make::{self, NOT_FINITE, PALETTES, Tails};
 use oracle::cases::{Mix, Rng, calls as cases};
 use oracle::judge::{self, Decoded};
-use oracle::refusals::{self, Lent};
+use oracle::refusals::Lent;
 use oracle::tables::{Scores, same};
 use oracle::{desk, reference, rust};
+use shared::{Call, refusal, refused_as_owed, rounds};
 
 /// Tables that are decoded.
 const CASES: u64 = 24_000;
-/// Damaged copies of each call.
-const DAMAGED: u64 = 12_000;
 /// Words of memory before and behind what is lent.
 const MARGIN: usize = 5;
 
@@ -58,10 +58,6 @@ fn owed(call: &DecodeCall) -> Result<Decoded, Refusal> {
 
 fn owed_score(call: &PathCall) -> Result<f64, Refusal> {
     judge::path_score(&call.scores, &call.path, call.length, &[]).map_err(refusal)
-}
-
-fn refusal(refusal: refusals::Refusal) -> Refusal {
-    (refusal.number, refusal.place.into())
 }
 
 /// The same answer, numbers to the bit.
@@ -112,7 +108,7 @@ fn decodes_as_the_rust_does() {
         .require("T 128", 2.0)
         .require("L above 5 and T above 7", 2.0);
     let mut gone_through = 0;
-    for number in 0..CASES {
+    for number in 0..CASES * rounds() {
         let mut rng = Rng::of_case(0xDEC0, number);
         let call = tables(&mut rng);
         let (scores, words) = (&call.scores, call.scores.words as usize);
@@ -160,7 +156,7 @@ fn scores_paths_as_the_rust_does() {
         .require("not the sum of decode", 5.0)
         .require("a path with a tail", 30.0)
         .require("junk behind a table", 50.0);
-    for number in 0..CASES {
+    for number in 0..CASES * rounds() {
         let call = cases::path(&mut Rng::of_case(0x5C0E, number));
         let PathCall { scores, path, length } = &call;
         let front = &path[..*length as usize];
@@ -198,69 +194,35 @@ fn desk_cases() {
 
 // ---- refusals
 
-/// Damaged copies: each is refused as the plain checker says. Every fault is tried, and every number is met so often.
-fn refused_as_owed<C: Clone + std::fmt::Debug + 'static>(
-    name: &'static str,
-    make: fn(&mut Rng) -> C,
-    faults: &[Fault<C>],
-    numbers: &[u32],
-    run: impl Fn(&C, &mut Rng) -> Option<Refusal>,
-    owed: impl Fn(&C) -> Option<Refusal>,
-) {
-    const OFTEN: u64 = 500;
-    let mut mix = Mix::new(name)
-        .require("two faults", 45.0)
-        .require("two numbers", 20.0)
-        .require("two of one number", 5.0)
-        .require("place above 0", 8.0);
-    let (mut used, mut met) = (BTreeSet::new(), BTreeMap::<u32, u64>::new());
-    for number in 0..DAMAGED {
-        let mut rng = Rng::of_case(0xDA3A, number);
-        let sound = make(&mut rng);
-        assert_eq!(run(&sound, &mut rng), None, "{name}, case {number}: {sound:?}");
-        let many = 1 + (number % 2) as usize;
-        let (call, applied) = damage::damaged(&mut rng, faults, &sound, many);
-        let names: Vec<&str> = applied.iter().map(|fault| fault.name).collect();
-        let refused = run(&call, &mut rng);
-        assert_eq!(refused, owed(&call), "{name}, case {number}: {names:?}: {call:?}");
-        let (first, place) = refused.expect("a damaged call is refused");
-        used.extend(names);
-        *met.entry(first).or_default() += 1;
-        let two = |same: bool| applied.len() == 2 && (applied[0].number == applied[1].number) == same;
-        mix.case();
-        mix.count("two faults", applied.len() == 2);
-        mix.count("two numbers", two(false));
-        mix.count("two of one number", two(true));
-        mix.count("place above 0", place > 0);
-    }
-    println!("{name}: refused under each number: {met:?}");
-    assert_eq!(used, faults.iter().map(|fault| fault.name).collect(), "every fault is tried");
-    assert!(met.keys().eq(numbers) && met.values().all(|times| *times >= OFTEN), "{met:?}");
-    mix.finish();
+/// The path's buffer is a part of the call.
+fn no_buffers<C>(_: &C) -> Vec<usize> {
+    vec![]
 }
 
 #[test]
 fn refuses_damaged_tables() {
-    refused_as_owed(
-        "damaged tables",
-        cases::decode,
-        &damage::of_decode_call(),
-        &[1, 2, 4, 6],
-        |call, rng| decoded(call, rng).err(),
-        |call| owed(call).err(),
-    );
+    let call = Call {
+        name: "damaged tables",
+        often: 500,
+        make: cases::decode,
+        needed: no_buffers,
+        run: |call, _, rng| decoded(call, rng).err(),
+        owed: |call, _| owed(call).err(),
+    };
+    refused_as_owed(call, &damage::of_decode_call(), &[1, 2, 4, 6]);
 }
 
 #[test]
 fn refuses_damaged_paths() {
-    refused_as_owed(
-        "damaged paths",
-        cases::path,
-        &damage::of_path_call(),
-        &[1, 2, 4, 5, 6],
-        |call, _| scored(call).err(),
-        |call| owed_score(call).err(),
-    );
+    let call = Call {
+        name: "damaged paths",
+        often: 500,
+        make: cases::path,
+        needed: no_buffers,
+        run: |call, _, _| scored(call).err(),
+        owed: |call, _| owed_score(call).err(),
+    };
+    refused_as_owed(call, &damage::of_path_call(), &[1, 2, 4, 5, 6]);
 }
 
 /// A number that is not finite, at every place of both tables, also where another follows; and the largest tables.

@@ -1,0 +1,163 @@
+//! Scoring and counting lines of one model: the library's whole public call, which tests the model's tables and the
+//! line's each time, and the Rust text, which tests nothing. The check of the model alone is a part of both calls.
+
+use std::hint::black_box;
+
+use compare::scoring::{check_model, compute_scores, extract_features};
+use crfs::dataset::{Attribute, Instance};
+use crfs::open::Open;
+use crfs::train::crf_context::{ScoreContext, probe};
+use crfs::train::feature_gen::{Feature, FeatureGenerator, FeatureRefs, FeatureType};
+use crfs::train::trainer::{Arow, Trainer};
+use oracle::cases::Rng;
+use oracle::cases::make::{self, Palette};
+use oracle::tables::{Counts, Line, Model, STATE, TRANSITION, all_same};
+
+use crate::times::{median, pass};
+
+/// A row: a Transition feature for every two labels, the other features in attribute lists.
+pub struct Shape {
+    pub labels: u32,
+    pub words: u32,
+    pub features: u32,
+    /// Of a word.
+    pub attributes: u32,
+    /// Of an attribute list.
+    pub entries: u32,
+}
+
+const SHAPES: [Shape; 3] = [
+    Shape { labels: 5, words: 20, features: 2_000, attributes: 8, entries: 5 },
+    Shape { labels: 10, words: 50, features: 20_000, attributes: 8, entries: 10 },
+    Shape { labels: 32, words: 128, features: 65_535, attributes: 8, entries: 16 },
+];
+/// Lines of one model.
+const LINES: usize = 64;
+const PASSES: usize = 15;
+
+struct Case {
+    line: Line,
+    labels: Vec<u32>,
+    instance: Instance,
+}
+
+pub fn print() {
+    println!("scoring and counting, nanoseconds a call, medians over {PASSES} passes; ratio: Rust over library");
+    for shape in SHAPES {
+        let mut rng = Rng::new(u64::from(shape.features));
+        let model = model(&mut rng, &shape);
+        let cases: Vec<Case> = (0..LINES).map(|_| case(&mut rng, &model, &shape)).collect();
+        row(&model, &cases, &shape);
+    }
+}
+
+/// Label lists come first among the features, then the attribute lists.
+pub fn model(rng: &mut Rng, shape: &Shape) -> Model {
+    let Shape { labels, features, entries, .. } = *shape;
+    let moves = labels * labels;
+    let lists = (features - moves).div_ceil(entries);
+    Model {
+        labels,
+        counts: Counts {
+            features,
+            attribute_lists: lists,
+            label_lists: labels,
+            attribute_entries: features - moves,
+            label_entries: moves,
+        },
+        kinds: (0..features).map(|i| if i < moves { TRANSITION } else { STATE }).collect(),
+        destinations: (0..features).map(|i| if i < moves { i % labels } else { rng.below(labels) }).collect(),
+        sources: (0..features).map(|i| if i < moves { i / labels } else { 0 }).collect(),
+        weights: make::numbers(rng, Palette::Plain, features as usize),
+        attribute_starts: (0..=lists).map(|list| (list * entries).min(features - moves)).collect(),
+        attribute_entries: (moves..features).collect(),
+        label_starts: (0..=labels).map(|label| label * labels).collect(),
+        label_entries: (0..moves).collect(),
+    }
+}
+
+pub fn line(rng: &mut Rng, model: &Model, shape: &Shape) -> Line {
+    let attributes = shape.words * shape.attributes;
+    Line {
+        words: shape.words,
+        attributes,
+        starts: (0..=shape.words).map(|word| word * shape.attributes).collect(),
+        ids: (0..attributes).map(|_| rng.below(model.counts.attribute_lists)).collect(),
+        values: make::numbers(rng, Palette::Plain, attributes as usize),
+    }
+}
+
+fn case(rng: &mut Rng, model: &Model, shape: &Shape) -> Case {
+    let line = line(rng, model, shape);
+    let labels = make::path(rng, shape.labels, shape.words);
+    let attributes: Vec<Attribute> =
+        line.ids.iter().zip(&line.values).map(|(id, value)| Attribute::new(*id, *value)).collect();
+    let items = attributes.chunks_exact(shape.attributes as usize).map(<[Attribute]>::to_vec).collect();
+    let instance = Instance { num_items: shape.words, items, labels: labels.clone(), weight: 1.0 };
+    Case { line, labels, instance }
+}
+
+/// The model as the Rust has it.
+fn generator(model: &Model) -> FeatureGenerator {
+    let feature = |i: usize| Feature {
+        ftype: if model.kinds[i] == STATE { FeatureType::State } else { FeatureType::Transition },
+        src: model.sources[i],
+        dst: model.destinations[i],
+        weight: model.weights[i],
+    };
+    let lists = |starts: &[u32], entries: &[u32]| {
+        let list = |pair: &[u32]| FeatureRefs { fids: entries[pair[0] as usize..pair[1] as usize].to_vec() };
+        starts.windows(2).map(list).collect()
+    };
+    FeatureGenerator {
+        features: (0..model.kinds.len()).map(feature).collect(),
+        attr_refs: lists(&model.attribute_starts, &model.attribute_entries),
+        label_refs: lists(&model.label_starts, &model.label_entries),
+    }
+}
+
+fn row(model: &Model, cases: &[Case], shape: &Shape) {
+    let Shape { labels, words, features, attributes, entries } = *shape;
+    let features_of_the_text = generator(model);
+    let trainer = Trainer::<Arow>::new();
+    let mut context = ScoreContext::new(labels as usize, words as usize);
+    let (mut states, mut transitions) = (vec![0.0; (words * labels) as usize], vec![0.0; (labels * labels) as usize]);
+    let mut counts = vec![0.0; features as usize];
+
+    // all give the same, to the bit
+    for Case { line, labels, instance } in cases {
+        assert_eq!(compute_scores(model, line, &mut states, &mut transitions), Ok(()));
+        context.compute_scores(instance, &features_of_the_text);
+        assert!(all_same(&states, &probe::state_scores(&context).concat()));
+        assert!(all_same(&transitions, &probe::trans_scores(&context).concat()));
+        assert_eq!(extract_features(model, line, labels, &mut counts), Ok(()));
+        assert!(all_same(&counts, &trainer.counts(instance, labels, &features_of_the_text)));
+    }
+
+    let mut times: [Vec<f64>; 5] = Default::default();
+    for _ in 0..PASSES {
+        times[0].extend(pass(cases, |_| black_box(check_model(black_box(model))).is_ok()));
+        times[1].extend(pass(cases, |case| {
+            black_box(compute_scores(black_box(model), &case.line, &mut states, &mut transitions)).is_ok()
+        }));
+        times[2].extend(pass(cases, |case| {
+            context.compute_scores(black_box(&case.instance), black_box(&features_of_the_text));
+            black_box(probe::state_scores(&context)).len() == words as usize
+        }));
+        times[3].extend(pass(cases, |case| {
+            black_box(extract_features(black_box(model), &case.line, &case.labels, &mut counts)).is_ok()
+        }));
+        times[4].extend(pass(cases, |case| {
+            let counts = trainer.counts(black_box(&case.instance), &case.labels, black_box(&features_of_the_text));
+            black_box(counts).len() == features as usize
+        }));
+    }
+    let [check, scored, scored_by_rust, counted, counted_by_rust] = times.map(median);
+    println!("L {labels:2} T {words:3} F {features:5}, {attributes} attributes a word, {entries:2} entries a list:");
+    for (call, library, rust) in [("scoring ", scored, scored_by_rust), ("counting", counted, counted_by_rust)] {
+        println!(
+            "  {call}: library {library:7.0}, of which the model's check {check:7.0}; Rust {rust:7.0}; ratio {:.3}",
+            rust / library
+        );
+    }
+}

@@ -1,0 +1,208 @@
+/* Scoring, counting and labelling a line as a C program calls them: one small model worked out by hand, NULL for tables of
+ * length 0, one refusal of each number, and the memory around what is lent. Numbers are compared to the bit. */
+#include <float.h>
+#include <inttypes.h>
+#include <math.h>
+#include <stdio.h>
+#include <string.h>
+#include "bodkinbloom.h"
+
+static int checks, failures;
+
+static void holds(const char *what, int yes) {
+    checks++;
+    if (!yes) {
+        printf("not so: %s\n", what);
+        failures++;
+    }
+}
+
+static int same(double x, double y) { return memcmp(&x, &y, sizeof x) == 0; }
+
+/* ---- two labels; State features 0 and 1, Transition features 2 (0 to 1) and 3 (1 to 0) */
+
+enum { L = 2, T = 2, F = 4 };
+
+static const bodkinbloom_counts counts = {
+    .features = F, .attribute_lists = 2, .label_lists = 2, .attribute_entries = 4, .label_entries = 2};
+static const uint8_t kinds[F] = {0, 0, 1, 1};
+static const uint32_t destinations[F] = {0, 1, 1, 0};
+static const uint32_t sources[F] = {77, 77, 0, 1};
+static const double weights[F] = {1.5, -0.5, 2, 0.25};
+static const uint32_t attribute_starts[3] = {0, 2, 4}, attribute_entries[4] = {0, 1, 1, 1};
+static const uint32_t label_starts[3] = {0, 1, 2}, label_entries[2] = {2, 3};
+
+/* ---- two words: attribute 0 and one without a list; attribute 1 */
+
+static const uint32_t begins[T + 1] = {0, 2, 3}, ids[3] = {0, 9, 1};
+static const double values[3] = {2, 7, 1};
+
+#define STRUCTURE kinds, F, destinations, F, sources, F
+#define LISTS attribute_starts, 3, attribute_entries, 4, label_starts, 3, label_entries, 2
+#define LINE begins, T + 1, ids, 3, values, 3
+
+static bodkinbloom_refused scores(uint32_t labels, uint32_t words, const double *w, const double *v, double *states,
+                                  size_t room, double *transitions) {
+    return bodkinbloom_compute_scores(labels, counts, STRUCTURE, w, F, LISTS, words, 3, begins, T + 1, ids, 3, v, 3,
+                                      states, room, transitions, L * L);
+}
+
+static bodkinbloom_decoded label(uint32_t labels, uint32_t words, const double *w, const double *v, uint32_t *path,
+                                 size_t room) {
+    return bodkinbloom_label_line(labels, counts, STRUCTURE, w, F, LISTS, words, 3, begins, T + 1, ids, 3, v, 3, path,
+                                  room);
+}
+
+static bodkinbloom_refused count(uint32_t labels, uint32_t words, const double *v, const uint32_t *path, double *found,
+                                 size_t room) {
+    return bodkinbloom_extract_features(labels, counts, STRUCTURE, LISTS, words, 3, begins, T + 1, ids, 3, v, 3, path, T,
+                                        found, room);
+}
+
+static int all(const double *table, const double *expected, size_t n) {
+    return memcmp(table, expected, n * sizeof *table) == 0;
+}
+
+static void refused(const char *what, bodkinbloom_refused answer, uint32_t number, uint64_t place) {
+    holds(what, answer.number == number && answer.place == place);
+}
+
+static void unlabelled(const char *what, bodkinbloom_decoded answer, uint32_t number, uint64_t place) {
+    holds(what, answer.number == number && answer.place == place && answer.has_lead == 0 && same(answer.sum, 0) &&
+                    same(answer.lead, 0));
+}
+
+static void by_hand(void) {
+    double states[6] = {9, 9, 9, 9, 9, 9}, transitions[4] = {9, 9, 9, 9}, found[5] = {9, 9, 9, 9, 9};
+    uint32_t path[3] = {7, 7, 7};
+    refused("the model is sound", bodkinbloom_check_model(L, counts, STRUCTURE, weights, F, LISTS), 0, 0);
+
+    refused("scored", scores(L, T, weights, values, states, 6, transitions), 0, 0);
+    holds("states, and what lies behind them", all(states, (double[]){3, -1, 0, -1, 9, 9}, 6));
+    holds("transitions", all(transitions, (double[]){0, 2, 0.25, 0}, 4));
+
+    bodkinbloom_decoded best = label(L, T, weights, values, path, 3);
+    holds("labelled", best.number == 0 && best.place == 0 && same(best.sum, 4) && best.has_lead == 1 && same(best.lead, 1));
+    holds("its path, and what lies behind it", path[0] == 0 && path[1] == 1 && path[2] == 7);
+
+    refused("counted", count(L, T, values, path, found, 5), 0, 0);
+    holds("counts, and what lies behind them", all(found, (double[]){2, 2, 1, 0, 9}, 5));
+
+    double set[5] = {9, 9, 9, 9, 9};
+    refused("set", bodkinbloom_set_weights(F, weights, F, set, 5), 0, 0);
+    holds("weights, and what lies behind them", all(set, (double[]){1.5, -0.5, 2, 0.25, 9}, 5));
+    refused("a weight that is not finite", bodkinbloom_set_weights(2, (double[]){1, NAN}, 2, set, 5), 6, 1);
+    refused("too few new weights", bodkinbloom_set_weights(2, (double[]){1}, 1, set, 5), 2, 0);
+    refused("too little room", bodkinbloom_set_weights(F, weights, F, set, 3), 2, 0);
+    refused("too many features", bodkinbloom_set_weights(65536, weights, F, set, 5), 2, 0);
+    holds("weights as at entry", all(set, (double[]){1.5, -0.5, 2, 0.25, 9}, 5));
+    refused("no weights", bodkinbloom_set_weights(0, NULL, 0, NULL, 0), 0, 0);
+}
+
+/* ---- refusals: after 1 to 6 everything is as it was */
+
+static void numbers(void) {
+    const double bad[F] = {1, 1, 1, INFINITY};
+    double states[4] = {9, 9, 9, 9}, transitions[4] = {9, 9, 9, 9}, found[4] = {9, 9, 9, 9};
+    uint32_t path[2] = {7, 7};
+    refused("no labels", scores(0, 0, bad, bad, states, 4, transitions), 1, 0);
+    refused("33 labels", scores(33, 0, bad, bad, states, 4, transitions), 1, 0);
+    refused("no words", scores(L, 0, bad, bad, states, 3, transitions), 4, 0);
+    refused("129 words", scores(L, 129, bad, bad, states, 3, transitions), 4, 0);
+    refused("too little room", scores(L, T, bad, bad, states, 3, transitions), 2, 0);
+    refused("starts that do not end at the count", scores(L, 1, bad, bad, states, 4, transitions), 3, 1);
+    refused("a destination at L", scores(1, T, bad, bad, states, 4, transitions), 5, 1);
+    refused("a weight that is not finite", scores(L, T, bad, bad, states, 4, transitions), 6, 3);
+    refused("a value that is not finite", scores(L, T, weights, &bad[1], states, 4, transitions), 6, 2);
+
+    unlabelled("33 labels", label(33, 0, bad, bad, path, 1), 1, 0);
+    unlabelled("129 words", label(L, 129, bad, bad, path, 1), 4, 0);
+    unlabelled("too little room", label(L, T, bad, bad, path, 1), 2, 0);
+    unlabelled("starts that do not end at the count", label(L, 1, bad, bad, path, 2), 3, 1);
+    unlabelled("a destination at L", label(1, T, bad, bad, path, 2), 5, 1);
+    unlabelled("a weight that is not finite", label(L, T, bad, bad, path, 2), 6, 3);
+
+    refused("33 labels", count(33, 0, &bad[1], path, found, 3), 1, 0);
+    refused("129 words", count(L, 129, &bad[1], path, found, 3), 4, 0);
+    refused("too little room", count(L, T, &bad[1], path, found, 3), 2, 0);
+    refused("starts that do not end at the count", count(L, 1, &bad[1], path, found, 4), 3, 1);
+    refused("a label at or above L", count(L, T, &bad[1], path, found, 4), 5, 0);
+    refused("a value that is not finite", count(L, T, &bad[1], (uint32_t[]){0, 1}, found, 4), 6, 2);
+
+    refused("the model: 33 labels", bodkinbloom_check_model(33, counts, STRUCTURE, bad, F, LISTS), 1, 0);
+    refused("the model: short weights", bodkinbloom_check_model(1, counts, STRUCTURE, bad, 3, LISTS), 2, 0);
+    refused("the model: a destination at L", bodkinbloom_check_model(1, counts, STRUCTURE, bad, F, LISTS), 5, 1);
+    refused("the model: a weight that is not finite", bodkinbloom_check_model(L, counts, STRUCTURE, bad, F, LISTS), 6, 3);
+
+    const double nines[4] = {9, 9, 9, 9};
+    holds("everything is as at entry", all(states, nines, 4) && all(transitions, nines, 4) && all(found, nines, 4) &&
+                                           path[0] == 7 && path[1] == 7);
+}
+
+/* ---- 8: what the call needs is zero, the rest as it was */
+
+static void not_finite(void) {
+    const double large[F] = {DBL_MAX, DBL_MAX, 0, 0}, moves[F] = {0, 0, DBL_MAX, 0};
+    double states[5] = {9, 9, 9, 9, 9}, transitions[4] = {9, 9, 9, 9}, found[5] = {9, 9, 9, 9, 9};
+    uint32_t path[3] = {7, 7, 7};
+    refused("a state overflows", scores(L, T, large, values, states, 5, transitions), 8, 0);
+    holds("zero", all(states, (double[]){0, 0, 0, 0, 9}, 5) && all(transitions, (double[]){0, 0, 0, 0}, 4));
+    unlabelled("a state overflows", label(L, T, large, values, path, 3), 8, 0);
+    holds("zero", path[0] == 0 && path[1] == 0 && path[2] == 7);
+
+    /* feature 2 twice in the list of label 0 */
+    path[0] = path[1] = 7;
+    const uint32_t starts[3] = {0, 2, 2}, twice[2] = {2, 2};
+#define OVERFLOWING STRUCTURE, moves, F, attribute_starts, 3, attribute_entries, 4, starts, 3, twice, 2, T, 3, LINE
+    refused("a transition overflows",
+            bodkinbloom_compute_scores(L, counts, OVERFLOWING, states, 5, transitions, 4), 8, T * L + 1);
+    unlabelled("a transition overflows", bodkinbloom_label_line(L, counts, OVERFLOWING, path, 3), 8, T * L + 1);
+    holds("zero", path[0] == 0 && path[1] == 0 && path[2] == 7);
+
+    refused("a count overflows", count(L, T, (double[]){0, 0, DBL_MAX}, (uint32_t[]){0, 1}, found, 5), 8, 1);
+    holds("zero", all(found, (double[]){0, 0, 0, 0, 9}, 5));
+}
+
+/* ---- NULL */
+
+#define NOTHING NULL, 0
+
+static void null_tables(void) {
+    const bodkinbloom_counts none = {0, 0, 0, 0, 0};
+    const uint32_t zeros[2] = {0, 0};
+    double states[1] = {9}, transitions[1] = {9};
+    uint32_t path[1] = {7};
+#define NO_MODEL NOTHING, NOTHING, NOTHING
+#define NO_LISTS NOTHING, NOTHING, NOTHING, NOTHING
+#define EMPTY_LISTS zeros, 1, NOTHING, zeros, 1, NOTHING
+    refused("all NULL", bodkinbloom_check_model(1, none, NO_MODEL, NOTHING, NO_LISTS), 2, 0);
+    refused("all NULL, no labels", bodkinbloom_check_model(0, none, NO_MODEL, NOTHING, NO_LISTS), 1, 0);
+    refused("all NULL", bodkinbloom_compute_scores(1, none, NO_MODEL, NOTHING, NO_LISTS, 1, 0, NOTHING, NOTHING, NOTHING,
+                                                   NOTHING, NOTHING), 2, 0);
+    refused("all NULL, no words", bodkinbloom_compute_scores(1, none, NO_MODEL, NOTHING, NO_LISTS, 0, 0, NOTHING, NOTHING,
+                                                             NOTHING, NOTHING, NOTHING), 4, 0);
+    refused("all NULL", bodkinbloom_extract_features(1, none, NO_MODEL, NO_LISTS, 1, 0, NOTHING, NOTHING, NOTHING, NOTHING,
+                                                     NOTHING), 2, 0);
+    unlabelled("all NULL", bodkinbloom_label_line(1, none, NO_MODEL, NOTHING, NO_LISTS, 1, 0, NOTHING, NOTHING, NOTHING,
+                                                  NOTHING), 2, 0);
+
+    /* a model without features and a word without attributes need no more than their starts */
+    refused("no features", bodkinbloom_check_model(1, none, NO_MODEL, NOTHING, EMPTY_LISTS), 0, 0);
+    refused("no features", bodkinbloom_compute_scores(1, none, NO_MODEL, NOTHING, EMPTY_LISTS, 1, 0, zeros, 2, NOTHING,
+                                                      NOTHING, states, 1, transitions, 1), 0, 0);
+    holds("scores are +0", same(states[0], 0) && same(transitions[0], 0));
+    refused("no features", bodkinbloom_extract_features(1, none, NO_MODEL, EMPTY_LISTS, 1, 0, zeros, 2, NOTHING, NOTHING,
+                                                        zeros, 1, NOTHING), 0, 0);
+    bodkinbloom_decoded best = bodkinbloom_label_line(1, none, NO_MODEL, NOTHING, EMPTY_LISTS, 1, 0, zeros, 2, NOTHING,
+                                                      NOTHING, path, 1);
+    holds("no features", best.number == 0 && same(best.sum, 0) && best.has_lead == 0 && path[0] == 0);
+}
+
+int main(void) {
+    by_hand();
+    numbers();
+    not_finite();
+    null_tables();
+    printf("%d checks of scoring, counting and labelling from C: %d failed\n", checks, failures);
+    return failures != 0;
+}
