@@ -8,7 +8,9 @@ ghost use Rattle.training.specs.Rules.{stops};
 ghost use Rattle.training.specs.Visits.{visited};
 ghost use Rattle.training.specs.Epochs.{isRefused, endsAfter, epochOver, epochUnlessOver};
 ghost use Rattle.training.specs.Orders.{OrderOf};
-ghost use Rattle.prediction.specs.Tables.{modelOf, dataOf, SoundModel, SoundData};
+ghost use Rattle.feature_gen.specs.Sound.{Sound};
+ghost use Rattle.training_check.specs.Sound.{SoundData};
+ghost use Rattle.prediction.specs.Tables.{modelOf, dataOf};
 ghost use Rattle.visits.specs.Visiting.{ruleOf, stateOf, Agreed, Exact};
 ghost use Rattle.epochs.specs.Running.{CountedIn, Finished, firstStep};
 use prediction::Sizes;
@@ -80,7 +82,7 @@ fn epoch(
     truly: &mut [f64],
     predicted: &mut [f64],
 ) -> Step
-    requires { ⌜ SoundModel (modelOf sizes (now kinds) (now destinations) (now sources) (now starts) (now entries) (now «label_starts») (now «label_entries»)) ⌝ }
+    requires { ⌜ Sound (modelOf sizes (now kinds) (now destinations) (now sources) (now starts) (now entries) (now «label_starts») (now «label_entries»)) ⌝ }
     requires { ⌜ SoundData (sizes .labels) (dataOf sizes (now lines) (now begins) (now ids) (now values) (now references) (now shares)) ⌝ }
     requires { ⌜ Exact (sizes .features) (now weights) (now beside) (now truly) (now predicted) ⌝ }
     requires { ⌜ (sizes .instances ≤ length (now order)) × ((j : ℕ) → j < sizes .instances → getD (now order) j 0 < sizes .instances) ⌝ }
@@ -156,7 +158,7 @@ pub fn run(
     truly: &mut [f64],
     predicted: &mut [f64],
 ) -> Ran
-    requires { ⌜ SoundModel (modelOf sizes (now kinds) (now destinations) (now sources) (now starts) (now entries) (now «label_starts») (now «label_entries»)) ⌝ }
+    requires { ⌜ Sound (modelOf sizes (now kinds) (now destinations) (now sources) (now starts) (now entries) (now «label_starts») (now «label_entries»)) ⌝ }
     requires { ⌜ SoundData (sizes .labels) (dataOf sizes (now lines) (now begins) (now ids) (now values) (now references) (now shares)) ⌝ }
     requires { ⌜ Exact (sizes .features) (now weights) (now beside) (now truly) (now predicted) ⌝ }
     requires { ⌜ (allowed ≤ 1000) × OrderOf (sizes .instances) (now order) ⌝ }

@@ -10,7 +10,9 @@ ghost use Rattle.lines.specs.Tables.{Model};
 ghost use Rattle.training.specs.Data.{Data, allFinite};
 ghost use Rattle.training.specs.Rules.{Learned, besideAtFirst, averagedAt, averagedBy};
 ghost use Rattle.training.specs.Epochs.{Settings, Run, Result, upTo, finished, trained};
-ghost use Rattle.prediction.specs.Tables.{modelOf, dataOf, SoundModel, SoundData};
+ghost use Rattle.feature_gen.specs.Sound.{Sound};
+ghost use Rattle.training_check.specs.Sound.{SoundData};
+ghost use Rattle.prediction.specs.Tables.{modelOf, dataOf};
 ghost use Rattle.visits.specs.Visiting.{ruleOf, Exact};
 ghost use Rattle.epochs.specs.Running.{Finished};
 ghost use Rattle.learning.specs.Learning.{whyOf, Begun, Swept, AveragedAs};
@@ -177,7 +179,7 @@ pub fn train(
     truly: &mut [f64],
     predicted: &mut [f64],
 ) -> Training
-    requires { ⌜ SoundModel (modelOf sizes (now kinds) (now destinations) (now sources) (now starts) (now entries) (now «label_starts») (now «label_entries»)) ⌝ }
+    requires { ⌜ Sound (modelOf sizes (now kinds) (now destinations) (now sources) (now starts) (now entries) (now «label_starts») (now «label_entries»)) ⌝ }
     requires { ⌜ SoundData (sizes .labels) (dataOf sizes (now lines) (now begins) (now ids) (now values) (now references) (now shares)) ⌝ }
     requires { ⌜ Exact (sizes .features) (now weights) (now beside) (now truly) (now predicted) ⌝ }
     requires { ⌜ (allowed ≤ 1000) × (length (now order) ≡ sizes .instances) ⌝ }

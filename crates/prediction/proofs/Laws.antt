@@ -20,8 +20,8 @@ use Rattle.sequence_score.specs.Sound.{Met}
 use Rattle.viterbi.specs.Answered.{Ready}
 use Rattle.training.specs.Data.{wrongAt, wrongOf}
 use Rattle.lines.specs.Tables.{Model}
-use Rattle.lines.specs.Sound.{SoundTransitions, SoundCounts}
-use Rattle.prediction.specs.Tables.{SoundModel}
+use Rattle.lines.specs.Sound.{SoundTransitions}
+use Rattle.feature_gen.specs.Sound.{Sound}
 use Rattle.prediction.specs.Judged.{Scored, Judged, finiteScores}
 
 module _ (p q : List ℕ) where
@@ -114,19 +114,16 @@ module _ {labels words : ℕ} {transitions states : List Float} {references afte
     wanted = λ _ _. q;
   }
 
-module _ {m : Model} (s : SoundModel m) where
+module _ {m : Model} (s : Sound m) where
   pub transitions-sound : (weights : List Float) → m .features .count ≤ length weights → SoundTransitions (m .labels) (m .features .count) (m .features .kinds) (m .features .destinations) (m .features .sources) weights
   transitions-sound weights h = record {
-    states = record { kinded = s .kinded; aimed = s .aimed; weighted = h; leads = s .leads };
-    sourced = s .sourced;
-    leaves = s .leaves;
+    states = record { kinded = s .sized .kinds; aimed = s .sized .destinations; weighted = h; leads = s .destinations };
+    sourced = s .sized .sources;
+    leaves = s .sources;
   }
 
-  pub counts-sound : SoundCounts (m .features .count) (m .features .kinds) (m .features .destinations)
-  counts-sound = record { kinded = s .kinded; aimed = s .aimed }
-
   pub square-small : m .labels * m .labels ≤ 1024
-  square-small = mul-le-mul (s .labelled .high) (s .labelled .high)
+  square-small = mul-le-mul (s .labels-in .high) (s .labels-in .high)
 
   pub rows-small : {words : ℕ} → WordsIn words → words * m .labels ≤ 4096
-  rows-small w = mul-le-mul (w .high) (s .labelled .high)
+  rows-small w = mul-le-mul (w .high) (s .labels-in .high)

@@ -4,8 +4,9 @@ ghost use mathlib.Core.Path.{_≡_};
 ghost use Prim.Native.Nat.{_*_, _≤_};
 ghost use lib.ListN.{length};
 ghost use Rattle.lines.specs.Scored.{statesOf, transitionsOf};
+ghost use Rattle.feature_gen.specs.Sound.{Sound};
 ghost use Rattle.training.specs.Data.{wrongOf};
-ghost use Rattle.prediction.specs.Tables.{modelOf, wordsIn, SoundModel, SoundLine};
+ghost use Rattle.prediction.specs.Tables.{modelOf, wordsIn, SoundLine};
 ghost use Rattle.prediction.specs.Judged.{Judged, Scored};
 
 // The counts of a trainer's tables.
@@ -108,7 +109,7 @@ fn predict_in(
     states: &mut [f64],
     path: &mut [u32],
 ) -> Prediction
-    requires { ⌜ SoundModel (modelOf sizes (now kinds) (now destinations) (now sources) (now starts) (now entries) (now «label_starts») (now «label_entries»)) ⌝ }
+    requires { ⌜ Sound (modelOf sizes (now kinds) (now destinations) (now sources) (now starts) (now entries) (now «label_starts») (now «label_entries»)) ⌝ }
     requires { ⌜ SoundLine (sizes .labels) (wordsIn sizes (now begins) (now ids) (now values)) first words (now references) ⌝ }
     requires { ⌜ (length (now weights) ≡ sizes .features) × (length (now path) ≡ words) ⌝ }
     requires { ⌜ (length (now transitions) ≡ sizes .labels * sizes .labels) × (length (now states) ≡ words * sizes .labels) ⌝ }
@@ -166,7 +167,7 @@ fn predict_short(
     references: &[u32],
     path: &mut [u32],
 ) -> Prediction
-    requires { ⌜ SoundModel (modelOf sizes (now kinds) (now destinations) (now sources) (now starts) (now entries) (now «label_starts») (now «label_entries»)) ⌝ }
+    requires { ⌜ Sound (modelOf sizes (now kinds) (now destinations) (now sources) (now starts) (now entries) (now «label_starts») (now «label_entries»)) ⌝ }
     requires { ⌜ SoundLine (sizes .labels) (wordsIn sizes (now begins) (now ids) (now values)) first words (now references) ⌝ }
     requires { ⌜ (length (now weights) ≡ sizes .features) × (length (now path) ≡ words) ⌝ }
     requires { ⌜ (sizes .labels * sizes .labels ≤ 256) × (words * sizes .labels ≤ 256) ⌝ }
@@ -217,7 +218,7 @@ fn predict_long(
     references: &[u32],
     path: &mut [u32],
 ) -> Prediction
-    requires { ⌜ SoundModel (modelOf sizes (now kinds) (now destinations) (now sources) (now starts) (now entries) (now «label_starts») (now «label_entries»)) ⌝ }
+    requires { ⌜ Sound (modelOf sizes (now kinds) (now destinations) (now sources) (now starts) (now entries) (now «label_starts») (now «label_entries»)) ⌝ }
     requires { ⌜ SoundLine (sizes .labels) (wordsIn sizes (now begins) (now ids) (now values)) first words (now references) ⌝ }
     requires { ⌜ (length (now weights) ≡ sizes .features) × (length (now path) ≡ words) ⌝ }
     ensures { λ r. ⌜ Judged (sizes .labels) words (transitionsOf (modelOf sizes (now (kinds .entry)) (now (destinations .entry)) (now (sources .entry)) (now (starts .entry)) (now (entries .entry)) (now («label_starts» .entry)) (now («label_entries» .entry))) (now (weights .entry))) (statesOf (modelOf sizes (now (kinds .entry)) (now (destinations .entry)) (now (sources .entry)) (now (starts .entry)) (now (entries .entry)) (now («label_starts» .entry)) (now («label_entries» .entry))) (now (weights .entry)) (wordsIn sizes (now (begins .entry)) (now (ids .entry)) (now (values .entry))) first words) (now (references .entry)) (now (path .exit)) r ⌝ }
@@ -267,7 +268,7 @@ pub fn predict(
     references: &[u32],
     path: &mut [u32],
 ) -> Prediction
-    requires { ⌜ SoundModel (modelOf sizes (now kinds) (now destinations) (now sources) (now starts) (now entries) (now «label_starts») (now «label_entries»)) ⌝ }
+    requires { ⌜ Sound (modelOf sizes (now kinds) (now destinations) (now sources) (now starts) (now entries) (now «label_starts») (now «label_entries»)) ⌝ }
     requires { ⌜ SoundLine (sizes .labels) (wordsIn sizes (now begins) (now ids) (now values)) first words (now references) ⌝ }
     requires { ⌜ (length (now weights) ≡ sizes .features) × (length (now path) ≡ words) ⌝ }
     ensures { λ r. ⌜ Judged (sizes .labels) words (transitionsOf (modelOf sizes (now (kinds .entry)) (now (destinations .entry)) (now (sources .entry)) (now (starts .entry)) (now (entries .entry)) (now («label_starts» .entry)) (now («label_entries» .entry))) (now (weights .entry))) (statesOf (modelOf sizes (now (kinds .entry)) (now (destinations .entry)) (now (sources .entry)) (now (starts .entry)) (now (entries .entry)) (now («label_starts» .entry)) (now («label_entries» .entry))) (now (weights .entry)) (wordsIn sizes (now (begins .entry)) (now (ids .entry)) (now (values .entry))) first words) (now (references .entry)) (now (path .exit)) r ⌝ }

@@ -26,7 +26,8 @@ use Rattle.training.specs.Epochs.{isRefused}
 use Rattle.training_tables.specs.declared.Outcome.{Outcome}
 use Rattle.training_tables.specs.Tables.{Updated}
 use Rattle.prediction.specs.declared.Prediction.{Prediction}
-use Rattle.prediction.specs.Tables.{SoundData, SoundLine}
+use Rattle.training_check.specs.Sound.{SoundData}
+use Rattle.prediction.specs.Tables.{SoundLine}
 use Rattle.prediction.specs.Judged.{Judged, finiteScores}
 use Rattle.visits.specs.Visiting.{Agreed, Counted, settled}
 

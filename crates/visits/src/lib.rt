@@ -8,7 +8,9 @@ ghost use Rattle.training.specs.Data.{whole};
 ghost use Rattle.training.specs.Rules.{Learned, Mistake, updatedBy};
 ghost use Rattle.training.specs.Visits.{refusedAs, changedTo, heldTo, visited};
 ghost use Rattle.training_tables.specs.Tables.{Held, Updated};
-ghost use Rattle.prediction.specs.Tables.{modelOf, wordsIn, dataOf, SoundModel, SoundData, SoundLine};
+ghost use Rattle.feature_gen.specs.Sound.{Sound};
+ghost use Rattle.training_check.specs.Sound.{SoundData};
+ghost use Rattle.prediction.specs.Tables.{modelOf, wordsIn, dataOf, SoundLine};
 ghost use Rattle.visits.specs.Visiting.{ruleOf, stateOf, Agreed, Counted, settled, Exact};
 use prediction::Prediction;
 use prediction::Sizes;
@@ -181,7 +183,7 @@ fn correct(
     truly: &mut [f64],
     predicted: &mut [f64],
 ) -> Step
-    requires { ⌜ SoundModel (modelOf sizes (now kinds) (now destinations) (now sources) (now starts) (now entries) (now «label_starts») (now «label_entries»)) ⌝ }
+    requires { ⌜ Sound (modelOf sizes (now kinds) (now destinations) (now sources) (now starts) (now entries) (now «label_starts») (now «label_entries»)) ⌝ }
     requires { ⌜ SoundLine (sizes .labels) (wordsIn sizes (now begins) (now ids) (now values)) first words (now references) ⌝ }
     requires { ⌜ Exact (sizes .features) (now weights) (now beside) (now truly) (now predicted) ⌝ }
     requires { ⌜ (length (now path) ≡ words) × (p .wrong ≤ 128) ⌝ }
@@ -272,7 +274,7 @@ pub fn visit(
     truly: &mut [f64],
     predicted: &mut [f64],
 ) -> Step
-    requires { ⌜ SoundModel (modelOf sizes (now kinds) (now destinations) (now sources) (now starts) (now entries) (now «label_starts») (now «label_entries»)) ⌝ }
+    requires { ⌜ Sound (modelOf sizes (now kinds) (now destinations) (now sources) (now starts) (now entries) (now «label_starts») (now «label_entries»)) ⌝ }
     requires { ⌜ SoundData (sizes .labels) (dataOf sizes (now lines) (now begins) (now ids) (now values) (now references) (now shares)) ⌝ }
     requires { ⌜ Exact (sizes .features) (now weights) (now beside) (now truly) (now predicted) ⌝ }
     requires { ⌜ (i < sizes .instances) × (s .visits < 2 ^ 53) × (s .updates ≤ s .visits) ⌝ }

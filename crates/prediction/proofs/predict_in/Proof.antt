@@ -4,7 +4,7 @@ use native.Mathlib.Omega.{arith}
 use borrow.Author.Needs.{needs}
 use Rattle.lines.specs.Tables.{Model}
 use Rattle.lines.specs.Scored.{transitionsOf, statesOf}
-use Rattle.prediction.specs.Tables.{modelOf, wordsIn, SoundModel, SoundLine}
+use Rattle.prediction.specs.Tables.{modelOf, wordsIn}
 use Rattle.prediction.proofs.Laws.{all-of, transitions-sound}
 use Rattle.prediction.proofs.predict_in.Statement.{statement}
 use Rattle.prediction.proofs.predict_in.Tie as tie
@@ -32,21 +32,21 @@ score-transitions-requires : tie.Need-score-transitions-requires
 score-transitions-requires c κs =
     let s = c .before .before .before .before .before .before .before .before .before .before .before .before .before .before .before .before in
     let m = s .pre .0 in
-    (transitions-sound m _ (omega (arith, s .pre .1 .1 .0)), (m .followers, omega (arith, s .pre .1 .1 .1 .0)))
+    (transitions-sound m _ (omega (arith, s .pre .1 .1 .0)), (m .label-lists, omega (arith, s .pre .1 .1 .1 .0)))
 
 -- src/lib.rt:131:5
 score-line-requires : tie.Need-score-line-requires
 score-line-requires c κs =
     let s = c .before .before .before .before .before .before .before .before .before .before .before .before .before .before .before .before .before .before .before .before in
     let m = s .pre .0 in
-    (transitions-sound m (s .args .weights .now) (omega (arith, s .pre .1 .1 .0)) .states, (m .attributes, (s .pre .1 .0 .worded, omega (arith, s .pre .1 .1 .1 .1))))
+    (transitions-sound m (s .args .weights .now) (omega (arith, s .pre .1 .1 .0)) .states, (m .attribute-lists, (s .pre .1 .0 .worded, omega (arith, s .pre .1 .1 .1 .1))))
 
 -- src/lib.rt:147:5
 judge-requires : tie.Need-judge-requires
 judge-requires c κs =
     let s = c .before .before .before .before .before .before .before .before .before .before .before .before .before .before .before .before .before .before .before .before .before .before .before .before .before .before in
     record {
-      labelled = s .pre .0 .labelled;
+      labelled = s .pre .0 .labels-in;
       sized = s .pre .1 .0 .sized;
       long-transitions = c .before .before .before .before .before .before .before .before .before .score-transitions .kept .1 .1 .1 .1 .1 .1 .1 .1 .1 .0 ∙ s .pre .1 .1 .1 .0;
       long-states = c .before .before .before .before .before .score-line .kept .1 .1 .1 .1 .1 .1 .1 .1 .1 .1 .1 .1 .1 .0 ∙ s .pre .1 .1 .1 .1;

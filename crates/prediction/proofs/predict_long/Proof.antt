@@ -2,9 +2,6 @@ use mathlib.Core.Path.{_≡_, refl, sym, ap, _∙_}
 use Prim.Native.Nat.{_*_, _≤_}
 use native.Mathlib.Omega.{arith}
 use borrow.Author.Needs.{needs}
-use Rattle.lines.specs.Tables.{Model}
-use Rattle.lines.specs.Scored.{transitionsOf, statesOf}
-use Rattle.prediction.specs.Tables.{modelOf, wordsIn, SoundModel, SoundLine}
 use lib.Seq.{length-take-le}
 use Rattle.prediction.proofs.Laws.{square-small, rows-small}
 use Rattle.prediction.proofs.predict_long.Statement.{statement}

@@ -2,9 +2,6 @@ use mathlib.Core.Path.{_≡_, refl, sym, ap, _∙_}
 use Prim.Native.Nat.{_*_, _≤_}
 use native.Mathlib.Omega.{arith}
 use borrow.Author.Needs.{needs}
-use Rattle.lines.specs.Tables.{Model}
-use Rattle.lines.specs.Scored.{transitionsOf, statesOf}
-use Rattle.prediction.specs.Tables.{modelOf, wordsIn, SoundModel, SoundLine}
 use lib.Seq.{length-take-le}
 use Rattle.prediction.proofs.Laws.{square-small, rows-small}
 use Rattle.prediction.proofs.predict_short.Statement.{statement}
@@ -31,7 +28,7 @@ slice-aggregate-predict-in c = sym (length-take-le _ _ (c .before .before .befor
 
 -- src/lib.rt:196:9
 array-borrow-prefix-states : tie.Need-array-borrow-prefix-states
-array-borrow-prefix-states c = search needs
+array-borrow-prefix-states c = omega (arith, c .before .before .before .before .before .before .before .before .before .before .before .before .before .before .before .before .pre .1 .1 .1 .1)
 
 -- src/lib.rt:196:9
 slice-aggregate-predict-in-2 : tie.Need-slice-aggregate-predict-in-2

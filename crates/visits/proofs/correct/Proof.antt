@@ -8,7 +8,7 @@ use Rattle.lines.specs.Tables.{Model, Words}
 use Rattle.lines.specs.Counted.{countsOf}
 use Rattle.training.specs.Data.{allFinite}
 use Rattle.prediction.specs.Tables.{modelOf, wordsIn}
-use Rattle.prediction.proofs.Laws.{all-of, counts-sound}
+use Rattle.prediction.proofs.Laws.{all-of}
 use Rattle.visits.proofs.Laws.{counted, not-counted, refused-counted}
 use Rattle.visits.proofs.correct.Statement.{statement}
 use Rattle.visits.proofs.correct.Tie as tie
@@ -47,7 +47,7 @@ count-line-requires c κs =
     let s = c .before .before .before .before .before .before .before .before .before .before .before .before .before .before .before .before .before in
     let m = s .pre .0 in
     let e = s .pre .1 .1 .0 in
-    (counts-sound m, (m .sourced, (m .attributes, (m .followers, (s .pre .1 .0 .worded, (le-of-eq (sym (s .pre .1 .0 .referenced)), le-of-eq (sym (e .truly-long))))))))
+    (m .counts, (m .sized .sources, (m .attribute-lists, (m .label-lists, (s .pre .1 .0 .worded, (le-of-eq (sym (s .pre .1 .0 .referenced)), le-of-eq (sym (e .truly-long))))))))
 
 -- src/lib.rt:201:5
 count-line-requires-2 : tie.Need-count-line-requires-2
@@ -55,7 +55,7 @@ count-line-requires-2 c κs =
     let s = c .before .before .before .before .before .before .before .before .before .before .before .before .before .before .before .before .before .before .before .before .before in
     let m = s .pre .0 in
     let e = s .pre .1 .1 .0 in
-    (counts-sound m, (m .sourced, (m .attributes, (m .followers, (s .pre .1 .0 .worded, (le-of-eq (sym (s .pre .1 .1 .1 .0 .0)), le-of-eq (sym (e .predicted-long))))))))
+    (m .counts, (m .sized .sources, (m .attribute-lists, (m .label-lists, (s .pre .1 .0 .worded, (le-of-eq (sym (s .pre .1 .1 .1 .0 .0)), le-of-eq (sym (e .predicted-long))))))))
 
 -- src/lib.rt:220:8
 all-finite-requires : tie.Need-all-finite-requires
