@@ -45,7 +45,9 @@ uint64_t bodkinbloom_draw(uint64_t *state);
  * Refused (2): any other length; *state and the order are then as they were. */
 bodkinbloom_refused bodkinbloom_shuffle(uint64_t *state, uint32_t *order, size_t length);
 
-/* Tables of scores, for 1 to 32 labels and 1 to 128 words: `transitions` by previous label, labels x labels numbers;
+/* ---- decoding
+ *
+ * Tables of scores, for 1 to 32 labels and 1 to 128 words: `transitions` by previous label, labels x labels numbers;
  * `states` word by word, words x labels numbers. All of them finite. */
 
 /* What decoding answers.
@@ -82,6 +84,147 @@ bodkinbloom_scored bodkinbloom_sequence_score(uint32_t labels, uint32_t words,
                                               const double *transitions, size_t transitions_length,
                                               const double *states, size_t states_length,
                                               const uint32_t *path, size_t path_length, uint32_t length);
+
+/* ---- models
+ *
+ * A model has 1 to 32 labels and at most 65,535 features. A feature is an entry in each of these tables, at its id:
+ *    kinds         0: a State, which speaks for a label at a word; 1: a Transition, which speaks for a label after another
+ *    destinations  that label; below the number of labels
+ *    sources       of a Transition, the label before it; below the number of labels. Of a State it is not read
+ *    weights       finite
+ * Lists of features say when they speak: an attribute id may have a list, and so may a label. Lists lie flat, as starts and
+ * entries. n lists have n + 1 starts: the first is 0, none is below the one before it, and the last is the number of
+ * entries; the entries of list i lie from start i up to, and not at, start i + 1. An entry is a feature id. One that stands
+ * in a list twice counts twice.
+ *    attribute_starts, attribute_entries    at most 65,535 lists, and at most 1,048,576 entries in all
+ *    label_starts, label_entries            at most 32 lists, be there as many labels or not; as many entries
+ *
+ * The counts are numbers of their own beside the lengths of the tables. Everything within the counts is tested, used or
+ * not. What a table has behind them is not looked at. */
+
+#define BODKINBLOOM_MOST_LABELS 32
+#define BODKINBLOOM_MOST_WORDS 128
+#define BODKINBLOOM_MOST_FEATURES 65535
+#define BODKINBLOOM_MOST_ATTRIBUTE_LISTS 65535
+#define BODKINBLOOM_MOST_LABEL_LISTS 32
+#define BODKINBLOOM_MOST_ENTRIES 1048576
+#define BODKINBLOOM_MOST_ATTRIBUTES 4194304
+
+typedef struct {
+    uint32_t features;          /* the length of kinds, destinations, sources and weights */
+    uint32_t attribute_lists;   /* attribute_starts has BODKINBLOOM_STARTS(attribute_lists) entries */
+    uint32_t label_lists;       /* label_starts has BODKINBLOOM_STARTS(label_lists) */
+    uint32_t attribute_entries; /* the length of attribute_entries */
+    uint32_t label_entries;     /* the length of label_entries */
+} bodkinbloom_counts;
+
+/* How long a table or a buffer has to be; `labels` is used twice. A path is as long as there are words, and feature counts
+ * are as many as there are features. */
+#define BODKINBLOOM_STARTS(lists) ((size_t)(lists) + 1)
+#define BODKINBLOOM_TRANSITIONS(labels) ((size_t)(labels) * (labels))
+#define BODKINBLOOM_STATES(labels, words) ((size_t)(labels) * (words))
+
+/* Tests a model, as each call below does for itself.
+ * Refused, in this order; within a number by the order of the tables, and in a table at the lowest index:
+ *    1    the number of labels
+ *    2    a count above its bound, or a table too short for its count
+ *    3    attribute_starts, label_starts; place: the first start that breaks the rule
+ *    5    kinds, destinations, sources, attribute_entries, label_entries; place: the index
+ *    6    weights; place: the feature */
+bodkinbloom_refused bodkinbloom_check_model(uint32_t labels, bodkinbloom_counts counts,
+                                            const uint8_t *kinds, size_t kinds_length,
+                                            const uint32_t *destinations, size_t destinations_length,
+                                            const uint32_t *sources, size_t sources_length,
+                                            const double *weights, size_t weights_length,
+                                            const uint32_t *attribute_starts, size_t attribute_starts_length,
+                                            const uint32_t *attribute_entries, size_t attribute_entries_length,
+                                            const uint32_t *label_starts, size_t label_starts_length,
+                                            const uint32_t *label_entries, size_t label_entries_length);
+
+/* Writes the first `features` of `new_weights` to the front of `weights`, to the bit.
+ * Refused, `weights` then as it was: 2 (too many features, or one of the two too short), 6 (place: the first new weight that
+ * is not finite). */
+bodkinbloom_refused bodkinbloom_set_weights(uint32_t features,
+                                            const double *new_weights, size_t new_weights_length,
+                                            double *weights, size_t weights_length);
+
+/* ---- one line under a model
+ *
+ * A line has 1 to 128 words, and a word has attributes: ids with values. They lie flat as well.
+ *    begins    BODKINBLOOM_STARTS(words) starts, by the rule above; the last is `attributes`, at most 4,194,304
+ *    ids       `attributes` of them; one without an attribute list adds nothing
+ *    values    `attributes` of them, finite
+ *
+ * Refused, all three calls, in this order; within a number by the order of the tables, and in a table at the lowest index:
+ *    1    the number of labels
+ *    4    the number of words
+ *    2    a count above its bound, or a table or a buffer too short
+ *    3    attribute_starts, label_starts, begins; place: the first start that breaks the rule
+ *    5    kinds, destinations, sources, attribute_entries, label_entries, path (where it is read); place: the index
+ *    6    weights (where they are lent), values; place: the index
+ *    8    what was worked out is not finite; place: see the call
+ * After 1 to 6 every buffer is as it was. After 8 the part of each buffer that the call needs is 0, all of it. Behind that
+ * part nothing is ever written. */
+
+/* The scores of a line, which bodkinbloom_viterbi_decode takes: BODKINBLOOM_STATES(labels, words) states, word by word, and
+ * BODKINBLOOM_TRANSITIONS(labels) transitions, by previous label. All start at +0. Words, their attributes and the entries
+ * of an attribute's list are taken in order, and each State adds weight times value at its destination; then label lists
+ * are taken in order, as many as there are labels at the most, and each Transition adds its weight at its own source and
+ * destination.
+ * The place of an 8: word x labels + label; words x labels + previous x labels + label for a transition. */
+bodkinbloom_refused bodkinbloom_compute_scores(uint32_t labels, bodkinbloom_counts counts,
+                                               const uint8_t *kinds, size_t kinds_length,
+                                               const uint32_t *destinations, size_t destinations_length,
+                                               const uint32_t *sources, size_t sources_length,
+                                               const double *weights, size_t weights_length,
+                                               const uint32_t *attribute_starts, size_t attribute_starts_length,
+                                               const uint32_t *attribute_entries, size_t attribute_entries_length,
+                                               const uint32_t *label_starts, size_t label_starts_length,
+                                               const uint32_t *label_entries, size_t label_entries_length,
+                                               uint32_t words, uint32_t attributes,
+                                               const uint32_t *begins, size_t begins_length,
+                                               const uint32_t *ids, size_t ids_length,
+                                               const double *values, size_t values_length,
+                                               double *states, size_t states_length,
+                                               double *transitions, size_t transitions_length);
+
+/* What each feature counts in a line whose words have the labels of `path`, one for each word and each below the number of
+ * labels; no weights are needed. `amounts` takes a number for each feature. All start at +0. In the order of scoring, each
+ * State whose destination is the word's label adds the attribute's value; then, from the second word on, the list of the
+ * label before is taken, and each Transition from that label to the word's adds 1.
+ * The place of an 8: the feature. */
+bodkinbloom_refused bodkinbloom_extract_features(uint32_t labels, bodkinbloom_counts counts,
+                                                 const uint8_t *kinds, size_t kinds_length,
+                                                 const uint32_t *destinations, size_t destinations_length,
+                                                 const uint32_t *sources, size_t sources_length,
+                                                 const uint32_t *attribute_starts, size_t attribute_starts_length,
+                                                 const uint32_t *attribute_entries, size_t attribute_entries_length,
+                                                 const uint32_t *label_starts, size_t label_starts_length,
+                                                 const uint32_t *label_entries, size_t label_entries_length,
+                                                 uint32_t words, uint32_t attributes,
+                                                 const uint32_t *begins, size_t begins_length,
+                                                 const uint32_t *ids, size_t ids_length,
+                                                 const double *values, size_t values_length,
+                                                 const uint32_t *path, size_t path_length,
+                                                 double *amounts, size_t amounts_length);
+
+/* Labels a line: scores it and decodes the scores, which need no buffers of yours. Writes the best path to the first `words`
+ * places of `path`, and answers as bodkinbloom_viterbi_decode does.
+ * The place of an 8: that of the scores. */
+bodkinbloom_decoded bodkinbloom_label_line(uint32_t labels, bodkinbloom_counts counts,
+                                           const uint8_t *kinds, size_t kinds_length,
+                                           const uint32_t *destinations, size_t destinations_length,
+                                           const uint32_t *sources, size_t sources_length,
+                                           const double *weights, size_t weights_length,
+                                           const uint32_t *attribute_starts, size_t attribute_starts_length,
+                                           const uint32_t *attribute_entries, size_t attribute_entries_length,
+                                           const uint32_t *label_starts, size_t label_starts_length,
+                                           const uint32_t *label_entries, size_t label_entries_length,
+                                           uint32_t words, uint32_t attributes,
+                                           const uint32_t *begins, size_t begins_length,
+                                           const uint32_t *ids, size_t ids_length,
+                                           const double *values, size_t values_length,
+                                           uint32_t *path, size_t path_length);
 
 #ifdef __cplusplus
 }

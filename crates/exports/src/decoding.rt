@@ -48,7 +48,8 @@ fn numbers_of_found(found: Found) -> Decoded
     }
 }
 
-fn numbers_of_decoding(answer: Decoding) -> Decoded
+// The numbers of a decoded line, also for the calls of scoring_exports.
+pub fn numbers_of_decoding(answer: Decoding) -> Decoded
     ensures { λ r. ⌜ r ≡ decodedNumbers (said answer) ⌝ }
 {
     match answer {

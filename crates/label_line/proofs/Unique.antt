@@ -1,32 +1,7 @@
 -- No two different outcomes satisfy the promise of labelling a line. Assumes nothing.
-use mathlib.Core.Path.{_≡_, sym, _∙_, ap}
-use Prim.Native.Nat.{ℕ}
-use native.Mathlib.Omega.{arith}
-use Rattle.viterbi_end.specs.declared.Lead as code
-use Rattle.viterbi_end.specs.Ends.{leadSaid}
-use Rattle.viterbi.specs.declared.Decoding.{Decoding}
-use Rattle.viterbi.specs.Promise.{said}
+use mathlib.Core.Path.{_≡_, sym, _∙_}
+use Rattle.viterbi.proofs.Unique.{told}
 use Rattle.label_line.specs.Promise.{OnlyOne}
-
--- what is said of a lead tells the lead
-lead-told : (a b : code.Lead) → leadSaid a ≡ leadSaid b → a ≡ b
-lead-told code.Lead.NoLead code.Lead.NoLead h = cc
-lead-told code.Lead.NoLead (code.Lead.By y) h = let z : _≡_ {A = ℕ} 0 1 = cc in absurd (omega arith)
-lead-told (code.Lead.By x) code.Lead.NoLead h = let z : _≡_ {A = ℕ} 0 1 = cc in absurd (omega arith)
-lead-told (code.Lead.By x) (code.Lead.By y) h = let e : x ≡ y = cc in ap code.Lead.By e
-
--- what is said tells the answer
-told : (a b : Decoding) → said a ≡ said b → a ≡ b
-told (Decoding.Decoded f) (Decoding.Decoded g) h =
-    let s : f .sum ≡ g .sum = cc in
-    let l = lead-told (f .lead) (g .lead) (cc) in
-    ap Decoding.Decoded (λ i. record { sum = s i; lead = l i })
-told (Decoding.Decoded f) (Decoding.Refused v) h = let z : _≡_ {A = ℕ} 0 1 = cc in absurd (omega arith)
-told (Decoding.Refused w) (Decoding.Decoded g) h = let z : _≡_ {A = ℕ} 0 1 = cc in absurd (omega arith)
-told (Decoding.Refused w) (Decoding.Refused v) h =
-    let n : w .number ≡ v .number = cc in
-    let p : w .place ≡ v .place = cc in
-    ap Decoding.Refused (λ i. record { number = n i; place = p i })
 
 pub only-one : OnlyOne
 only-one given before a b p q =

@@ -15,7 +15,7 @@ lead-told (code.Lead.By x) code.Lead.NoLead h = let z : _≡_ {A = ℕ} 0 1 = cc
 lead-told (code.Lead.By x) (code.Lead.By y) h = let e : x ≡ y = cc in ap code.Lead.By e
 
 -- what is said tells the answer
-told : (a b : Decoding) → said a ≡ said b → a ≡ b
+pub told : (a b : Decoding) → said a ≡ said b → a ≡ b
 told (Decoding.Decoded f) (Decoding.Decoded g) h =
     let s : f .sum ≡ g .sum = cc in
     let l = lead-told (f .lead) (g .lead) (cc) in

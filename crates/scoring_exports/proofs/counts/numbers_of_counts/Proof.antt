@@ -1,0 +1,19 @@
+-- `scoring_exports::counts::numbers_of_counts` meets its contract, by the two cases of an answer. Assumes nothing.
+use borrow.Author.Needs.{needs}
+use Rattle.scoring_exports.proofs.counts.numbers_of_counts.Statement.{statement}
+use Rattle.scoring_exports.proofs.counts.numbers_of_counts.Tie as tie
+
+enum-told : tie.Need-enum-told
+enum-told c = search needs
+
+enum-known-answer : tie.Need-enum-known-answer
+enum-known-answer c = search needs
+
+returns : tie.Need-returns
+returns c = rw (c .enum-told .given .1)
+
+returns-2 : tie.Need-returns-2
+returns-2 c = rw (c .before .answer .given .1)
+
+pub numbers-of-counts-spec : {M : Type 1} → statement M
+numbers-of-counts-spec = tie.close (tie.spec enum-told enum-known-answer returns returns-2)

@@ -1,0 +1,66 @@
+// The feature counts of a line.
+ghost use mathlib.Core.Path.{_≡_};
+ghost use Rattle.feature_gen.specs.Lent.{modelOf};
+ghost use Rattle.counting.specs.Promise.{said};
+ghost use Rattle.scoring_exports.specs.Line.{lineNumbers, Counted};
+use counting::LineCounts;
+use exports::draws::Refused;
+use feature_gen::Counts;
+
+fn numbers_of_counts(answer: LineCounts) -> Refused
+    ensures { λ r. ⌜ r ≡ lineNumbers (said answer) ⌝ }
+{
+    match answer {
+        LineCounts::Counted => Refused {
+            number: 0,
+            place: 0,
+        },
+        LineCounts::Refused(why) => Refused {
+            number: why.number,
+            place: why.place,
+        },
+    }
+}
+
+// The feature counts of a line under the labels of `path`, in the front of `amounts`.
+#[no_mangle]
+pub extern "C" fn bodkinbloom_extract_features(
+    labels: u32,
+    counts: Counts,
+    kinds: &[u8],
+    destinations: &[u32],
+    sources: &[u32],
+    attribute_starts: &[u32],
+    attribute_entries: &[u32],
+    label_starts: &[u32],
+    label_entries: &[u32],
+    words: u32,
+    attributes: u32,
+    begins: &[u32],
+    ids: &[u32],
+    values: &[f64],
+    path: &[u32],
+    amounts: &mut [f64],
+) -> Refused
+    ensures { λ r. ⌜ Counted (record { model = modelOf labels counts (now (kinds .entry)) (now (destinations .entry)) (now (sources .entry)) (now («attribute_starts» .entry)) (now («attribute_entries» .entry)) (now («label_starts» .entry)) (now («label_entries» .entry)); words = words; line = record { starts = now (begins .entry); size = attributes; ids = now (ids .entry); values = now (values .entry) }; path = now (path .entry) }) (now (amounts .entry)) (record { answer = r; amounts = now (amounts .exit) }) ⌝ }
+{
+    let answer = counting::extract_features(
+        labels,
+        words,
+        counts,
+        kinds,
+        destinations,
+        sources,
+        attribute_starts,
+        attribute_entries,
+        label_starts,
+        label_entries,
+        attributes,
+        begins,
+        ids,
+        values,
+        path,
+        amounts,
+    );
+    numbers_of_counts(answer)
+}
