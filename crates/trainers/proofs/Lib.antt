@@ -1,0 +1,6 @@
+pub mod Unique
+pub mod Trained
+pub mod Fronts
+pub mod SameAnswer
+pub mod Meant
+pub mod Keeping

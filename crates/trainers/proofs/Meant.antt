@@ -1,0 +1,149 @@
+-- What a trainer answers means what `Meaning` says. Assumes nothing.
+use mathlib.Core.Path.{_≡_, refl, sym, _∙_, ap}
+use mathlib.Core.List.{List, [], _∷_}
+use mathlib.Core.Logic.{_⊎_, inl, inr}
+use Prim.Native.Nat.{ℕ, _≤_, _<_}
+use native.Mathlib.Omega.{arith}
+use lib.Dec.{T}
+use lib.ListN.{getD, drop, List·getD-append}
+use lib.Ieee.{nan}
+use lib.Ieee.Scale.{finite}
+use Rattle.refusals.specs.declared.Refusal.{Refusal}
+use Rattle.refusals.specs.declared.Checked.{Checked}
+use Rattle.refusals.specs.declared.Checked.the-variants.{Accepted, Refused}
+use Rattle.refusals.specs.Refusals.{refusedAt}
+use Rattle.refusal_rows.specs.Given.{OneOf}
+use Rattle.training.specs.declared.Training.{Training}
+use Rattle.training.specs.declared.Trained.{Trained}
+use Rattle.training.proofs.Accepted.{answers-true}
+use Rattle.parameters.specs.Parameters.{AllFit}
+use Rattle.training_check.proofs.Meant.{training-means}
+use Rattle.trainers.specs.Promise.{Call, averagedPerceptron, passiveAggressive, adaptive, Given, Buffers, Outcome, Said, accepted, refused, said, ruleFor, settingsFor, ownOf, inputOf, checkedOf, trainedOf, orRefused, holding, answerTo, buffersAfter, Promised}
+use Rattle.trainers.specs.Meaning.{AcceptedTrue, RefusedMeans, RefusedTrue, ChecksAnswered, Unrefused}
+use Rattle.trainers.proofs.Trained.{trained-late, trained-long, trained-zero}
+use Rattle.trainers.proofs.Fronts.{after-is, fronts}
+
+-- an answer that is accepted comes from the training
+accepts : (checked : Checked) (next : Said) (epochs visits updates : ℕ) → orRefused checked next ≡ accepted epochs visits updates → (checked ≡ Accepted) × (next ≡ accepted epochs visits updates)
+accepts Accepted next epochs visits updates h = (refl, h)
+accepts (Refused why) next epochs visits updates h = let z : _≡_ {A = ℕ} 0 1 = cc in absurd (omega arith)
+
+trained-so : (a : Training) (epochs visits updates : ℕ) → said a ≡ accepted epochs visits updates → a ≡ Training.Accepted (record { epochs = epochs; visits = visits; updates = updates })
+trained-so (Training.Accepted t) epochs visits updates h =
+    let e : t .epochs ≡ epochs = cc in
+    let v : t .visits ≡ visits = cc in
+    let n : t .updates ≡ updates = cc in
+    ap Training.Accepted (λ i. record { epochs = e i; visits = v i; updates = n i })
+trained-so (Training.Refused why) epochs visits updates h = let z : _≡_ {A = ℕ} 0 1 = cc in absurd (omega arith)
+
+-- 7 has seen to it that an epoch is allowed
+some-epochs : (call : Call) → AllFit (ownOf call) → 1 ≤ settingsFor call .epochs
+some-epochs (averagedPerceptron p) f = f .0 .0
+some-epochs (passiveAggressive p) f = f .0 .0
+some-epochs (adaptive p) f = f .0 .0
+
+pub accepted-true : AcceptedTrue
+unfolding answerTo
+accepted-true call given before outcome kept epochs visits updates answer =
+    let a = accepts (checkedOf call given before) _ epochs visits updates (sym (kept .answers) ∙ answer) in
+    let means = training-means (inputOf given before) (ownOf call) in
+    let f = given .model .features .count in
+    let t = answers-true (ruleFor call) (settingsFor call) (given .model) (given .corpus) _ (some-epochs call (means .sound (a .0) .1)) (trained-so _ epochs visits updates (a .1)) in
+    record {
+      unrefused = means .accepted .0 (a .0);
+      least = t .least;
+      most = t .most;
+      visits-are = t .visits;
+      made = t .made;
+      none-refused = t .sound;
+      updates-are = t .updates;
+      all-finite = λ i l.
+          let g = List·getD-append (trainedOf call given .weights) (drop f (before .weights)) nan i (omega (arith, l, t .long)) in
+          rw (after-is call given before outcome kept (a .0), g) (t .all-finite i l);
+    }
+
+-- ---- refusals
+
+trained-not : (a : Training) (number place : ℕ) → said a ≡ refused number place → a ≡ Training.Refused (record { number = number; place = place })
+trained-not (Training.Accepted t) number place h = let z : _≡_ {A = ℕ} 0 1 = cc in absurd (omega arith)
+trained-not (Training.Refused why) number place h =
+    let n : why .number ≡ number = cc in
+    let p : why .place ≡ place = cc in
+    ap Training.Refused (λ i. record { number = n i; place = p i })
+
+refuses : (checked : Checked) (next : Said) (number place : ℕ) → orRefused checked next ≡ refused number place → (checked ≡ refusedAt number place) ⊎ ((checked ≡ Accepted) × (next ≡ refused number place))
+refuses Accepted next number place h = inr (refl, h)
+refuses (Refused why) next number place h =
+    let n : why .number ≡ number = cc in
+    let p : why .place ≡ place = cc in
+    inl (ap Refused (λ i. record { number = n i; place = p i }))
+
+-- 1 to 7 are not 8 and 9
+at-most : (number : ℕ) → OneOf (1 ∷ 2 ∷ 3 ∷ 4 ∷ 5 ∷ 6 ∷ 7 ∷ []) number → number ≤ 7
+at-most number (inl e) = omega arith
+at-most number (inr (inl e)) = omega arith
+at-most number (inr (inr (inl e))) = omega arith
+at-most number (inr (inr (inr (inl e)))) = omega arith
+at-most number (inr (inr (inr (inr (inl e))))) = omega arith
+at-most number (inr (inr (inr (inr (inr (inl e)))))) = omega arith
+at-most number (inr (inr (inr (inr (inr (inr (inl e))))))) = omega arith
+
+above : (number : ℕ) → OneOf (8 ∷ 9 ∷ []) number → 7 < number
+above number (inl e) = omega arith
+above number (inr (inl e)) = omega arith
+
+among : (number : ℕ) → OneOf (1 ∷ 2 ∷ 3 ∷ 4 ∷ 5 ∷ 6 ∷ 7 ∷ []) number → OneOf (1 ∷ 2 ∷ 3 ∷ 4 ∷ 5 ∷ 6 ∷ 7 ∷ 8 ∷ 9 ∷ []) number
+among number (inl e) = inl e
+among number (inr (inl e)) = inr (inl e)
+among number (inr (inr (inl e))) = inr (inr (inl e))
+among number (inr (inr (inr (inl e)))) = inr (inr (inr (inl e)))
+among number (inr (inr (inr (inr (inl e))))) = inr (inr (inr (inr (inl e))))
+among number (inr (inr (inr (inr (inr (inl e)))))) = inr (inr (inr (inr (inr (inl e)))))
+among number (inr (inr (inr (inr (inr (inr (inl e))))))) = inr (inr (inr (inr (inr (inr (inl e))))))
+
+among-late : (number : ℕ) → OneOf (8 ∷ 9 ∷ []) number → OneOf (1 ∷ 2 ∷ 3 ∷ 4 ∷ 5 ∷ 6 ∷ 7 ∷ 8 ∷ 9 ∷ []) number
+among-late number h = inr (inr (inr (inr (inr (inr (inr h))))))
+
+module _ (call : Call) (given : Given) (before : Buffers) (outcome : Outcome) (kept : Promised call given before outcome) (number place : ℕ) where
+  early-means : checkedOf call given before ≡ refusedAt number place → RefusedMeans call given before (outcome .after) number place
+  unfolding buffersAfter
+  early-means h =
+      let one = training-means (inputOf given before) (ownOf call) .only _ h in
+      record {
+        only = among number one;
+        early = λ l. (h, rw h at (kept .after));
+        late = λ l. absurd (omega (arith, at-most number one));
+      }
+
+  late-means : checkedOf call given before ≡ Accepted → said (trainedOf call given .answer) ≡ refused number place → RefusedMeans call given before (outcome .after) number place
+  late-means h t =
+      let e = trained-not (trainedOf call given .answer) number place t in
+      let one = trained-late (ruleFor call) (settingsFor call) (given .model) (given .corpus) _ e in
+      let f = fronts call given before outcome kept h in
+      record {
+        only = among-late number one;
+        early = λ l. absurd (omega (arith, above number one));
+        late = λ l. (
+          training-means (inputOf given before) (ownOf call) .accepted .0 h,
+          record {
+            weights = f .weights ∙ trained-zero (ruleFor call) (settingsFor call) (given .model) (given .corpus) _ e;
+            beside = f .beside;
+            truly = f .truly;
+            predicted = f .predicted;
+            order = f .order;
+          },
+        );
+      }
+
+  refused-means : (checkedOf call given before ≡ refusedAt number place) ⊎ ((checkedOf call given before ≡ Accepted) × (said (trainedOf call given .answer) ≡ refused number place)) → RefusedMeans call given before (outcome .after) number place
+  refused-means (inl h) = early-means h
+  refused-means (inr h) = late-means (h .0) (h .1)
+
+pub refused-true : RefusedTrue
+unfolding answerTo
+refused-true call given before outcome kept number place answer =
+    refused-means call given before outcome kept number place (refuses (checkedOf call given before) _ number place (sym (kept .answers) ∙ answer))
+
+pub checks-answered : ChecksAnswered
+unfolding answerTo
+checks-answered call given before outcome kept number place h = kept .answers ∙ rw h

@@ -1,0 +1,156 @@
+-- `trainers::train_fronts` meets its contract: what was accepted is what learning relies on, and the parts lent are the needed fronts. Assumes nothing.
+use mathlib.Core.Path.{sym}
+use borrow.Author.Needs.{needs}
+use Rattle.training_check.specs.Sound.{LentSized}
+use Rattle.trainers.specs.Promise.{Given, Buffers, inputOf}
+use Rattle.feature_gen.specs.Lent.{modelOf}
+use Rattle.training_check.specs.Lent.{dataOf}
+use Rattle.trainers.proofs.Keeping.{front-long, fronts-kept}
+use Rattle.trainers.proofs.train_fronts.Statement.{statement}
+use Rattle.trainers.proofs.train_fronts.Tie as tie
+
+-- what the call is given, and the buffers
+abbrev given : tie.Start → Given
+given s =
+    let a = s .args in
+    record {
+      model = modelOf (a .labels) (a .counts) (a .kinds .now) (a .destinations .now) (a .sources .now) (a .attribute-starts .now) (a .attribute-entries .now) (a .label-starts .now) (a .label-entries .now);
+      corpus = dataOf (a .totals) (a .lines .now) (a .begins .now) (a .ids .now) (a .values .now) (a .references .now) (a .shares .now);
+    }
+
+abbrev lent : tie.Start → Buffers
+lent s =
+    let a = s .args in
+    record { weights = a .weights .now; beside = a .beside .now; truly = a .truly .now; predicted = a .predicted .now; order = a .order .now }
+
+abbrev start : tie.After-struct-known8 → tie.Start
+start c = c .before .before .before .before .before .before .before .before .before .before .before .before .before .before .before .before .before .before .before .before .before .before .before .before .before .before
+
+-- the buffers have room
+room : (c : tie.After-struct-known8) → LentSized (start c .args .counts .features) (start c .args .totals .instances) (inputOf (given (start c)) (lent (start c)) .lent)
+room c = start c .pre .sound .fits .lent
+
+cast-features : tie.Need-cast-features
+cast-features c = search needs
+
+cast-instances : tie.Need-cast-instances
+cast-instances c = search needs
+
+cast-t30 : tie.Need-cast-t30
+cast-t30 c = search needs
+
+cast-t31 : tie.Need-cast-t31
+cast-t31 c = search needs
+
+cast-t32 : tie.Need-cast-t32
+cast-t32 c = search needs
+
+cast-t33 : tie.Need-cast-t33
+cast-t33 c = search needs
+
+cast-t34 : tie.Need-cast-t34
+cast-t34 c = search needs
+
+cast-t35 : tie.Need-cast-t35
+cast-t35 c = search needs
+
+slice-relend-prefix-train : tie.Need-slice-relend-prefix-train
+slice-relend-prefix-train c = room c .order
+
+slice-aggregate-train : tie.Need-slice-aggregate-train
+slice-aggregate-train c = let k = c .before in sym (front-long _ _ (room k .order))
+
+slice-relend-prefix-train-2 : tie.Need-slice-relend-prefix-train-2
+slice-relend-prefix-train-2 c = room (c .before) .weights
+
+slice-aggregate-train-2 : tie.Need-slice-aggregate-train-2
+slice-aggregate-train-2 c = let k = c .before .before in sym (front-long _ _ (room k .weights))
+
+slice-relend-prefix-train-3 : tie.Need-slice-relend-prefix-train-3
+slice-relend-prefix-train-3 c = room (c .before .before) .beside
+
+slice-aggregate-train-3 : tie.Need-slice-aggregate-train-3
+slice-aggregate-train-3 c = let k = c .before .before .before in sym (front-long _ _ (room k .beside))
+
+slice-relend-prefix-train-4 : tie.Need-slice-relend-prefix-train-4
+slice-relend-prefix-train-4 c = room (c .before .before .before) .truly
+
+slice-aggregate-train-4 : tie.Need-slice-aggregate-train-4
+slice-aggregate-train-4 c = let k = c .before .before .before .before in sym (front-long _ _ (room k .truly))
+
+slice-relend-prefix-train-5 : tie.Need-slice-relend-prefix-train-5
+slice-relend-prefix-train-5 c = room (c .before .before .before .before) .predicted
+
+slice-aggregate-train-5 : tie.Need-slice-aggregate-train-5
+slice-aggregate-train-5 c = let k = c .before .before .before .before .before in sym (front-long _ _ (room k .predicted))
+
+train-requires : tie.Need-train-requires
+train-requires c κs =
+    let k = c .before .before .before .before .before in
+    let s = start k in
+    let r = room k in (
+      s .pre .sound .model,
+      (
+        s .pre .sound .corpus,
+        (
+          record {
+            weights-long = front-long _ _ (r .weights);
+            beside-long = front-long _ _ (r .beside);
+            truly-long = front-long _ _ (r .truly);
+            predicted-long = front-long _ _ (r .predicted);
+          },
+          (s .pre .few, front-long _ _ (r .order)),
+        ),
+      ),
+    )
+
+same-length : tie.Need-same-length
+same-length c = search needs
+
+same-length-2 : tie.Need-same-length-2
+same-length-2 c = search needs
+
+same-length-3 : tie.Need-same-length-3
+same-length-3 c = search needs
+
+same-length-4 : tie.Need-same-length-4
+same-length-4 c = search needs
+
+same-length-5 : tie.Need-same-length-5
+same-length-5 c = search needs
+
+returns : tie.Need-returns
+returns c =
+    let t = c .before .before .before .before .before .before .before .before .before .before in
+    let s = start (t .before .before .before .before .before .before) in
+    fronts-kept _ _ (given s) (lent s) (t .train .ensures .0) (t .train .ensures .1)
+
+pub train-fronts-spec : {M : Type 1} → statement M
+train-fronts-spec =
+    tie.close
+    (tie.spec
+    cast-features
+    cast-instances
+    cast-t30
+    cast-t31
+    cast-t32
+    cast-t33
+    cast-t34
+    cast-t35
+    slice-relend-prefix-train
+    slice-aggregate-train
+    slice-relend-prefix-train-2
+    slice-aggregate-train-2
+    slice-relend-prefix-train-3
+    slice-aggregate-train-3
+    slice-relend-prefix-train-4
+    slice-aggregate-train-4
+    slice-relend-prefix-train-5
+    slice-aggregate-train-5
+    train-requires
+    same-length
+    same-length-2
+    same-length-3
+    same-length-4
+    same-length-5
+    returns)

@@ -1,0 +1,4 @@
+pub mod Promise
+pub mod Inside
+pub mod SameAnswer
+pub mod Meaning

@@ -1,0 +1,423 @@
+// The three trainers. Each tests all that it is given, with refusals 1 to 7, then learns; what they do not share is the test of
+// their parameters and the rule of their updates.
+ghost use mathlib.Core.Path.{_≡_};
+ghost use Rattle.refusals.specs.declared.Checked.the-variants.{Accepted};
+ghost use Rattle.feature_gen.specs.Lent.{modelOf};
+ghost use Rattle.training_check.specs.Lent.{dataOf};
+ghost use Rattle.visits.specs.Visiting.{ruleOf};
+ghost use Rattle.trainers.specs.Promise.{on, averagedPerceptron, passiveAggressive, adaptive, Promised};
+ghost use Rattle.trainers.specs.Inside.{Ready, Kept};
+use feature_gen::Counts;
+use parameters::Arow;
+use parameters::Passive;
+use parameters::Perceptron;
+use prediction::Sizes;
+use refusals::Checked;
+use training::Training;
+use training_check::Lent;
+use training_check::Totals;
+use visits::Trainer;
+
+// A switch that comes as a number.
+fn is_on(switch: u32) -> bool
+    ensures { λ r. ⌜ r ≡ on switch ⌝ }
+{
+    switch != 0
+}
+
+// Training on what is accepted, in the fronts of the buffers.
+fn train_fronts(
+    trainer: Trainer,
+    allowed: u32,
+    epsilon: f64,
+    seed: u64,
+    labels: u32,
+    counts: Counts,
+    kinds: &[u8],
+    destinations: &[u32],
+    sources: &[u32],
+    attribute_starts: &[u32],
+    attribute_entries: &[u32],
+    label_starts: &[u32],
+    label_entries: &[u32],
+    totals: Totals,
+    lines: &[u32],
+    begins: &[u32],
+    ids: &[u32],
+    values: &[f64],
+    references: &[u32],
+    shares: &[f64],
+    weights: &mut [f64],
+    beside: &mut [f64],
+    truly: &mut [f64],
+    predicted: &mut [f64],
+    order: &mut [u32],
+) -> Training
+    requires { ⌜ Ready (record { model = modelOf labels counts (now kinds) (now destinations) (now sources) (now «attribute_starts») (now «attribute_entries») (now «label_starts») (now «label_entries»); corpus = dataOf totals (now lines) (now begins) (now ids) (now values) (now references) (now shares) }) (record { weights = now weights; beside = now beside; truly = now truly; predicted = now predicted; order = now order }) allowed ⌝ }
+    ensures { λ r. ⌜ Kept Accepted (ruleOf trainer) (record { epochs = allowed; epsilon = epsilon; seed = seed }) (record { model = modelOf labels counts (now (kinds .entry)) (now (destinations .entry)) (now (sources .entry)) (now («attribute_starts» .entry)) (now («attribute_entries» .entry)) (now («label_starts» .entry)) (now («label_entries» .entry)); corpus = dataOf totals (now (lines .entry)) (now (begins .entry)) (now (ids .entry)) (now (values .entry)) (now (references .entry)) (now (shares .entry)) }) (record { weights = now (weights .entry); beside = now (beside .entry); truly = now (truly .entry); predicted = now (predicted .entry); order = now (order .entry) }) (record { answer = r; after = record { weights = now (weights .exit); beside = now (beside .exit); truly = now (truly .exit); predicted = now (predicted .exit); order = now (order .exit) } }) ⌝ }
+{
+    let features = counts.features as usize;
+    let instances = totals.instances as usize;
+    let sizes = Sizes {
+        labels: labels as usize,
+        features: features,
+        attribute_lists: counts.attribute_lists as usize,
+        label_lists: counts.label_lists as usize,
+        attribute_entries: counts.attribute_entries as usize,
+        label_entries: counts.label_entries as usize,
+        instances: instances,
+        words: totals.words as usize,
+        attributes: totals.attributes as usize,
+    };
+    learning::train(
+        trainer,
+        sizes,
+        kinds,
+        destinations,
+        sources,
+        attribute_starts,
+        attribute_entries,
+        label_starts,
+        label_entries,
+        lines,
+        begins,
+        ids,
+        values,
+        references,
+        shares,
+        allowed as u64,
+        epsilon,
+        seed,
+        &mut order[..instances],
+        &mut weights[..features],
+        &mut beside[..features],
+        &mut truly[..features],
+        &mut predicted[..features],
+    )
+}
+
+// Training, unless the checks refuse.
+fn train_checked(
+    checked: Checked,
+    trainer: Trainer,
+    allowed: u32,
+    epsilon: f64,
+    seed: u64,
+    labels: u32,
+    counts: Counts,
+    kinds: &[u8],
+    destinations: &[u32],
+    sources: &[u32],
+    attribute_starts: &[u32],
+    attribute_entries: &[u32],
+    label_starts: &[u32],
+    label_entries: &[u32],
+    totals: Totals,
+    lines: &[u32],
+    begins: &[u32],
+    ids: &[u32],
+    values: &[f64],
+    references: &[u32],
+    shares: &[f64],
+    weights: &mut [f64],
+    beside: &mut [f64],
+    truly: &mut [f64],
+    predicted: &mut [f64],
+    order: &mut [u32],
+) -> Training
+    requires { ⌜ (checked ≡ Accepted → Ready (record { model = modelOf labels counts (now kinds) (now destinations) (now sources) (now «attribute_starts») (now «attribute_entries») (now «label_starts») (now «label_entries»); corpus = dataOf totals (now lines) (now begins) (now ids) (now values) (now references) (now shares) }) (record { weights = now weights; beside = now beside; truly = now truly; predicted = now predicted; order = now order }) allowed) ⌝ }
+    ensures { λ r. ⌜ Kept checked (ruleOf trainer) (record { epochs = allowed; epsilon = epsilon; seed = seed }) (record { model = modelOf labels counts (now (kinds .entry)) (now (destinations .entry)) (now (sources .entry)) (now («attribute_starts» .entry)) (now («attribute_entries» .entry)) (now («label_starts» .entry)) (now («label_entries» .entry)); corpus = dataOf totals (now (lines .entry)) (now (begins .entry)) (now (ids .entry)) (now (values .entry)) (now (references .entry)) (now (shares .entry)) }) (record { weights = now (weights .entry); beside = now (beside .entry); truly = now (truly .entry); predicted = now (predicted .entry); order = now (order .entry) }) (record { answer = r; after = record { weights = now (weights .exit); beside = now (beside .exit); truly = now (truly .exit); predicted = now (predicted .exit); order = now (order .exit) } }) ⌝ }
+{
+    if let Checked::Refused(why) = checked {
+        return Training::Refused(why);
+    }
+    train_fronts(
+        trainer,
+        allowed,
+        epsilon,
+        seed,
+        labels,
+        counts,
+        kinds,
+        destinations,
+        sources,
+        attribute_starts,
+        attribute_entries,
+        label_starts,
+        label_entries,
+        totals,
+        lines,
+        begins,
+        ids,
+        values,
+        references,
+        shares,
+        weights,
+        beside,
+        truly,
+        predicted,
+        order,
+    )
+}
+
+// `averaged_perceptron.rs`: the trained weights at the front of `weights`, with epochs, visits and updates; or the refusal.
+pub fn averaged_perceptron(
+    parameters: Perceptron,
+    labels: u32,
+    counts: Counts,
+    kinds: &[u8],
+    destinations: &[u32],
+    sources: &[u32],
+    attribute_starts: &[u32],
+    attribute_entries: &[u32],
+    label_starts: &[u32],
+    label_entries: &[u32],
+    totals: Totals,
+    lines: &[u32],
+    begins: &[u32],
+    ids: &[u32],
+    values: &[f64],
+    references: &[u32],
+    shares: &[f64],
+    weights: &mut [f64],
+    beside: &mut [f64],
+    truly: &mut [f64],
+    predicted: &mut [f64],
+    order: &mut [u32],
+) -> Training
+    ensures { λ r. ⌜ Promised (averagedPerceptron parameters) (record { model = modelOf labels counts (now (kinds .entry)) (now (destinations .entry)) (now (sources .entry)) (now («attribute_starts» .entry)) (now («attribute_entries» .entry)) (now («label_starts» .entry)) (now («label_entries» .entry)); corpus = dataOf totals (now (lines .entry)) (now (begins .entry)) (now (ids .entry)) (now (values .entry)) (now (references .entry)) (now (shares .entry)) }) (record { weights = now (weights .entry); beside = now (beside .entry); truly = now (truly .entry); predicted = now (predicted .entry); order = now (order .entry) }) (record { answer = r; after = record { weights = now (weights .exit); beside = now (beside .exit); truly = now (truly .exit); predicted = now (predicted .exit); order = now (order .exit) } }) ⌝ }
+{
+    let lent = Lent {
+        weights: weights.len(),
+        beside: beside.len(),
+        truly: truly.len(),
+        predicted: predicted.len(),
+        order: order.len(),
+    };
+    let input = training_check::check_input(
+        labels,
+        counts,
+        kinds,
+        destinations,
+        sources,
+        attribute_starts,
+        attribute_entries,
+        label_starts,
+        label_entries,
+        totals,
+        lines,
+        begins,
+        ids,
+        values,
+        references,
+        shares,
+        lent,
+    );
+    let checked = parameters::check_perceptron(input, parameters);
+    train_checked(
+        checked,
+        Trainer::Perceptron,
+        parameters.epochs,
+        parameters.epsilon,
+        parameters.seed,
+        labels,
+        counts,
+        kinds,
+        destinations,
+        sources,
+        attribute_starts,
+        attribute_entries,
+        label_starts,
+        label_entries,
+        totals,
+        lines,
+        begins,
+        ids,
+        values,
+        references,
+        shares,
+        weights,
+        beside,
+        truly,
+        predicted,
+        order,
+    )
+}
+
+// `passive_aggressive.rs`, likewise: the variants 0 Pa, 1 PaI, 2 PaII, and the two switches.
+pub fn passive_aggressive(
+    parameters: Passive,
+    labels: u32,
+    counts: Counts,
+    kinds: &[u8],
+    destinations: &[u32],
+    sources: &[u32],
+    attribute_starts: &[u32],
+    attribute_entries: &[u32],
+    label_starts: &[u32],
+    label_entries: &[u32],
+    totals: Totals,
+    lines: &[u32],
+    begins: &[u32],
+    ids: &[u32],
+    values: &[f64],
+    references: &[u32],
+    shares: &[f64],
+    weights: &mut [f64],
+    beside: &mut [f64],
+    truly: &mut [f64],
+    predicted: &mut [f64],
+    order: &mut [u32],
+) -> Training
+    ensures { λ r. ⌜ Promised (passiveAggressive parameters) (record { model = modelOf labels counts (now (kinds .entry)) (now (destinations .entry)) (now (sources .entry)) (now («attribute_starts» .entry)) (now («attribute_entries» .entry)) (now («label_starts» .entry)) (now («label_entries» .entry)); corpus = dataOf totals (now (lines .entry)) (now (begins .entry)) (now (ids .entry)) (now (values .entry)) (now (references .entry)) (now (shares .entry)) }) (record { weights = now (weights .entry); beside = now (beside .entry); truly = now (truly .entry); predicted = now (predicted .entry); order = now (order .entry) }) (record { answer = r; after = record { weights = now (weights .exit); beside = now (beside .exit); truly = now (truly .exit); predicted = now (predicted .exit); order = now (order .exit) } }) ⌝ }
+{
+    let lent = Lent {
+        weights: weights.len(),
+        beside: beside.len(),
+        truly: truly.len(),
+        predicted: predicted.len(),
+        order: order.len(),
+    };
+    let input = training_check::check_input(
+        labels,
+        counts,
+        kinds,
+        destinations,
+        sources,
+        attribute_starts,
+        attribute_entries,
+        label_starts,
+        label_entries,
+        totals,
+        lines,
+        begins,
+        ids,
+        values,
+        references,
+        shares,
+        lent,
+    );
+    let checked = parameters::check_passive(input, parameters);
+    let rule = Trainer::Passive {
+        variant: parameters.variant,
+        c: parameters.c,
+        sensitive: is_on(parameters.sensitive),
+        averaging: is_on(parameters.averaging),
+    };
+    train_checked(
+        checked,
+        rule,
+        parameters.epochs,
+        parameters.epsilon,
+        parameters.seed,
+        labels,
+        counts,
+        kinds,
+        destinations,
+        sources,
+        attribute_starts,
+        attribute_entries,
+        label_starts,
+        label_entries,
+        totals,
+        lines,
+        begins,
+        ids,
+        values,
+        references,
+        shares,
+        weights,
+        beside,
+        truly,
+        predicted,
+        order,
+    )
+}
+
+// `arow.rs`, likewise.
+pub fn arow(
+    parameters: Arow,
+    labels: u32,
+    counts: Counts,
+    kinds: &[u8],
+    destinations: &[u32],
+    sources: &[u32],
+    attribute_starts: &[u32],
+    attribute_entries: &[u32],
+    label_starts: &[u32],
+    label_entries: &[u32],
+    totals: Totals,
+    lines: &[u32],
+    begins: &[u32],
+    ids: &[u32],
+    values: &[f64],
+    references: &[u32],
+    shares: &[f64],
+    weights: &mut [f64],
+    beside: &mut [f64],
+    truly: &mut [f64],
+    predicted: &mut [f64],
+    order: &mut [u32],
+) -> Training
+    ensures { λ r. ⌜ Promised (adaptive parameters) (record { model = modelOf labels counts (now (kinds .entry)) (now (destinations .entry)) (now (sources .entry)) (now («attribute_starts» .entry)) (now («attribute_entries» .entry)) (now («label_starts» .entry)) (now («label_entries» .entry)); corpus = dataOf totals (now (lines .entry)) (now (begins .entry)) (now (ids .entry)) (now (values .entry)) (now (references .entry)) (now (shares .entry)) }) (record { weights = now (weights .entry); beside = now (beside .entry); truly = now (truly .entry); predicted = now (predicted .entry); order = now (order .entry) }) (record { answer = r; after = record { weights = now (weights .exit); beside = now (beside .exit); truly = now (truly .exit); predicted = now (predicted .exit); order = now (order .exit) } }) ⌝ }
+{
+    let lent = Lent {
+        weights: weights.len(),
+        beside: beside.len(),
+        truly: truly.len(),
+        predicted: predicted.len(),
+        order: order.len(),
+    };
+    let input = training_check::check_input(
+        labels,
+        counts,
+        kinds,
+        destinations,
+        sources,
+        attribute_starts,
+        attribute_entries,
+        label_starts,
+        label_entries,
+        totals,
+        lines,
+        begins,
+        ids,
+        values,
+        references,
+        shares,
+        lent,
+    );
+    let checked = parameters::check_arow(input, parameters);
+    let rule = Trainer::Arow {
+        variance: parameters.variance,
+        gamma: parameters.gamma,
+    };
+    train_checked(
+        checked,
+        rule,
+        parameters.epochs,
+        parameters.epsilon,
+        parameters.seed,
+        labels,
+        counts,
+        kinds,
+        destinations,
+        sources,
+        attribute_starts,
+        attribute_entries,
+        label_starts,
+        label_entries,
+        totals,
+        lines,
+        begins,
+        ids,
+        values,
+        references,
+        shares,
+        weights,
+        beside,
+        truly,
+        predicted,
+        order,
+    )
+}
