@@ -45,10 +45,28 @@ uint64_t bodkinbloom_draw(uint64_t *state);
  * Refused (2): any other length; *state and the order are then as they were. */
 bodkinbloom_refused bodkinbloom_shuffle(uint64_t *state, uint32_t *order, size_t length);
 
+/* ---- sizes */
+
+/* The most of each; more are refused. */
+#define BODKINBLOOM_MOST_LABELS 32
+#define BODKINBLOOM_MOST_WORDS 128
+#define BODKINBLOOM_MOST_FEATURES 65535
+#define BODKINBLOOM_MOST_ATTRIBUTE_LISTS 65535
+#define BODKINBLOOM_MOST_LABEL_LISTS 32
+#define BODKINBLOOM_MOST_ENTRIES 1048576
+#define BODKINBLOOM_MOST_ATTRIBUTES 4194304
+
+/* How long a table or a buffer has to be. `labels` is used twice. A path is as long as there are words; feature counts are
+ * as many as there are features. */
+#define BODKINBLOOM_STARTS(lists) ((size_t)(lists) + 1)
+#define BODKINBLOOM_TRANSITIONS(labels) ((size_t)(labels) * (labels))
+#define BODKINBLOOM_STATES(labels, words) ((size_t)(labels) * (words))
+
 /* ---- decoding
  *
- * Tables of scores, for 1 to 32 labels and 1 to 128 words: `transitions` by previous label, labels x labels numbers;
- * `states` word by word, words x labels numbers. All of them finite. */
+ * Tables of scores, for 1 to 32 labels and 1 to 128 words, all of them finite:
+ *    transitions    BODKINBLOOM_TRANSITIONS(labels) of them, by previous label: from label p to label q at p x labels + q
+ *    states         BODKINBLOOM_STATES(labels, words) of them, word by word: label l at word t at t x labels + l */
 
 /* What decoding answers.
  *    number    0, or the refusal's; then the numbers below are +0
@@ -102,14 +120,6 @@ bodkinbloom_scored bodkinbloom_sequence_score(uint32_t labels, uint32_t words,
  * The counts are numbers of their own beside the lengths of the tables. Everything within the counts is tested, used or
  * not. What a table has behind them is not looked at. */
 
-#define BODKINBLOOM_MOST_LABELS 32
-#define BODKINBLOOM_MOST_WORDS 128
-#define BODKINBLOOM_MOST_FEATURES 65535
-#define BODKINBLOOM_MOST_ATTRIBUTE_LISTS 65535
-#define BODKINBLOOM_MOST_LABEL_LISTS 32
-#define BODKINBLOOM_MOST_ENTRIES 1048576
-#define BODKINBLOOM_MOST_ATTRIBUTES 4194304
-
 typedef struct {
     uint32_t features;          /* the length of kinds, destinations, sources and weights */
     uint32_t attribute_lists;   /* attribute_starts has BODKINBLOOM_STARTS(attribute_lists) entries */
@@ -117,12 +127,6 @@ typedef struct {
     uint32_t attribute_entries; /* the length of attribute_entries */
     uint32_t label_entries;     /* the length of label_entries */
 } bodkinbloom_counts;
-
-/* How long a table or a buffer has to be; `labels` is used twice. A path is as long as there are words, and feature counts
- * are as many as there are features. */
-#define BODKINBLOOM_STARTS(lists) ((size_t)(lists) + 1)
-#define BODKINBLOOM_TRANSITIONS(labels) ((size_t)(labels) * (labels))
-#define BODKINBLOOM_STATES(labels, words) ((size_t)(labels) * (words))
 
 /* Tests a model, as each call below does for itself.
  * Refused, in this order; within a number by the order of the tables, and in a table at the lowest index:

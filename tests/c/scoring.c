@@ -1,5 +1,6 @@
-/* Scoring, counting and labelling a line as a C program calls them: one small model worked out by hand, NULL for tables of
- * length 0, one refusal of each number, and the memory around what is lent. Numbers are compared to the bit. */
+/* Scoring, counting and labelling a line as a C program calls them: one small model worked out by hand, the fewest and the
+ * most labels and words and one past them, NULL for every table and buffer of length 0, one refusal of each number, and the
+ * memory around what is lent. Numbers are compared to the bit. */
 #include <float.h>
 #include <inttypes.h>
 #include <math.h>
@@ -163,7 +164,102 @@ static void not_finite(void) {
     holds("zero", all(found, (double[]){0, 0, 0, 0, 9}, 5));
 }
 
+/* ---- the fewest and the most, and one past them */
+
+enum { MOST_L = BODKINBLOOM_MOST_LABELS, MOST_T = BODKINBLOOM_MOST_WORDS };
+
+/* Under labels 0 to last, a State speaks for the last label at every word, by 0.5 times 2, and a Transition for the first
+ * after the last, by 0.25. Behind each buffer stands a 9. */
+static void at_size(uint32_t labels, uint32_t words) {
+    static double states[BODKINBLOOM_STATES(MOST_L + 1, MOST_T + 1) + 1];
+    static double transitions[BODKINBLOOM_TRANSITIONS(MOST_L + 1) + 1];
+    static uint32_t starts[MOST_L + 2], each[MOST_T + 2], zeros[MOST_T + 1], path[MOST_T + 2], lasts[MOST_T + 1];
+    static double twos[MOST_T + 1];
+    const uint32_t last = labels - 1, to[2] = {last, 0}, from[2] = {9, last}, one_list[2] = {0, 1}, entries[2] = {0, 1};
+    const uint8_t kind[2] = {0, 1};
+    const double weight[2] = {0.5, 0.25};
+    const bodkinbloom_counts two = {2, 1, labels > MOST_L ? MOST_L : labels, 1, labels > 0};
+    const size_t cells = BODKINBLOOM_STATES(labels, words), moves = BODKINBLOOM_TRANSITIONS(labels);
+    double amounts[3] = {9, 9, 9};
+    for (uint32_t i = 0; i <= MOST_L + 1; i++) starts[i] = i >= labels;
+    for (uint32_t t = 0; t <= MOST_T; t++) twos[t] = 2, zeros[t] = 0, lasts[t] = last;
+    for (uint32_t t = 0; t <= MOST_T + 1; t++) each[t] = t, path[t] = 9;
+    for (size_t i = 0; i <= cells; i++) states[i] = 9;
+    for (size_t i = 0; i <= moves; i++) transitions[i] = 9;
+
+    const uint32_t number = labels < 1 || labels > MOST_L ? 1 : words < 1 || words > MOST_T ? 4 : 0;
+    char what[40];
+    snprintf(what, sizeof what, "%" PRIu32 " labels, %" PRIu32 " words", labels, words);
+#define SMALL kind, 2, to, 2, from, 2
+#define SMALL_LISTS one_list, 2, entries, 1, starts, BODKINBLOOM_STARTS(two.label_lists), entries + 1, 1
+#define LONG words, words, each, BODKINBLOOM_STARTS(words), zeros, words, twos, words
+    refused(what, bodkinbloom_check_model(labels, two, SMALL, weight, 2, SMALL_LISTS), number == 1, 0);
+    refused(what, bodkinbloom_compute_scores(labels, two, SMALL, weight, 2, SMALL_LISTS, LONG, states, cells, transitions,
+                                             moves), number, 0);
+    refused(what, bodkinbloom_extract_features(labels, two, SMALL, SMALL_LISTS, LONG, lasts, words, amounts, 2), number, 0);
+    bodkinbloom_decoded best = bodkinbloom_label_line(labels, two, SMALL, weight, 2, SMALL_LISTS, LONG, path, words);
+
+    int right = same(states[cells], 9) && same(transitions[moves], 9) && same(amounts[2], 9) && path[words] == 9;
+    if (number != 0) {
+        unlabelled(what, best, number, 0);
+        for (size_t i = 0; i < cells; i++) right &= same(states[i], 9);
+        for (size_t i = 0; i < moves; i++) right &= same(transitions[i], 9);
+        for (uint32_t t = 0; t < words; t++) right &= path[t] == 9;
+        holds("as at entry", right && same(amounts[0], 9) && same(amounts[1], 9));
+        return;
+    }
+    for (size_t i = 0; i < cells; i++) right &= same(states[i], i % labels == last);
+    for (size_t i = 0; i < moves; i++) right &= same(transitions[i], i == last * labels ? 0.25 : 0);
+    for (uint32_t t = 0; t < words; t++) right &= path[t] == last;
+    right &= same(amounts[0], 2 * words) && same(amounts[1], labels == 1 ? words - 1 : 0);
+    right &= same(best.sum, labels == 1 ? words + 0.25 * (words - 1) : words);
+    right &= best.has_lead == (labels > 1) && same(best.lead, labels == 1 ? 0 : words == 1 ? 1 : 0.75);
+    holds(what, right && best.number == 0 && best.place == 0);
+}
+
+static void sizes(void) {
+    const uint32_t labels[4] = {0, 1, MOST_L, MOST_L + 1}, words[4] = {0, 1, MOST_T, MOST_T + 1};
+    for (int l = 0; l < 4; l++)
+        for (int t = 0; t < 4; t++) at_size(labels[l], words[t]);
+}
+
 /* ---- NULL */
+
+/* Every table and buffer in turn, where something is needed of it. */
+static void null_in_turn(void) {
+    enum { TABLES = 12, BUFFERS = 4 };
+    const double nines[4] = {9, 9, 9, 9};
+    const uint32_t labels[T] = {0, 1};
+    double states[4] = {9, 9, 9, 9}, transitions[4] = {9, 9, 9, 9}, found[4] = {9, 9, 9, 9};
+    uint32_t path[2] = {7, 7};
+    for (int i = 0; i < TABLES + BUFFERS; i++) {
+        size_t n[TABLES + BUFFERS] = {F, F, F, F, 3, 4, 3, 2, T + 1, 3, 3, T, T * L, L * L, F, T};
+        n[i] = 0;
+        const int is_model = i < 8, is_line = i < 11, is_weights = i == 3;
+#define PART(i, table) n[i] ? table : NULL, n[i]
+#define PARTS PART(0, kinds), PART(1, destinations), PART(2, sources)
+#define LIST_PARTS PART(4, attribute_starts), PART(5, attribute_entries), PART(6, label_starts), PART(7, label_entries)
+#define LINE_PARTS T, 3, PART(8, begins), PART(9, ids), PART(10, values)
+        if (is_model)
+            refused("a NULL table", bodkinbloom_check_model(L, counts, PARTS, PART(3, weights), LIST_PARTS), 2, 0);
+        if (is_line || i == 12 || i == 13)
+            refused("a NULL table or buffer",
+                    bodkinbloom_compute_scores(L, counts, PARTS, PART(3, weights), LIST_PARTS, LINE_PARTS, PART(12, states),
+                                               PART(13, transitions)), 2, 0);
+        if ((is_line && !is_weights) || i == 11 || i == 14)
+            refused("a NULL table or buffer",
+                    bodkinbloom_extract_features(L, counts, PARTS, LIST_PARTS, LINE_PARTS, PART(11, labels),
+                                                 PART(14, found)), 2, 0);
+        if (is_line || i == 15)
+            unlabelled("a NULL table or buffer",
+                       bodkinbloom_label_line(L, counts, PARTS, PART(3, weights), LIST_PARTS, LINE_PARTS,
+                                              PART(15, path)), 2, 0);
+    }
+    refused("NULL new weights", bodkinbloom_set_weights(F, NULL, 0, found, 4), 2, 0);
+    refused("NULL weights", bodkinbloom_set_weights(F, weights, F, NULL, 0), 2, 0);
+    holds("everything is as at entry", all(states, nines, 4) && all(transitions, nines, 4) && all(found, nines, 4) &&
+                                           path[0] == 7 && path[1] == 7);
+}
 
 #define NOTHING NULL, 0
 
@@ -202,6 +298,8 @@ int main(void) {
     by_hand();
     numbers();
     not_finite();
+    sizes();
+    null_in_turn();
     null_tables();
     printf("%d checks of scoring, counting and labelling from C: %d failed\n", checks, failures);
     return failures != 0;

@@ -3,7 +3,6 @@
 
 mod decoding;
 mod flat;
-#[cfg(feature = "scoring")]
 mod scoring;
 mod times;
 #[cfg(feature = "training")]
@@ -11,7 +10,6 @@ mod training;
 
 fn main() {
     decoding::print();
-    #[cfg(feature = "scoring")]
     scoring::print();
     #[cfg(feature = "training")]
     training::print();

@@ -161,7 +161,7 @@ declared! {
         [kinds: u8, destinations: u32, sources: u32,
          attribute_starts: u32, attribute_entries: u32, label_starts: u32, label_entries: u32];
         words: u32, attributes: u32; [begins: u32, ids: u32, values: f64, path: u32];
-        mut [feature_counts: f64]
+        mut [amounts: f64]
     ) -> Refused;
 
     fn bodkinbloom_label_line(

@@ -2,12 +2,10 @@
 //!
 //! None of the calls demands anything but valid memory that does not overlap, which a Rust slice always is.
 
-#[cfg(feature = "scoring")]
 use std::ptr;
 
 pub mod calls;
 pub mod decode;
-#[cfg(feature = "scoring")]
 pub mod scoring;
 pub mod shuffle;
 #[cfg(feature = "training")]
@@ -24,13 +22,11 @@ fn unless_refused(answer: calls::Refused) -> Result<(), Refusal> {
 }
 
 /// Where a table lies; one without entries is handed over as NULL.
-#[cfg(feature = "scoring")]
 fn pointer<T>(table: &[T]) -> *const T {
     if table.is_empty() { ptr::null() } else { table.as_ptr() }
 }
 
 /// The same of a buffer.
-#[cfg(feature = "scoring")]
 fn pointer_mut<T>(buffer: &mut [T]) -> *mut T {
     if buffer.is_empty() { ptr::null_mut() } else { buffer.as_mut_ptr() }
 }

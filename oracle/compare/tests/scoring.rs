@@ -1,6 +1,5 @@
 //! Scores, feature counts and labels of a line by the archive, against the Rust; refusals of those calls, of the model's
 //! check and of `set_weights` against the plain checker; to the bit, and all lent memory looked at.
-#![cfg(feature = "scoring")]
 
 mod shared;
 
