@@ -7,7 +7,8 @@ use exports::draws::Refused;
 use feature_gen::Counts;
 use refusals::Checked;
 
-fn numbers_of_check(answer: Checked) -> Refused
+// The numbers of an answer that only says whether something is refused.
+pub fn numbers_of_check(answer: Checked) -> Refused
     ensures { λ r. ⌜ r ≡ checkNumbers (said answer) ⌝ }
 {
     match answer {

@@ -4,6 +4,7 @@
 mod decoding;
 mod flat;
 mod scoring;
+mod steps;
 mod times;
 #[cfg(feature = "training")]
 mod training;

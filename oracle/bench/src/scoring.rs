@@ -1,5 +1,6 @@
-//! Scoring and counting lines of one model: the library's whole public call, which tests the model's tables and the
-//! line's each time, and the Rust text, which tests nothing. The check of the model alone is a part of both calls.
+//! Scoring and counting lines of one model. The Rust text tests nothing: what is held against it is the library's step after
+//! the check, which still looks for what is not finite. Beside it the whole public call, which tests the model's tables and
+//! the line's each time, and the check of the model alone, which is most of that.
 
 use std::hint::black_box;
 
@@ -13,6 +14,7 @@ use oracle::cases::Rng;
 use oracle::cases::make::{self, Palette};
 use oracle::tables::{Counts, Line, Model, STATE, TRANSITION, all_same};
 
+use crate::steps;
 use crate::times::{median, pass};
 
 /// A row: a Transition feature for every two labels, the other features in attribute lists.
@@ -31,8 +33,8 @@ const SHAPES: [Shape; 3] = [
     Shape { labels: 10, words: 50, features: 20_000, attributes: 8, entries: 10 },
     Shape { labels: 32, words: 128, features: 65_535, attributes: 8, entries: 16 },
 ];
-/// Lines of one model.
-const LINES: usize = 64;
+/// List entries that the lines of one row ask for, about.
+const ENTRIES: u32 = 1_000_000;
 const PASSES: usize = 15;
 
 struct Case {
@@ -42,11 +44,14 @@ struct Case {
 }
 
 pub fn print() {
-    println!("scoring and counting, nanoseconds a call, medians over {PASSES} passes; ratio: Rust over library");
+    println!(
+        "scoring and counting, nanoseconds a call, medians over {PASSES} passes; ratio: Rust over the library after the check"
+    );
     for shape in SHAPES {
         let mut rng = Rng::new(u64::from(shape.features));
         let model = model(&mut rng, &shape);
-        let cases: Vec<Case> = (0..LINES).map(|_| case(&mut rng, &model, &shape)).collect();
+        let lines = ENTRIES / (shape.words * shape.attributes * shape.entries);
+        let cases: Vec<Case> = (0..lines).map(|_| case(&mut rng, &model, &shape)).collect();
         row(&model, &cases, &shape);
     }
 }
@@ -116,48 +121,76 @@ fn generator(model: &Model) -> FeatureGenerator {
     }
 }
 
+/// The same by the text, by the whole call and by the step, to the bit.
+fn compare_answers(model: &Model, generator: &FeatureGenerator, case: &Case, context: &mut ScoreContext) {
+    let Case { line, labels, instance } = case;
+    let (words, width) = (line.words as usize, model.labels as usize);
+    let (mut states, mut transitions) = (vec![f64::NAN; words * width], vec![f64::NAN; width * width]);
+    let mut counts = vec![f64::NAN; model.counts.features as usize];
+    context.compute_scores(instance, generator);
+    let (owed_states, owed_transitions) = (probe::state_scores(context).concat(), probe::trans_scores(context).concat());
+    let owed_counts = Trainer::<Arow>::new().counts(instance, labels, generator);
+    assert_eq!(compute_scores(model, line, &mut states, &mut transitions), Ok(()));
+    assert!(all_same(&states, &owed_states) && all_same(&transitions, &owed_transitions));
+    assert_eq!(extract_features(model, line, labels, &mut counts), Ok(()));
+    assert!(all_same(&counts, &owed_counts));
+
+    states.fill(f64::NAN);
+    transitions.fill(f64::NAN);
+    counts.fill(f64::NAN);
+    // both calls have just accepted them
+    assert_eq!(unsafe { steps::score(model, line, &mut states, &mut transitions) }, Ok(()));
+    assert!(all_same(&states, &owed_states) && all_same(&transitions, &owed_transitions));
+    assert_eq!(unsafe { steps::count(model, line, labels, &mut counts) }, Ok(()));
+    assert!(all_same(&counts, &owed_counts));
+}
+
 fn row(model: &Model, cases: &[Case], shape: &Shape) {
     let Shape { labels, words, features, attributes, entries } = *shape;
-    let features_of_the_text = generator(model);
+    let generator = generator(model);
     let trainer = Trainer::<Arow>::new();
     let mut context = ScoreContext::new(labels as usize, words as usize);
+    cases.iter().for_each(|case| compare_answers(model, &generator, case, &mut context));
+
     let (mut states, mut transitions) = (vec![0.0; (words * labels) as usize], vec![0.0; (labels * labels) as usize]);
     let mut counts = vec![0.0; features as usize];
-
-    // all give the same, to the bit
-    for Case { line, labels, instance } in cases {
-        assert_eq!(compute_scores(model, line, &mut states, &mut transitions), Ok(()));
-        context.compute_scores(instance, &features_of_the_text);
-        assert!(all_same(&states, &probe::state_scores(&context).concat()));
-        assert!(all_same(&transitions, &probe::trans_scores(&context).concat()));
-        assert_eq!(extract_features(model, line, labels, &mut counts), Ok(()));
-        assert!(all_same(&counts, &trainer.counts(instance, labels, &features_of_the_text)));
-    }
-
-    let mut times: [Vec<f64>; 5] = Default::default();
+    let mut times: [Vec<f64>; 7] = Default::default();
     for _ in 0..PASSES {
         times[0].extend(pass(cases, |_| black_box(check_model(black_box(model))).is_ok()));
         times[1].extend(pass(cases, |case| {
             black_box(compute_scores(black_box(model), &case.line, &mut states, &mut transitions)).is_ok()
         }));
         times[2].extend(pass(cases, |case| {
-            context.compute_scores(black_box(&case.instance), black_box(&features_of_the_text));
-            black_box(probe::state_scores(&context)).len() == words as usize
+            // every case has been accepted, in buffers of these lengths
+            black_box(unsafe { steps::score(black_box(model), &case.line, &mut states, &mut transitions) }).is_ok()
         }));
         times[3].extend(pass(cases, |case| {
-            black_box(extract_features(black_box(model), &case.line, &case.labels, &mut counts)).is_ok()
+            context.compute_scores(black_box(&case.instance), black_box(&generator));
+            black_box(probe::state_scores(&context)).len() == words as usize
         }));
         times[4].extend(pass(cases, |case| {
-            let counts = trainer.counts(black_box(&case.instance), &case.labels, black_box(&features_of_the_text));
+            black_box(extract_features(black_box(model), &case.line, &case.labels, &mut counts)).is_ok()
+        }));
+        times[5].extend(pass(cases, |case| {
+            black_box(unsafe { steps::count(black_box(model), &case.line, &case.labels, &mut counts) }).is_ok()
+        }));
+        times[6].extend(pass(cases, |case| {
+            let counts = trainer.counts(black_box(&case.instance), &case.labels, black_box(&generator));
             black_box(counts).len() == features as usize
         }));
     }
-    let [check, scored, scored_by_rust, counted, counted_by_rust] = times.map(median);
-    println!("L {labels:2} T {words:3} F {features:5}, {attributes} attributes a word, {entries:2} entries a list:");
-    for (call, library, rust) in [("scoring ", scored, scored_by_rust), ("counting", counted, counted_by_rust)] {
+    let [check, scored, score, score_of_text, counted, count, count_of_text] = times.map(median);
+    println!(
+        "L {labels:2} T {words:3} F {features:5}, {attributes} attributes a word, {entries:2} entries a list ({} lines): \
+         the model's check alone {check:.0}",
+        cases.len()
+    );
+    for (call, step, rust, whole) in
+        [("scoring ", score, score_of_text, scored), ("counting", count, count_of_text, counted)]
+    {
         println!(
-            "  {call}: library {library:7.0}, of which the model's check {check:7.0}; Rust {rust:7.0}; ratio {:.3}",
-            rust / library
+            "  {call}: after the check {step:6.0}, Rust {rust:6.0}; the whole call {whole:7.0}; ratio {:.2}",
+            rust / step
         );
     }
 }
