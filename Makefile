@@ -1,6 +1,7 @@
 # make test              everything that is proved, compared and run: the gate
 # make run               builds the program `decode` and decodes every sheet in samples/
 # make run SHEET=FILE    decodes a sheet of one's own
+# make example           builds the C example of examples/ and runs it: learns from log lines, labels another
 # make bench             times of decoding: the library, the Rust, Rust over flat tables
 # make list              writes anew, from the oracle, the answers that the gate replays, and the samples
 # make archive           the static library for C and Rust, in build/
@@ -8,7 +9,7 @@
 
 root := $(dir $(lastword $(MAKEFILE_LIST)))
 
-.PHONY: test run bench list archive fmt
+.PHONY: test run example bench list archive fmt
 
 test:
 	@$(root)scripts/test
@@ -17,6 +18,9 @@ test:
 run: export FROM = $(PWD)
 run:
 	@$(root)scripts/run
+
+example:
+	@$(root)scripts/example
 
 bench:
 	@$(root)scripts/bench

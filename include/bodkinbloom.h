@@ -230,6 +230,180 @@ bodkinbloom_decoded bodkinbloom_label_line(uint32_t labels, bodkinbloom_counts c
                                            const double *values, size_t values_length,
                                            uint32_t *path, size_t path_length);
 
+/* ---- training: from lines whose labels are known to the weights of a model
+ *
+ * Three calls, alike but for the way they learn: averaged perceptron, passive-aggressive, AROW. Each takes its parameters,
+ * a model's tables without weights, instances (lines with the labels that are right), and buffers to write to.
+ *
+ * The model's tables and their lengths are those of a model above, but for the weights. The other tables, and how long they
+ * have to be:
+ *
+ *    the instances, only read:
+ *    lines               BODKINBLOOM_STARTS(totals.instances)          where the words of each begin; 1 to 128 words
+ *    begins              BODKINBLOOM_STARTS(totals.words)              where the attributes of each word begin
+ *    ids, values         totals.attributes                             of each attribute: its id, its value
+ *    references          totals.words                                  of each word: the label that is right
+ *    shares              totals.instances                              of each instance: how much it weighs; usually 1
+ *
+ *    the buffers:
+ *    weights             BODKINBLOOM_WEIGHTS(counts.features)          the result, a weight for each feature
+ *    beside, truly,
+ *    predicted           BODKINBLOOM_WEIGHTS(counts.features)          work; each is a buffer of its own
+ *    order               BODKINBLOOM_ORDER(totals.instances)           work
+ *
+ * Starts keep the rule that is given above. An attribute whose id has no list is ignored.
+ *
+ * What the buffers hold at entry does not matter. In the end they hold, in the front that the table above asks for,
+ *    after an accepted call   the weights; zeros in the other four
+ *    after 1 to 7             what they held at entry
+ *    after 8 and 9            zeros, the weights too
+ * and behind that front always what they held at entry.
+ *
+ * Refusals. The lowest number is given; of tables at fault the first in the order named here, and in it the lowest index.
+ *    1  `labels` is not 1 to 32; place 0
+ *    2  a count is outside its bound: at most 65,535 features, 65,535 attribute lists, 32 label lists, 1,048,576 entries of
+ *       attribute lists, as many of label lists, 1,048,576 words, 4,194,304 attributes; 1 to 16,384 instances. Or a table
+ *       or buffer is shorter than its count asks for. Place 0
+ *    3  a start breaks its rule; place: its index in attribute_starts, label_starts, lines, begins
+ *    4  an instance has no words, or more than 128; place: which instance
+ *    5  out of range; place: the index in kinds, destinations, sources (of Transitions), attribute_entries, label_entries,
+ *       references
+ *    6  not finite; place: the index in values, shares
+ *    7  a parameter of this call is bad; place: the first of
+ *          1  epochs: not 1 to 1,000
+ *          2  epsilon: below 0, or not finite
+ *          3  c or variance: not above 0, or not finite
+ *          4  gamma: not above 0, or not finite
+ *          5  variant: above 2
+ *    8  in a visit a score or a feature count is not finite; place: the visits done before that visit
+ *    9  after a visit a weight, a running sum, a covariance or the loss of the epoch is not finite; place: the visits done
+ *       before that visit. Or a weight is not finite after the final averaging; place: all visits
+ *
+ * A visit labels one instance with the weights so far, and changes them where a label is wrong. An epoch visits every
+ * instance once. The order is 0, 1, 2 and so on; before each epoch the order of the epoch before is shuffled, as
+ * bodkinbloom_shuffle does it, with a state that is `seed` at first and goes on from epoch to epoch (one instance alone is
+ * not shuffled). So the same call gives the same weights, to the bit. Training ends after as many epochs as are allowed, or
+ * after one whose loss divided by the number of instances is below epsilon; AROW also ends where the two are equal. */
+
+/* The most of each, beside those above, and how long the buffers have to be. */
+#define BODKINBLOOM_MOST_INSTANCES 16384
+#define BODKINBLOOM_MOST_WORDS_IN_ALL 1048576
+#define BODKINBLOOM_MOST_EPOCHS 1000
+#define BODKINBLOOM_WEIGHTS(features) ((size_t)(features))
+#define BODKINBLOOM_ORDER(instances) ((size_t)(instances))
+
+/* How many instances, and how many words and attributes they have in all. */
+typedef struct {
+    uint32_t instances;
+    uint32_t words;
+    uint32_t attributes;
+} bodkinbloom_totals;
+
+/* What training answers.
+ *    number    0, or the refusal's; then the numbers below are 0
+ *    place     of the refusal, else 0
+ *    epochs    that were run
+ *    visits    epochs x instances
+ *    updates   visits that found a wrong label */
+typedef struct {
+    uint32_t number;
+    uint64_t place;
+    uint64_t epochs;
+    uint64_t visits;
+    uint64_t updates;
+} bodkinbloom_trained;
+
+/* Averaged perceptron.
+ *    epochs    how many are allowed, 1 to 1,000
+ *    epsilon   when to stop, see above; 0 or above. A line's loss is the part of its labels that is wrong, times its share
+ *    seed      of the shuffle; any number */
+typedef struct {
+    uint32_t epochs;
+    double epsilon;
+    uint64_t seed;
+} bodkinbloom_perceptron;
+
+bodkinbloom_trained bodkinbloom_averaged_perceptron(
+    bodkinbloom_perceptron parameters, uint32_t labels, bodkinbloom_counts counts,
+    const uint8_t *kinds, size_t kinds_length, const uint32_t *destinations, size_t destinations_length,
+    const uint32_t *sources, size_t sources_length,
+    const uint32_t *attribute_starts, size_t attribute_starts_length,
+    const uint32_t *attribute_entries, size_t attribute_entries_length,
+    const uint32_t *label_starts, size_t label_starts_length,
+    const uint32_t *label_entries, size_t label_entries_length,
+    bodkinbloom_totals totals,
+    const uint32_t *lines, size_t lines_length, const uint32_t *begins, size_t begins_length,
+    const uint32_t *ids, size_t ids_length, const double *values, size_t values_length,
+    const uint32_t *references, size_t references_length, const double *shares, size_t shares_length,
+    double *weights, size_t weights_length, double *beside, size_t beside_length,
+    double *truly, size_t truly_length, double *predicted, size_t predicted_length,
+    uint32_t *order, size_t order_length);
+
+/* Passive-aggressive.
+ *    epochs, epsilon, seed   as above
+ *    variant                 0 Pa, 1 PaI, 2 PaII, which have names below
+ *    c                       above 0: the larger, the larger the steps of PaI and PaII. It is tested for Pa too
+ *    sensitive               switch: several wrong labels in a line cost the root of their number, instead of 1
+ *    averaging               switch: the weights are averaged in the end
+ * A switch is off if it is 0, and on if it is anything else. */
+typedef struct {
+    uint32_t epochs;
+    double epsilon;
+    uint64_t seed;
+    uint32_t variant;
+    double c;
+    uint32_t sensitive;
+    uint32_t averaging;
+} bodkinbloom_passive;
+
+#define BODKINBLOOM_PA 0
+#define BODKINBLOOM_PA_I 1
+#define BODKINBLOOM_PA_II 2
+
+bodkinbloom_trained bodkinbloom_passive_aggressive(
+    bodkinbloom_passive parameters, uint32_t labels, bodkinbloom_counts counts,
+    const uint8_t *kinds, size_t kinds_length, const uint32_t *destinations, size_t destinations_length,
+    const uint32_t *sources, size_t sources_length,
+    const uint32_t *attribute_starts, size_t attribute_starts_length,
+    const uint32_t *attribute_entries, size_t attribute_entries_length,
+    const uint32_t *label_starts, size_t label_starts_length,
+    const uint32_t *label_entries, size_t label_entries_length,
+    bodkinbloom_totals totals,
+    const uint32_t *lines, size_t lines_length, const uint32_t *begins, size_t begins_length,
+    const uint32_t *ids, size_t ids_length, const double *values, size_t values_length,
+    const uint32_t *references, size_t references_length, const double *shares, size_t shares_length,
+    double *weights, size_t weights_length, double *beside, size_t beside_length,
+    double *truly, size_t truly_length, double *predicted, size_t predicted_length,
+    uint32_t *order, size_t order_length);
+
+/* AROW.
+ *    epochs, epsilon, seed   as above
+ *    variance                above 0: at which the covariance of every feature starts
+ *    gamma                   above 0: the larger, the smaller the steps */
+typedef struct {
+    uint32_t epochs;
+    double epsilon;
+    uint64_t seed;
+    double variance;
+    double gamma;
+} bodkinbloom_arow_parameters;
+
+bodkinbloom_trained bodkinbloom_arow(
+    bodkinbloom_arow_parameters parameters, uint32_t labels, bodkinbloom_counts counts,
+    const uint8_t *kinds, size_t kinds_length, const uint32_t *destinations, size_t destinations_length,
+    const uint32_t *sources, size_t sources_length,
+    const uint32_t *attribute_starts, size_t attribute_starts_length,
+    const uint32_t *attribute_entries, size_t attribute_entries_length,
+    const uint32_t *label_starts, size_t label_starts_length,
+    const uint32_t *label_entries, size_t label_entries_length,
+    bodkinbloom_totals totals,
+    const uint32_t *lines, size_t lines_length, const uint32_t *begins, size_t begins_length,
+    const uint32_t *ids, size_t ids_length, const double *values, size_t values_length,
+    const uint32_t *references, size_t references_length, const double *shares, size_t shares_length,
+    double *weights, size_t weights_length, double *beside, size_t beside_length,
+    double *truly, size_t truly_length, double *predicted, size_t predicted_length,
+    uint32_t *order, size_t order_length);
+
 #ifdef __cplusplus
 }
 #endif

@@ -10,11 +10,13 @@
 //! - `desk`: the desk cases P1 to P14.
 //! - `list`: the fixed list of answers that the repository replays without Rust at hand.
 //! - `sheets`: the fixed sheet files, good and damaged, and the samples.
+//! - `log_sheet`: what the C example has to print.
 
 pub mod cases;
 pub mod desk;
 pub mod judge;
 pub mod list;
+pub mod log_sheet;
 pub mod panics;
 pub mod reference;
 pub mod refusals;

@@ -1,193 +1,608 @@
-/* The trainers as a C program calls them: the desk cases P9 to P14, NULL for tables of length 0, one refusal of each
- * number, and the memory around what is lent. Numbers are compared to the bit. */
+/* The trainers as a C program calls them: the desk cases P9 to P14, the cases that document 01 wants run, two instances over
+ * several epochs, the switches, every refusal alone and together with all that come after it, NULL for tables of length 0.
+ * After each call all memory is looked at: tables that are read, the needed fronts of buffers, and what lies behind them.
+ *
+ * What is expected is document 01's, or was worked out by hand; of the latter oracle/tests/training_from_c.rs shows that the
+ * Rust gives the same. Numbers are compared to the bit. */
 #include <float.h>
-#include <inttypes.h>
 #include <math.h>
+#include <stdint.h>
 #include <stdio.h>
 #include <string.h>
 #include "bodkinbloom.h"
 
+#define ROOT_2 1.4142135623730951
+
+/* ---- what is handed over: numbers, tables that are read, buffers */
+
+enum { PERCEPTRON, PASSIVE, AROW, TRAINERS };
+static const char *const trainers[TRAINERS] = {"averaged perceptron", "passive-aggressive", "AROW"};
+
+enum {
+    KINDS, DESTINATIONS, SOURCES, ATTRIBUTE_STARTS, ATTRIBUTE_ENTRIES, LABEL_STARTS, LABEL_ENTRIES,
+    LINES, BEGINS, IDS, VALUES, REFERENCES, SHARES, WEIGHTS, BESIDE, TRULY, PREDICTED, ORDER, TABLES
+};
+
+typedef struct {
+    int trainer;
+    uint32_t epochs, variant, sensitive, averaging, labels;
+    double epsilon, c, variance, gamma;
+    uint64_t seed;
+    bodkinbloom_counts counts;
+    bodkinbloom_totals totals;
+    struct {
+        void *at;
+        size_t length;
+    } table[TABLES];
+} call;
+
+enum { F = 4, N = 16384, BEHIND = 3 };
+
+static struct {
+    uint8_t kinds[F];
+    uint32_t destinations[F], sources[F], attribute_starts[3], attribute_entries[F], label_starts[3], label_entries[2];
+    uint32_t lines[N + 1], begins[N + 1], ids[N], references[N];
+    double values[N], shares[N];
+} in, before;
+
+static struct {
+    double weights[F + BEHIND], beside[F + BEHIND], truly[F + BEHIND], predicted[F + BEHIND];
+    uint32_t order[N + BEHIND];
+} out;
+
+/* what the buffers are full of at entry */
+static unsigned char fill = 0x5A;
+
+static const struct {
+    void *at;
+    size_t bytes, each;
+} buffers[TABLES] = {
+    [WEIGHTS] = {out.weights, sizeof out.weights, sizeof(double)},
+    [BESIDE] = {out.beside, sizeof out.beside, sizeof(double)},
+    [TRULY] = {out.truly, sizeof out.truly, sizeof(double)},
+    [PREDICTED] = {out.predicted, sizeof out.predicted, sizeof(double)},
+    [ORDER] = {out.order, sizeof out.order, sizeof(uint32_t)},
+};
+
+static size_t needed(const call *c, int table) {
+    const bodkinbloom_counts *counts = &c->counts;
+    const bodkinbloom_totals *totals = &c->totals;
+    const size_t lengths[TABLES] = {
+        [KINDS] = counts->features, [DESTINATIONS] = counts->features, [SOURCES] = counts->features,
+        [ATTRIBUTE_STARTS] = BODKINBLOOM_STARTS(counts->attribute_lists),
+        [ATTRIBUTE_ENTRIES] = counts->attribute_entries,
+        [LABEL_STARTS] = BODKINBLOOM_STARTS(counts->label_lists), [LABEL_ENTRIES] = counts->label_entries,
+        [LINES] = BODKINBLOOM_STARTS(totals->instances), [BEGINS] = BODKINBLOOM_STARTS(totals->words),
+        [IDS] = totals->attributes, [VALUES] = totals->attributes, [REFERENCES] = totals->words,
+        [SHARES] = totals->instances, [WEIGHTS] = BODKINBLOOM_WEIGHTS(counts->features),
+        [BESIDE] = BODKINBLOOM_WEIGHTS(counts->features), [TRULY] = BODKINBLOOM_WEIGHTS(counts->features),
+        [PREDICTED] = BODKINBLOOM_WEIGHTS(counts->features), [ORDER] = BODKINBLOOM_ORDER(totals->instances),
+    };
+    return lengths[table];
+}
+
+/* Every table as long as it has to be, NULL where that is 0; buffers that are needed are one longer. */
+static void fit(call *c) {
+    void *const tables[TABLES] = {in.kinds, in.destinations, in.sources, in.attribute_starts, in.attribute_entries,
+                                  in.label_starts, in.label_entries, in.lines, in.begins, in.ids, in.values,
+                                  in.references, in.shares, out.weights, out.beside, out.truly, out.predicted, out.order};
+    for (int i = 0; i < TABLES; i++) {
+        size_t length = needed(c, i);
+        c->table[i].at = length == 0 ? NULL : tables[i];
+        c->table[i].length = length + (length > 0 && i >= WEIGHTS);
+    }
+}
+
+static bodkinbloom_trained train(const call *c) {
+    const bodkinbloom_perceptron perceptron = {.epochs = c->epochs, .epsilon = c->epsilon, .seed = c->seed};
+    const bodkinbloom_passive passive = {.epochs = c->epochs, .epsilon = c->epsilon, .seed = c->seed, .c = c->c,
+                                         .variant = c->variant, .sensitive = c->sensitive, .averaging = c->averaging};
+    const bodkinbloom_arow_parameters arow = {.epochs = c->epochs, .epsilon = c->epsilon, .seed = c->seed,
+                                              .variance = c->variance, .gamma = c->gamma};
+#define T(i) c->table[i].at, c->table[i].length
+#define ALL                                                                                                                  \
+    c->labels, c->counts, T(KINDS), T(DESTINATIONS), T(SOURCES), T(ATTRIBUTE_STARTS), T(ATTRIBUTE_ENTRIES), T(LABEL_STARTS), \
+        T(LABEL_ENTRIES), c->totals, T(LINES), T(BEGINS), T(IDS), T(VALUES), T(REFERENCES), T(SHARES), T(WEIGHTS),           \
+        T(BESIDE), T(TRULY), T(PREDICTED), T(ORDER)
+    switch (c->trainer) {
+    case PERCEPTRON:
+        return bodkinbloom_averaged_perceptron(perceptron, ALL);
+    case PASSIVE:
+        return bodkinbloom_passive_aggressive(passive, ALL);
+    default:
+        return bodkinbloom_arow(arow, ALL);
+    }
+}
+
+/* ---- what has to hold after it */
+
 static int checks, failures;
 
-static void holds(const char *what, int yes) {
+static void holds(const char *what, const call *c, int yes) {
     checks++;
     if (!yes) {
-        printf("not so: %s\n", what);
+        printf("not so: %s: %s\n", trainers[c->trainer], what);
         failures++;
     }
 }
 
-static int same(double x, double y) { return memcmp(&x, &y, sizeof x) == 0; }
-
-/* ---- two labels, one word, attribute 0 of value 1 listing State features to labels 0 and 1 */
-
-enum { F = 2, N = 1, ROOM = 3 };
-
-static const bodkinbloom_counts counts = {.features = F, .attribute_lists = 1, .attribute_entries = 2};
-static const bodkinbloom_totals totals = {.instances = N, .words = 1, .attributes = 1};
-static const uint8_t kinds[F] = {0, 0};
-static const uint32_t destinations[F] = {0, 1}, sources[F] = {0, 0};
-static const uint32_t attribute_starts[2] = {0, 2}, attribute_entries[2] = {0, 1}, label_starts[1] = {0};
-static const uint32_t lines[2] = {0, 1}, begins[2] = {0, 1}, ids[1] = {0};
-static const double one[1] = {1};
-
-#define NOTHING NULL, 0
-#define MODEL kinds, F, destinations, F, sources, F, attribute_starts, 2, attribute_entries, 2, label_starts, 1, NOTHING
-
-/* what is lent, one longer than needed, full of sevens */
-static double weights[ROOM], beside[ROOM], truly[ROOM], predicted[ROOM];
-static uint32_t order[N + 1];
-
-static void sevens(void) {
-    for (int i = 0; i < ROOM; i++)
-        weights[i] = beside[i] = truly[i] = predicted[i] = 7;
-    order[0] = order[1] = 7;
+static bodkinbloom_trained run(const char *what, const call *c) {
+    memcpy(&before, &in, sizeof in);
+    memset(&out, fill, sizeof out);
+    bodkinbloom_trained answer = train(c);
+    holds(what, c, memcmp(&before, &in, sizeof in) == 0);
+    return answer;
 }
 
-#define LENT weights, ROOM, beside, ROOM, truly, ROOM, predicted, ROOM, order, N + 1
+static int full_of(unsigned char byte, const unsigned char *at, size_t from, size_t to) {
+    while (from < to && at[from] == byte)
+        from++;
+    return from == to;
+}
 
-static int untouched(void) {
-    int all = order[0] == 7 && order[1] == 7;
-    for (int i = 0; i < ROOM; i++)
-        all = all && weights[i] == 7 && beside[i] == 7 && truly[i] == 7 && predicted[i] == 7;
+/* The needed fronts are zero, but for the weights of an accepted call; behind them nothing is written. */
+static int fronts(const call *c, const double *weights) {
+    int all = 1;
+    for (int i = WEIGHTS; i < TABLES; i++) {
+        size_t front = needed(c, i) * buffers[i].each;
+        all = all && (weights && i == WEIGHTS ? memcmp(out.weights, weights, front) == 0
+                                              : full_of(0, buffers[i].at, 0, front));
+        all = all && full_of(fill, buffers[i].at, front, buffers[i].bytes);
+    }
     return all;
 }
 
-/* the needed fronts: these weights, and zero; the rest is as it was */
-static int fronts(double first, double second) {
-    int all = same(weights[0], first) && same(weights[1], second) && weights[F] == 7 && order[0] == 0 && order[N] == 7;
-    for (int i = 0; i < F; i++)
-        all = all && same(beside[i], 0) && same(truly[i], 0) && same(predicted[i], 0);
-    return all && beside[F] == 7 && truly[F] == 7 && predicted[F] == 7;
+static void accepted(const char *what, const call *c, const double *weights, uint64_t epochs, uint64_t updates) {
+    bodkinbloom_trained answer = run(what, c);
+    holds(what, c, answer.number == 0 && answer.place == 0);
+    holds(what, c, answer.epochs == epochs && answer.visits == epochs * c->totals.instances && answer.updates == updates);
+    holds(what, c, fronts(c, weights));
 }
 
-enum { PERCEPTRON, PASSIVE, AROW };
+static void refused(const char *what, const call *c, uint32_t number, uint64_t place) {
+    bodkinbloom_trained answer = run(what, c);
+    holds(what, c, answer.number == number && answer.place == place);
+    holds(what, c, answer.epochs == 0 && answer.visits == 0 && answer.updates == 0);
+    holds(what, c, number < 8 ? full_of(fill, (unsigned char *)&out, 0, sizeof out) : fronts(c, NULL));
+}
 
-typedef struct {
-    const char *name;
-    int trainer;
-    uint32_t epochs, reference, variant, averaging;
-    double weight;
-    uint64_t epochs_run, updates;
-} desk_case;
+/* ---- P9 to P14: two labels, one word, attribute 0 of value 1 listing State features to labels 0 and 1 */
 
-static const desk_case desk[] = {
-    {"P9", PERCEPTRON, 1, 0, 0, 0, 0.5, 1, 1},
-    {"P10", PERCEPTRON, 3, 0, 0, 0, 0.75, 3, 1},
-    {"P11", PASSIVE, 1, 0, 1, 0, 0.5, 1, 1},
-    {"P11 with averaging", PASSIVE, 1, 0, 1, UINT32_MAX, 0.25, 1, 1},
-    {"P12", PASSIVE, 1, 0, 2, 0, 0.4, 1, 1},
-    {"P13", AROW, 1, 0, 0, 0, 0.25, 1, 1},
-    {"P14 AROW", AROW, 100, 1, 0, 0, 0, 1, 0},
-    {"P14 perceptron", PERCEPTRON, 100, 1, 0, 0, 0, 100, 0},
-    {"P14 Pa", PASSIVE, 100, 1, 0, 2, 0, 100, 0},
+/* With so many lists like attribute 0's, and so many instances alike. */
+static call alike(int trainer, uint32_t lists, uint32_t instances) {
+    memset(&in, 0, sizeof in);
+    for (uint32_t i = 0; i < 2 * lists; i++) {
+        in.destinations[i] = i % 2;
+        in.attribute_entries[i] = i;
+    }
+    for (uint32_t i = 0; i <= lists; i++)
+        in.attribute_starts[i] = 2 * i;
+    for (uint32_t i = 0; i < instances; i++) {
+        in.lines[i + 1] = in.begins[i + 1] = i + 1;
+        in.values[i] = in.shares[i] = 1;
+    }
+    call c = {.trainer = trainer, .epochs = 1, .variant = BODKINBLOOM_PA_I, .sensitive = 1, .labels = 2, .c = 1,
+              .variance = 0.5, .gamma = 1, .counts = {.features = 2 * lists, .attribute_lists = lists,
+              .attribute_entries = 2 * lists}, .totals = {instances, instances, instances}};
+    fit(&c);
+    return c;
+}
+
+static call p9(int trainer) { return alike(trainer, 1, 1); }
+
+static void desk(void) {
+    static const struct {
+        const char *name;
+        int trainer;
+        uint32_t epochs, reference, variant, averaging;
+        double weight;
+        uint64_t epochs_run;
+    } cases[] = {
+        {"P9", PERCEPTRON, 1, 0, 0, 0, 0.5, 1},
+        {"P10", PERCEPTRON, 3, 0, 0, 0, 0.75, 3},
+        {"P11", PASSIVE, 1, 0, BODKINBLOOM_PA_I, 0, 0.5, 1},
+        {"P11 with averaging", PASSIVE, 1, 0, BODKINBLOOM_PA_I, 1, 0.25, 1},
+        {"P12", PASSIVE, 1, 0, BODKINBLOOM_PA_II, 0, 0.4, 1},
+        {"P13", AROW, 1, 0, 0, 0, 0.25, 1},
+        {"P14", PERCEPTRON, 100, 1, 0, 0, 0, 100},
+        {"P14, Pa", PASSIVE, 100, 1, BODKINBLOOM_PA, 1, 0, 100},
+        {"P14, PaI", PASSIVE, 100, 1, BODKINBLOOM_PA_I, 1, 0, 100},
+        {"P14, PaII", PASSIVE, 100, 1, BODKINBLOOM_PA_II, 0, 0, 100},
+        {"P14", AROW, 100, 1, 0, 0, 0, 1},
+    };
+    for (size_t i = 0; i < sizeof cases / sizeof *cases; i++) {
+        call c = p9(cases[i].trainer);
+        c.epochs = cases[i].epochs;
+        c.variant = cases[i].variant;
+        c.averaging = cases[i].averaging;
+        in.references[0] = cases[i].reference;
+        double weight = cases[i].weight;
+        accepted(cases[i].name, &c, (double[]){weight, cases[i].reference == 0 ? -weight : 0}, cases[i].epochs_run,
+                 cases[i].reference == 0);
+    }
+}
+
+/* ---- "Run only: L 0, 32, 33; T 0, 128, 129; N 0, 1; C = 0, NaN"; N 1 is P9 */
+
+/* One instance of so many words. */
+static call line_of(int trainer, uint32_t words) {
+    call c = alike(trainer, 1, words == 0 ? 1 : words);
+    in.lines[1] = words;
+    c.totals = (bodkinbloom_totals){1, words, words};
+    fit(&c);
+    return c;
+}
+
+static void run_only(int trainer) {
+    static const double with_32[] = {0.5, 1, 1.0 / 3}, with_128[] = {64, ROOT_2 / 32, 8192.0 / 16385};
+    static const double with_most[] = {1 - 1.0 / 16385, 0.5, 0.25};
+    call c = p9(trainer);
+    c.labels = 0;
+    refused("no labels", &c, 1, 0);
+    c.labels = 33;
+    refused("33 labels", &c, 1, 0);
+    c.labels = 32;
+    accepted("32 labels: all tie, the last is found", &c, (double[]){with_32[trainer], 0}, 1, 1);
+
+    c = line_of(trainer, 0);
+    refused("no words", &c, 4, 0);
+    c = line_of(trainer, 129);
+    refused("129 words", &c, 4, 0);
+    c = line_of(trainer, 128);
+    accepted("128 words", &c, (double[]){with_128[trainer], -with_128[trainer]}, 1, 1);
+    c = alike(trainer, 1, 130);
+    c.totals.instances = 2;
+    in.lines[2] = 130;
+    fit(&c);
+    refused("129 words in the second instance", &c, 4, 1);
+
+    c = p9(trainer);
+    c.totals.instances = 0;
+    refused("no instances", &c, 2, 0);
+    c = alike(trainer, 1, N);
+    accepted("as many instances as there can be", &c, (double[]){with_most[trainer], -with_most[trainer]}, 1, 1);
+}
+
+static void parameters(double bad) {
+    call c = p9(PASSIVE);
+    c.c = bad;
+    for (c.variant = 0; c.variant < 3; c.variant++)
+        refused("C that is not above 0, or not finite", &c, 7, 3);
+    c = p9(AROW);
+    c.variance = bad;
+    refused("variance that is not above 0, or not finite", &c, 7, 3);
+    c.variance = 1;
+    c.gamma = bad;
+    refused("gamma that is not above 0, or not finite", &c, 7, 4);
+    for (int trainer = 0; bad != 0 && trainer < TRAINERS; trainer++) {
+        c = p9(trainer);
+        c.epsilon = bad;
+        refused("epsilon below 0, or not finite", &c, 7, 2);
+    }
+}
+
+/* ---- two instances: attribute 0 with reference 0, attributes 0 and 1 with reference 1
+ *
+ * Draws from the seed 0 are odd, even, odd: the order is 0 1, then 1 0, then 1 0. Draws from 1234567 are odd: 0 1. A trainer
+ * that learns in the first epoch and counts the rest is found out: the second epoch has an update. */
+
+static call two(int trainer, uint32_t epochs) {
+    call c = alike(trainer, 2, 2);
+    in.begins[2] = c.totals.attributes = 3;
+    in.ids[2] = in.references[1] = in.values[2] = 1;
+    c.epochs = epochs;
+    fit(&c);
+    return c;
+}
+
+#define MIRRORED(x, y) ((double[]){x, -(x), -(y), y})
+
+static void two_instances(void) {
+    call c = two(PERCEPTRON, 1);
+    accepted("two instances, 1 epoch", &c, MIRRORED(1.0 / 3, 1 - 2.0 / 3), 1, 2);
+    c = two(PERCEPTRON, 2);
+    accepted("two instances, 2 epochs", &c, MIRRORED(1 - 3.0 / 5, 1 - 2.0 / 5), 2, 3);
+    c = two(PERCEPTRON, 3);
+    accepted("two instances, 3 epochs", &c, MIRRORED(1 - 3.0 / 7, 1 - 2.0 / 7), 3, 3);
+    c = two(PERCEPTRON, 2);
+    c.seed = 1234567;
+    accepted("two instances, another seed", &c, MIRRORED(1 - 2.0 / 5, 1 - 2.0 / 5), 2, 3);
+    /* the mean loss is 1, then 0.5, then 0 */
+    c = two(PERCEPTRON, 100);
+    c.epsilon = 0.5;
+    accepted("a loss of epsilon goes on", &c, MIRRORED(1 - 3.0 / 7, 1 - 2.0 / 7), 3, 3);
+    c.epsilon = 0.51;
+    accepted("a loss below epsilon stops", &c, MIRRORED(1 - 3.0 / 5, 1 - 2.0 / 5), 2, 3);
+
+    c = two(PASSIVE, 1);
+    c.variant = BODKINBLOOM_PA;
+    accepted("two instances, 1 epoch", &c, (double[]){0, 0, -0.5, 0.5}, 1, 2);
+    c.epochs = 2;
+    accepted("two instances, 2 epochs", &c, MIRRORED(0.5, 0.5), 2, 3);
+    c.averaging = 1;
+    accepted("two instances, averaging", &c, MIRRORED(0.5 - 1.5 / 5, 0.5 - 1.0 / 5), 2, 3);
+
+    c = two(AROW, 1);
+    c.variance = 1;
+    in.values[1] = 2;
+    accepted("two instances, 1 epoch", &c, (double[]){0, 0, -1.0 / 3, 1.0 / 3}, 1, 2);
+    c.epochs = 2; /* 1/8 but for the rounding */
+    accepted("two instances, 2 epochs", &c, MIRRORED(0.12499999999999997, 1.0 / 3), 2, 3);
+    c.epochs = 100;
+    accepted("a loss of epsilon stops", &c, MIRRORED(0.12499999999999997, 1.0 / 3), 3, 3);
+    c.epsilon = -0.0;
+    accepted("epsilon of -0 is zero", &c, MIRRORED(0.12499999999999997, 1.0 / 3), 3, 3);
+}
+
+/* "Only AROW and the perceptron weight the difference." */
+static void shares(void) {
+    static const struct {
+        int trainer;
+        uint32_t variant;
+        double weight;
+    } cases[] = {{PERCEPTRON, 0, 1}, {PASSIVE, 0, 1}, {PASSIVE, 1, 1}, {PASSIVE, 2, 0.8}, {AROW, 0, 0.2}};
+    for (size_t i = 0; i < sizeof cases / sizeof *cases; i++) {
+        call c = p9(cases[i].trainer);
+        c.variant = cases[i].variant;
+        in.shares[0] = 2;
+        accepted("an instance of weight 2", &c, (double[]){cases[i].weight, -cases[i].weight}, 1, 1);
+    }
+}
+
+/* ---- numbers that stand for something: 0 is off and all else on; the variants are 0, 1, 2 */
+
+static void switches(void) {
+    const uint32_t numbers[] = {0, 1, 2, UINT32_MAX};
+    for (int s = 0; s < 4; s++)
+        for (int a = 0; a < 4; a++) {
+            call c = line_of(PASSIVE, 2);
+            c.variant = BODKINBLOOM_PA;
+            c.sensitive = numbers[s];
+            c.averaging = numbers[a];
+            double weight = (s == 0 ? 1 : ROOT_2) / (a == 0 ? 4 : 8);
+            accepted("a switch", &c, (double[]){weight, -weight}, 1, 1);
+        }
+    const uint32_t variants[] = {3, 4, 256, UINT32_MAX};
+    for (int v = 0; v < 4; v++) {
+        call c = p9(PASSIVE);
+        c.variant = variants[v];
+        refused("a variant above 2", &c, 7, 5);
+    }
+    for (int trainer = 0; trainer < TRAINERS; trainer++) {
+        call c = p9(trainer);
+        const uint32_t epochs[] = {0, 1001, UINT32_MAX};
+        for (int e = 0; e < 3; e++) {
+            c.epochs = epochs[e];
+            refused("epochs outside 1 to 1,000", &c, 7, 1);
+        }
+        c.epochs = 1000;
+        in.references[0] = 1;
+        accepted("1,000 epochs", &c, (double[]){0, 0}, trainer == AROW ? 1 : 1000, 0);
+    }
+}
+
+/* ---- 1 to 7, in the order in which they are given */
+
+/* Two instances of two words over a model with something in every table. */
+static call whole(int trainer) {
+    call c = alike(trainer, 2, 4);
+    in.kinds[2] = in.kinds[3] = in.destinations[2] = in.sources[3] = 1;
+    in.sources[0] = in.sources[1] = 99; /* of State features: not read */
+    in.destinations[3] = in.sources[2] = 0;
+    in.attribute_entries[2] = 0;
+    in.attribute_entries[3] = 1;
+    in.label_starts[1] = 1;
+    in.label_starts[2] = 2;
+    in.label_entries[0] = 2;
+    in.label_entries[1] = 3;
+    in.lines[1] = 2;
+    in.lines[2] = 4;
+    in.ids[1] = in.references[1] = in.references[2] = 1;
+    in.ids[3] = 70; /* has no list: ignored */
+    c.counts.label_lists = c.counts.label_entries = c.totals.instances = 2;
+    fit(&c);
+    return c;
+}
+
+enum {
+    LABELS_33, TOO_SHORT, ATTRIBUTE_STARTS_END, LABEL_STARTS_BEGIN, LINES_END, BEGINS_FALL, WORDLESS, BAD_KIND,
+    BAD_DESTINATION, BAD_SOURCE, BAD_ATTRIBUTE_ENTRY, BAD_LABEL_ENTRY, BAD_REFERENCE, BAD_VALUE, BAD_SHARE,
+    NO_EPOCHS, BAD_EPSILON, BAD_C, BAD_GAMMA, BAD_VARIANT, FAULTS
 };
 
-static bodkinbloom_trained train(const desk_case *p, const double *values, const double *share, double c) {
-    const uint32_t reference[1] = {p->reference};
-    const bodkinbloom_perceptron perceptron = {.epochs = p->epochs, .epsilon = 0, .seed = 1};
-    const bodkinbloom_passive passive = {.epochs = p->epochs, .seed = 1, .variant = p->variant, .c = c,
-                                         .sensitive = 1, .averaging = p->averaging};
-    const bodkinbloom_arow_parameters arow = {.epochs = p->epochs, .seed = 1, .variance = 0.5 * c, .gamma = c};
-#define DATA totals, lines, 2, begins, 2, ids, 1, values, 1, reference, 1, share, 1
-    switch (p->trainer) {
-    case PERCEPTRON:
-        return bodkinbloom_averaged_perceptron(perceptron, 2, counts, MODEL, DATA, LENT);
-    case PASSIVE:
-        return bodkinbloom_passive_aggressive(passive, 2, counts, MODEL, DATA, LENT);
-    default:
-        return bodkinbloom_arow(arow, 2, counts, MODEL, DATA, LENT);
+static const struct {
+    const char *what;
+    uint32_t number;
+    uint64_t place;
+} faults[FAULTS] = {
+    [LABELS_33] = {"33 labels", 1, 0},
+    [TOO_SHORT] = {"a buffer that is too short", 2, 0},
+    [ATTRIBUTE_STARTS_END] = {"attribute lists that do not end at their count", 3, 2},
+    [LABEL_STARTS_BEGIN] = {"label lists that do not begin at 0", 3, 0},
+    [LINES_END] = {"instances that do not end at their count", 3, 2},
+    [BEGINS_FALL] = {"starts of attributes that fall", 3, 3},
+    [WORDLESS] = {"an instance without words", 4, 1},
+    [BAD_KIND] = {"a kind of 2", 5, 3},
+    [BAD_DESTINATION] = {"a destination at L", 5, 1},
+    [BAD_SOURCE] = {"a source at L", 5, 2},
+    [BAD_ATTRIBUTE_ENTRY] = {"a feature at F in an attribute list", 5, 3},
+    [BAD_LABEL_ENTRY] = {"a feature at F in a label list", 5, 1},
+    [BAD_REFERENCE] = {"a reference at L", 5, 2},
+    [BAD_VALUE] = {"a value that is not finite", 6, 3},
+    [BAD_SHARE] = {"an instance weight that is not finite", 6, 1},
+    [NO_EPOCHS] = {"no epochs", 7, 1},
+    [BAD_EPSILON] = {"epsilon below 0", 7, 2},
+    [BAD_C] = {"C or variance of 0", 7, 3},
+    [BAD_GAMMA] = {"gamma of NaN", 7, 4},
+    [BAD_VARIANT] = {"a variant of 3", 7, 5},
+};
+
+static void damage(call *c, int fault) {
+    switch (fault) {
+    case LABELS_33: c->labels = 33; break;
+    case TOO_SHORT: c->table[PREDICTED].length = F - 1; break;
+    case ATTRIBUTE_STARTS_END: in.attribute_starts[2] = 3; break;
+    case LABEL_STARTS_BEGIN: in.label_starts[0] = 1; break;
+    case LINES_END: in.lines[2] = 5; break;
+    case BEGINS_FALL: in.begins[3] = 1; break;
+    case WORDLESS: in.lines[1] = 4; break;
+    case BAD_KIND: in.kinds[3] = 2; break;
+    case BAD_DESTINATION: in.destinations[1] = 2; break;
+    case BAD_SOURCE: in.sources[2] = 2; break;
+    case BAD_ATTRIBUTE_ENTRY: in.attribute_entries[3] = F; break;
+    case BAD_LABEL_ENTRY: in.label_entries[1] = F; break;
+    case BAD_REFERENCE: in.references[2] = 2; break;
+    case BAD_VALUE: in.values[3] = NAN; break;
+    case BAD_SHARE: in.shares[1] = -INFINITY; break;
+    case NO_EPOCHS: c->epochs = 0; break;
+    case BAD_EPSILON: c->epsilon = -1; break;
+    case BAD_C: c->c = c->variance = 0; break;
+    case BAD_GAMMA: c->gamma = NAN; break;
+    case BAD_VARIANT: c->variant = 3; break;
     }
 }
 
-static void desk_cases(void) {
-    for (size_t i = 0; i < sizeof desk / sizeof *desk; i++) {
-        const desk_case *p = &desk[i];
-        sevens();
-        bodkinbloom_trained answer = train(p, one, one, 1);
-        holds(p->name, answer.number == 0 && answer.place == 0 && answer.epochs == p->epochs_run &&
-                           answer.visits == p->epochs_run && answer.updates == p->updates);
-        holds(p->name, p->reference == 0 ? fronts(p->weight, -p->weight) : fronts(0, 0));
+/* "Each trainer tests only its own." */
+static int tested(int trainer, int fault) {
+    return fault < BAD_C || (trainer == PASSIVE && fault != BAD_GAMMA) || (trainer == AROW && fault != BAD_VARIANT);
+}
+
+static void refusals(int trainer) {
+    call c = whole(trainer);
+    holds("nothing is at fault", &c, run("nothing is at fault", &c).number == 0);
+    for (int fault = 0; fault < FAULTS; fault++) {
+        if (!tested(trainer, fault))
+            continue;
+        c = whole(trainer);
+        damage(&c, fault);
+        refused(faults[fault].what, &c, faults[fault].number, faults[fault].place);
+        for (int later = fault + 1; later < FAULTS; later++)
+            damage(&c, later);
+        refused(faults[fault].what, &c, faults[fault].number, faults[fault].place);
     }
 }
 
-/* ---- refusals */
+/* ---- tables that are too short, down to NULL; counts that no table can have */
 
-static void refused(const char *what, bodkinbloom_trained answer, uint32_t number, uint64_t place) {
-    holds(what, answer.number == number && answer.place == place && answer.epochs == 0 && answer.visits == 0 &&
-                    answer.updates == 0);
+static void lengths(int trainer) {
+    for (int i = 0; i < TABLES; i++) {
+        call c = whole(trainer);
+        c.table[i].length = needed(&c, i);
+        holds("as long as needed", &c, run("as long as needed", &c).number == 0);
+        c.table[i].length -= 1;
+        refused("one too short", &c, 2, 0);
+        c.table[i].at = NULL;
+        c.table[i].length = 0;
+        refused("NULL", &c, 2, 0);
+    }
+    for (int count = 0; count < 8; count++) {
+        call c = whole(trainer);
+        uint32_t *const counts[] = {&c.counts.features, &c.counts.attribute_lists, &c.counts.label_lists,
+                                    &c.counts.attribute_entries, &c.counts.label_entries, &c.totals.instances,
+                                    &c.totals.words, &c.totals.attributes};
+        *counts[count] = UINT32_MAX;
+        refused("a count of 2^32 - 1", &c, 2, 0);
+    }
 }
 
-static void numbers(void) {
-    const bodkinbloom_perceptron parameters = {.epochs = 0, .epsilon = -1, .seed = 1};
-    const double infinite[1] = {INFINITY}, *values = one, *share = one;
-    const uint32_t reference[1] = {0}, two[1] = {2}, twice[2] = {0, 2};
-    bodkinbloom_totals none = totals;
-    none.instances = 0;
-    sevens();
-    refused("33 labels", bodkinbloom_averaged_perceptron(parameters, 33, counts, MODEL, DATA, LENT), 1, 0);
-    refused("no instances",
-            bodkinbloom_averaged_perceptron(parameters, 2, counts, MODEL, none, lines, 2, begins, 2, ids, 1, values, 1,
-                                            reference, 1, share, 1, LENT), 2, 0);
-    refused("too little room",
-            bodkinbloom_averaged_perceptron(parameters, 2, counts, MODEL, DATA, weights, 1, beside, ROOM, truly, ROOM,
-                                            predicted, ROOM, order, N), 2, 0);
-    refused("starts that do not end at the count",
-            bodkinbloom_averaged_perceptron(parameters, 2, counts, MODEL, totals, twice, 2, begins, 2, ids, 1, values, 1,
-                                            two, 1, infinite, 1, LENT), 3, 1);
-    const bodkinbloom_totals empty = {.instances = 1, .words = 0, .attributes = 0};
-    const uint32_t zeros[2] = {0, 0};
-    refused("an instance without words",
-            bodkinbloom_averaged_perceptron(parameters, 2, counts, MODEL, empty, zeros, 2, zeros, 1, NOTHING, NOTHING,
-                                            NOTHING, infinite, 1, LENT), 4, 0);
-    refused("a reference at L",
-            bodkinbloom_averaged_perceptron(parameters, 2, counts, MODEL, totals, lines, 2, begins, 2, ids, 1, values, 1,
-                                            two, 1, infinite, 1, LENT), 5, 0);
-    refused("a share that is not finite", train(&desk[0], one, infinite, 1), 6, 0);
-    refused("no epochs", bodkinbloom_averaged_perceptron(parameters, 2, counts, MODEL, DATA, LENT), 7, 1);
-    refused("C of 0", train(&desk[2], one, one, 0), 7, 3);
-    refused("C of NaN", train(&desk[4], one, one, NAN), 7, 3);
-    refused("variance of 0", train(&desk[5], one, one, 0), 7, 3);
-    desk_case fourth = desk[2];
-    fourth.variant = 3;
-    refused("a fourth variant", train(&fourth, one, one, 1), 7, 5);
-    holds("everything is as at entry", untouched());
+static void null_tables(int trainer) {
+    call c = p9(trainer);
+    for (int i = 0; i < TABLES; i++) {
+        c.table[i].at = NULL;
+        c.table[i].length = 0;
+    }
+    refused("all NULL", &c, 2, 0);
+    c.counts = (bodkinbloom_counts){0, 0, 0, 0, 0};
+    c.totals.words = c.totals.attributes = 0;
+    refused("all NULL, and all counts 0", &c, 2, 0);
+    c.labels = 0;
+    refused("all NULL, no labels", &c, 1, 0);
 
-    const double large[1] = {-1e308};
-    refused("a score overflows in the second epoch", train(&desk[1], large, one, 1), 8, 1);
-    holds("the fronts are zero", fronts(0, 0));
-    /* the features are in no list: 1 / (1 / variance) */
-    const bodkinbloom_counts unnamed = {.features = F};
-    const bodkinbloom_arow_parameters widest = {.epochs = 1, .seed = 1, .variance = DBL_MAX, .gamma = 1};
-    sevens();
-    refused("the covariance overflows",
-            bodkinbloom_arow(widest, 2, unnamed, kinds, F, destinations, F, sources, F, label_starts, 1, NOTHING,
-                             label_starts, 1, NOTHING, DATA, LENT), 9, 0);
-    holds("the fronts are zero", fronts(0, 0));
+    /* without features and attributes: starts, references, instance weights and the order are all that is needed */
+    c = alike(trainer, 0, 1);
+    c.totals.attributes = in.begins[1] = 0;
+    fit(&c);
+    int given = 0;
+    for (int i = 0; i < TABLES; i++)
+        given += c.table[i].at != NULL;
+    holds("seven tables are left", &c, given == 7);
+    accepted("NULL for what is not needed", &c, NULL, 1, 1);
 }
 
-static void null_tables(void) {
-    const bodkinbloom_perceptron parameters = {.epochs = 1, .epsilon = 0, .seed = 1};
-    const bodkinbloom_counts none = {0};
-    const double *values = one, *share = one;
-    const uint32_t reference[1] = {0};
-    refused("all NULL",
-            bodkinbloom_averaged_perceptron(parameters, 2, none, NOTHING, NOTHING, NOTHING, NOTHING, NOTHING, NOTHING,
-                                            NOTHING, totals, NOTHING, NOTHING, NOTHING, NOTHING, NOTHING, NOTHING,
-                                            NOTHING, NOTHING, NOTHING, NOTHING, NOTHING), 2, 0);
-    /* without features only the starts, the data and the order are needed */
-    sevens();
-    bodkinbloom_trained answer =
-        bodkinbloom_averaged_perceptron(parameters, 2, none, NOTHING, NOTHING, NOTHING, label_starts, 1, NOTHING,
-                                        label_starts, 1, NOTHING, DATA, NOTHING, NOTHING, NOTHING, NOTHING, order, N);
-    holds("no features", answer.number == 0 && answer.epochs == 1 && answer.visits == 1 && answer.updates == 1 &&
-                             order[0] == 0 && order[1] == 7);
+/* ---- 8 and 9: the needed fronts are zero */
+
+static void not_finite(int trainer) {
+    /* the first instance has the label that is found; the second an attribute twice */
+    call c = alike(trainer, 1, 3);
+    in.references[0] = 1;
+    in.begins[2] = 3;
+    in.values[1] = in.values[2] = DBL_MAX;
+    c.totals.instances = c.totals.words = 2;
+    fit(&c);
+    refused("a true count overflows", &c, 8, 1);
+    in.attribute_starts[1] = c.counts.attribute_entries = 1;
+    in.attribute_entries[0] = 1;
+    fit(&c);
+    refused("a predicted count overflows", &c, 8, 1);
+
+    c = alike(trainer, 0, 2);
+    in.shares[0] = in.shares[1] = 1.5e308;
+    refused("the loss overflows", &c, 9, 1);
+
+    c = p9(trainer);
+    in.values[0] = trainer == PASSIVE ? 1e-150 : DBL_MAX;
+    in.shares[0] = trainer == PASSIVE ? 1e10 : 2;
+    c.variant = BODKINBLOOM_PA;
+    refused("a weight overflows", &c, 9, 0);
+}
+
+static void not_finite_alone(void) {
+    call c = p9(PERCEPTRON);
+    c.epochs = 2;
+    in.values[0] = -1e308;
+    refused("a state score overflows in the second epoch", &c, 8, 1);
+
+    /* a Transition from label 1 to itself, twice in its list; two words */
+    c = line_of(PERCEPTRON, 2);
+    c.epochs = 2;
+    in.kinds[0] = in.sources[0] = in.destinations[0] = 1;
+    in.label_starts[2] = 2;
+    in.shares[0] = 0.4 * DBL_MAX;
+    c.counts = (bodkinbloom_counts){.features = 1, .label_lists = 2, .label_entries = 2};
+    fit(&c);
+    refused("a transition score overflows in the second epoch", &c, 8, 1);
+
+    c = alike(PERCEPTRON, 1, 2);
+    in.references[0] = 1;
+    in.shares[1] = 0.75 * DBL_MAX;
+    refused("a running sum overflows", &c, 9, 1);
+
+    /* features in no list: 1 / (1 / variance) */
+    c = p9(AROW);
+    c.variance = DBL_MAX;
+    c.counts = (bodkinbloom_counts){.features = 2};
+    fit(&c);
+    refused("a covariance overflows", &c, 9, 0);
 }
 
 int main(void) {
-    desk_cases();
-    numbers();
-    null_tables();
+    const double bad[] = {0, -0.0, -1, -DBL_MIN, NAN, INFINITY, -INFINITY};
+    desk();
+    for (size_t i = 0; i < sizeof bad / sizeof *bad; i++)
+        parameters(bad[i]);
+    two_instances();
+    fill = 0xFF; /* what the buffers hold at entry makes no difference */
+    two_instances();
+    shares();
+    switches();
+    for (int trainer = 0; trainer < TRAINERS; trainer++) {
+        run_only(trainer);
+        refusals(trainer);
+        lengths(trainer);
+        null_tables(trainer);
+        not_finite(trainer);
+    }
+    not_finite_alone();
     printf("%d checks of training from C: %d failed\n", checks, failures);
     return failures != 0;
 }
