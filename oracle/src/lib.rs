@@ -14,6 +14,7 @@
 
 pub mod cases;
 pub mod desk;
+pub mod differences;
 pub mod judge;
 pub mod list;
 pub mod log_sheet;

@@ -1,285 +1,242 @@
-//! Where the Rust goes on and document 01 refuses: each case run on both.
+//! The cases of docs/DIFFERENCES.md, each on the Rust text and on the judge; the page's tables; and what is no case.
 
-use oracle::panics::Cause;
-use oracle::refusals::{self, Refusal};
+use std::collections::{BTreeMap, BTreeSet};
+use std::fs;
+use std::path::Path;
+
+use crfs::eyes::Tables;
+use oracle::differences::{self, Call, Case, Did, Found, Group, Input};
+use oracle::refusals::Refusal;
 use oracle::rust::{self, Stopped};
-use oracle::tables::{Counts, Data, Line, Model, Rule, STATE, Scores, Settings, TRANSITION};
-use oracle::{desk, judge, trace};
+use oracle::tables::{Line, Model, Rule, STATE, TRANSITION};
+use oracle::trace::{self, Visit};
+use oracle::{desk, judge};
 
 fn refused<T>(number: u32, place: u32) -> Result<T, Refusal> {
     Err(Refusal { number, place })
 }
 
-fn settings(rule: Rule, epochs: u32) -> Settings {
-    Settings { rule, epochs, epsilon: 0.0, seed: 7 }
-}
-
-const PAI: Rule = Rule::PassiveAggressive { variant: 1, c: 1.0, error_sensitive: true, averaging: true };
-const AROW: Rule = Rule::Arow { variance: 1.0, gamma: 1.0 };
-const RULES: [Rule; 3] = [Rule::Perceptron, PAI, AROW];
-
-fn panicked<T: std::fmt::Debug>(answer: Result<T, Stopped>) -> Cause {
-    match answer {
-        Err(Stopped::Panicked(panic)) => panic.cause,
-        other => panic!("no panic: {other:?}"),
+fn each(mut look: impl FnMut(&Group, &Case)) {
+    for group in differences::groups() {
+        group.cases.iter().for_each(|case| look(&group, case));
     }
 }
 
-/// One-word instances without attributes.
-fn bare(references: &[u32], weights: &[f64]) -> Data {
-    let n = references.len() as u32;
-    Data {
-        instances: n,
-        words: n,
-        attributes: 0,
-        word_starts: (0..=n).collect(),
-        attribute_starts: vec![0; n as usize + 1],
-        ids: vec![],
-        values: vec![],
-        references: references.to_vec(),
-        weights: weights.to_vec(),
-    }
-}
+const CALLS: [Call; 11] = [
+    Call::Decode,
+    Call::PathScore,
+    Call::Check,
+    Call::Scores,
+    Call::Labels,
+    Call::Counts,
+    Call::SetWeights,
+    Call::Shuffle,
+    Call::Perceptron,
+    Call::Passive,
+    Call::Arow,
+];
 
-/// No features, no lists.
-fn empty_model(labels: u32) -> Model {
-    Model { labels, attribute_starts: vec![0], label_starts: vec![0], ..Model::default() }
-}
+// ---- the cases
 
 #[test]
-fn the_epoch_loss_overflows() {
-    let data = bare(&[0, 0], &[1.5e308, 1.5e308]);
-    for rule in RULES {
-        let settings = settings(rule, 1);
-        assert_eq!(judge::train(&empty_model(2), &data, &settings, &[]), refused(9, 1), "{rule:?}");
-        let trained = rust::train(&empty_model(2), &data, &settings).expect("the Rust finishes");
-        assert_eq!((trained.epochs, trained.visits, trained.updates), (1, 2, 2), "{rule:?}");
-    }
-}
-
-#[test]
-fn a_score_overflows_though_the_prediction_is_right() {
-    let mut data = desk::data(0);
-    data.values[0] = -1e308;
-    let settings = settings(Rule::Perceptron, 2);
-    assert_eq!(judge::train(&desk::model(), &data, &settings, &[]), refused(8, 1));
-    let trained = rust::train(&desk::model(), &data, &settings).expect("the Rust finishes");
-    assert_eq!((trained.visits, trained.updates), (2, 1));
-    assert!(trained.weights.iter().all(|weight| weight.is_finite()));
-}
-
-#[test]
-fn the_covariance_overflows() {
-    let mut model = desk::model();
-    model.counts.features = 3;
-    model.kinds.push(STATE);
-    model.destinations.push(0);
-    model.sources.push(0);
-    let arow = |variance| settings(Rule::Arow { variance, gamma: 1.0 }, 1);
-    let data = desk::data(0);
-    assert_eq!(judge::train(&model, &data, &arow(f64::MAX), &[]), refused(9, 0));
-    let trained = rust::train(&model, &data, &arow(f64::MAX)).expect("the Rust finishes");
-    assert!(trained.weights.iter().all(|weight| weight.is_finite()));
-    let trace = trace::train(&model, &data, &arow(f64::MAX)).expect("it is traced");
-    assert_eq!(trace.visits[0].after.as_ref().expect("it ended").beside[2], f64::INFINITY);
-    assert!(judge::train(&model, &data, &arow(2f64.powi(1023)), &[]).is_ok());
-}
-
-/// The loss is not finite, and `min` still gives C.
-#[test]
-fn the_smaller_of_c_hides_a_loss_that_is_not_finite() {
-    let data = Data {
-        instances: 2,
-        words: 4,
-        attributes: 4,
-        word_starts: vec![0, 2, 4],
-        attribute_starts: vec![0, 1, 2, 3, 4],
-        ids: vec![0; 4],
-        values: vec![1.0, 1.0, 2.0, 2.0],
-        references: vec![0, 0, 1, 1],
-        weights: vec![1.5e308, 1.0],
-    };
-    let rule = Rule::PassiveAggressive { variant: 1, c: 1.0, error_sensitive: false, averaging: false };
-    let seed = (0..).find(|seed| rust::orders(*seed, 2, 1)[0].0 == [0, 1]).expect("one keeps the order");
-    let settings = Settings { seed, ..settings(rule, 1) };
-    assert_eq!(judge::train(&desk::model(), &data, &settings, &[]), refused(9, 1));
-    let trained = rust::train(&desk::model(), &data, &settings).expect("the Rust finishes");
-    assert!(trained.weights.iter().all(|weight| weight.is_finite()));
-    let trace = trace::train(&desk::model(), &data, &settings).expect("it is traced");
-    assert_eq!(trace.visits[1].loss, f64::INFINITY);
-}
-
-#[test]
-fn parameters_that_are_not_finite() {
-    let (model, data) = (desk::model(), desk::data(0));
-    for bad in [f64::NAN, f64::INFINITY] {
-        for rule in RULES {
-            let settings = Settings { epsilon: bad, ..settings(rule, 2) };
-            assert_eq!(judge::train(&model, &data, &settings, &[]), refused(7, 2));
-            assert!(rust::train(&model, &data, &settings).is_ok(), "the setters take it");
+fn on_the_rust_and_on_the_judge() {
+    let mut wrong = Vec::new();
+    each(|group, case| {
+        let input = case.input();
+        for (call, expected) in &case.runs {
+            let (did, owed) = (input.on_the_rust(*call), input.owed(*call));
+            if (did, owed) != (*expected, case.owed) {
+                wrong.push(format!("{}: {}: {call:?}: {did:?}, {owed:?}", group.title, case.name));
+            }
         }
-        for (rule, place) in [
-            (Rule::PassiveAggressive { variant: 2, c: bad, error_sensitive: true, averaging: true }, 3),
-            (Rule::Arow { variance: bad, gamma: 1.0 }, 3),
-            (Rule::Arow { variance: 1.0, gamma: bad }, 4),
-        ] {
-            let settings = settings(rule, 1);
-            assert_eq!(judge::train(&model, &data, &settings, &[]), refused(7, place));
-            assert!(rust::train(&model, &data, &settings).is_ok(), "the setters take it");
-        }
+    });
+    assert!(wrong.is_empty(), "{wrong:#?}");
+}
+
+/// What a case changes is all that is wrong in it.
+#[test]
+fn the_smallest_sound_input_is_accepted() {
+    for call in CALLS {
+        let did = if call == Call::Check { Did::NoSuchCall } else { Did::GoesOn };
+        assert_eq!(Input::default().on_the_rust(call), did, "{call:?}");
+        assert_eq!(Input::default().owed(call), None, "{call:?}");
     }
 }
 
-/// What the Rust's setters refuse is refused here too.
+/// Every number that a call can refuse with, but 3, which cannot be put to the Rust.
 #[test]
-fn parameters_that_both_refuse() {
-    let (model, data) = (desk::model(), desk::data(0));
-    let of = |rule| settings(rule, 1);
-    for (settings, place) in [
-        (settings(PAI, 0), 1),
-        (Settings { epsilon: -1.0, ..of(PAI) }, 2),
-        (Settings { epsilon: f64::NEG_INFINITY, ..of(AROW) }, 2),
-        (of(Rule::PassiveAggressive { variant: 0, c: 0.0, error_sensitive: true, averaging: true }), 3),
-        (of(Rule::Arow { variance: -0.0, gamma: 1.0 }), 3),
-        (of(Rule::Arow { variance: 1.0, gamma: -1.0 }), 4),
+fn every_number_of_every_call() {
+    let mut met = BTreeMap::<Call, BTreeSet<u32>>::new();
+    each(|_, case| {
+        for (call, _) in &case.runs {
+            met.entry(*call).or_default().extend(case.owed.map(|refusal| refusal.number));
+        }
+    });
+    for call in CALLS {
+        let numbers: &[u32] = match call {
+            Call::Decode => &[1, 2, 4, 6],
+            Call::PathScore => &[1, 2, 4, 5, 6],
+            Call::Check => &[1, 2, 5, 6],
+            Call::Scores | Call::Labels | Call::Counts => &[1, 2, 4, 5, 6, 8],
+            Call::SetWeights => &[2, 6],
+            Call::Shuffle => &[2],
+            Call::Perceptron | Call::Passive | Call::Arow => &[1, 2, 4, 5, 6, 7, 8, 9],
+        };
+        assert!(met[&call].iter().eq(numbers), "{call:?}: {:?}", met[&call]);
+    }
+}
+
+/// 8 and 9 of a trainer are found in the tables that a case names, and in no others.
+#[test]
+fn what_eight_and_nine_are_found_in() {
+    let mut met = Vec::new();
+    each(|_, case| {
+        let trained =
+            case.runs.iter().filter(|(call, _)| matches!(call, Call::Perceptron | Call::Passive | Call::Arow));
+        for (call, _) in trained {
+            let refusal = case.owed.expect("no training is accepted");
+            let found = if refusal.number < 8 { vec![] } else { found(&case.input(), *call, refusal) };
+            assert_eq!(found, case.found, "{}: {call:?}", case.name);
+            met.extend(found);
+        }
+    });
+    for table in [
+        Found::States,
+        Found::Transitions,
+        Found::TrueCounts,
+        Found::PredictedCounts,
+        Found::Weights,
+        Found::RunningSums,
+        Found::Covariance,
+        Found::Loss,
     ] {
-        assert_eq!(judge::train(&model, &data, &settings, &[]), refused(7, place));
-        assert!(matches!(rust::train(&model, &data, &settings), Err(Stopped::Setter(_))));
-    }
-    // "Epsilon of −0 is zero."
-    let settings = Settings { epsilon: -0.0, ..of(AROW) };
-    assert!(judge::train(&model, &data, &settings, &[]).is_ok());
-}
-
-fn zeros(labels: u32, words: u32) -> Scores {
-    Scores {
-        labels,
-        words,
-        states: vec![0.0; (labels * words) as usize],
-        transitions: vec![0.0; (labels * labels) as usize],
+        assert!(met.contains(&table), "{table:?}");
     }
 }
 
-#[test]
-fn past_the_bounds_the_rust_goes_on() {
-    assert_eq!(judge::decode(&zeros(33, 1), &[]), refused(1, 0));
-    assert_eq!(rust::decode(&zeros(33, 1)), Ok(vec![32]));
-    assert_eq!(judge::decode(&zeros(1, 129), &[]), refused(4, 0));
-    assert_eq!(rust::decode(&zeros(1, 129)), Ok(vec![0; 129]));
-
-    let features = 65_536;
-    let mut many = desk::model();
-    many.counts.features = features;
-    many.kinds.resize(features as usize, STATE);
-    many.destinations.resize(features as usize, 0);
-    many.sources.resize(features as usize, 0);
-    let one = settings(Rule::Perceptron, 1);
-    assert_eq!(judge::train(&many, &desk::data(0), &one, &[]), refused(2, 0));
-    assert!(rust::train(&many, &desk::data(0), &one).is_ok());
-
-    let crowd = bare(&[0; 16_385], &[1.0; 16_385]);
-    assert_eq!(judge::train(&empty_model(2), &crowd, &one, &[]), refused(2, 0));
-    assert_eq!(rust::train(&empty_model(2), &crowd, &one).map(|trained| trained.visits), Ok(16_385));
-
-    let long = settings(Rule::Perceptron, 1001);
-    assert_eq!(judge::train(&desk::model(), &desk::data(1), &long, &[]), refused(7, 1));
-    assert_eq!(rust::train(&desk::model(), &desk::data(1), &long).map(|trained| trained.epochs), Ok(1001));
+fn found(input: &Input, call: Call, refusal: Refusal) -> Vec<Found> {
+    let settings = input.settings(call);
+    let trace = trace::train(&input.model, &input.data, &settings).expect("it begins");
+    let visit = &trace.visits[refusal.place as usize];
+    let tables = if refusal.number == 8 { tables_of_8(visit) } else { tables_of_9(visit, settings.rule) };
+    let bad = |table: &[f64]| table.iter().any(|x| !x.is_finite());
+    tables.into_iter().filter(|(_, table)| bad(table)).map(|(found, _)| found).collect()
 }
 
-#[test]
-fn past_the_bounds_the_rust_panics() {
-    assert_eq!(judge::decode(&zeros(2, 0), &[]), refused(4, 0));
-    assert_eq!(panicked(rust::decode(&zeros(2, 0))), Cause::OutOfBounds);
-
-    let no_words = Data { word_starts: vec![0, 0], ..bare(&[0], &[1.0]) };
-    let no_words = Data { words: 0, references: vec![], ..no_words };
-    for rule in RULES {
-        assert_eq!(judge::train(&empty_model(2), &no_words, &settings(rule, 1), &[]), refused(4, 0));
-        assert_eq!(panicked(rust::train(&empty_model(2), &no_words, &settings(rule, 1))), Cause::OutOfBounds);
-    }
-
-    assert_eq!(judge::path_score(&zeros(2, 1), &[0, 0], 2, &[]), refused(4, 0));
-    assert_eq!(panicked(rust::path_score(&zeros(2, 1), &[0, 0])), Cause::OutOfBounds);
-    assert_eq!(judge::path_score(&zeros(2, 1), &[2], 1, &[]), refused(5, 0));
-    assert_eq!(panicked(rust::path_score(&zeros(2, 1), &[2])), Cause::OutOfBounds);
-
-    let mut bad_id = desk::model();
-    bad_id.attribute_entries[1] = 2;
-    assert_eq!(judge::scores(&bad_id, &desk::data(0).line(0), &[]), refused(5, 1));
-    assert_eq!(panicked(rust::scores(&bad_id, &desk::data(0).line(0))), Cause::OutOfBounds);
-    assert_eq!(judge::train(&bad_id, &desk::data(0), &settings(AROW, 1), &[]), refused(5, 1));
-    assert_eq!(panicked(rust::train(&bad_id, &desk::data(0), &settings(AROW, 1))), Cause::OutOfBounds);
-    assert_eq!(judge::counts(&bad_id, &desk::data(0).line(0), &[0], &[]), refused(5, 1));
-    assert_eq!(panicked(rust::counts(&bad_id, &desk::data(0).line(0), &[0])), Cause::OutOfBounds);
+fn tables_of_8(visit: &Visit) -> Vec<(Found, Vec<f64>)> {
+    let (of, by) = visit.counts.clone().unwrap_or_default();
+    let scores = visit.scores.clone();
+    let (states, transitions) = (scores.states, scores.transitions);
+    // counts are looked at once the scores are finite
+    let counts = if states.iter().chain(&transitions).all(|x| x.is_finite()) { (of, by) } else { (vec![], vec![]) };
+    vec![
+        (Found::States, states),
+        (Found::Transitions, transitions),
+        (Found::TrueCounts, counts.0),
+        (Found::PredictedCounts, counts.1),
+    ]
 }
 
-/// A NaN reaches `partial_cmp().unwrap()`.
-#[test]
-fn a_nan_that_the_rust_compares() {
-    let mut scores = zeros(2, 1);
-    scores.states[0] = f64::NAN;
-    assert_eq!(judge::decode(&scores, &[]), refused(6, 0));
-    assert_eq!(panicked(rust::decode(&scores)), Cause::NotComparable);
-
-    // in training: the first two visits give each attribute a weight of 1e200 to label 0; in the third its score is
-    // infinity − infinity
-    let mut model = desk::model();
-    model.counts = Counts { features: 4, attribute_lists: 2, attribute_entries: 4, ..model.counts };
-    model.kinds = vec![STATE; 4];
-    model.sources = vec![0; 4];
-    model.destinations = vec![0, 1, 0, 1];
-    model.attribute_starts = vec![0, 2, 4];
-    model.attribute_entries = vec![0, 1, 2, 3];
-    let data = Data {
-        attributes: 4,
-        attribute_starts: vec![0, 1, 2, 4],
-        ids: vec![0, 1, 0, 1],
-        values: vec![1e200, 1e200, 1e200, -1e200],
-        ..bare(&[0, 0, 0], &[1.0; 3])
+fn tables_of_9(visit: &Visit, rule: Rule) -> Vec<(Found, Vec<f64>)> {
+    let Tables { weights, beside } = visit.after.clone().expect("the visit came to its end");
+    let beside = match rule {
+        Rule::Arow { .. } => (Found::Covariance, beside),
+        Rule::PassiveAggressive { averaging: false, .. } => (Found::RunningSums, vec![]),
+        _ => (Found::RunningSums, beside),
     };
-    let seed = (0..).find(|seed| rust::orders(*seed, 3, 1)[0].0 == [0, 1, 2]).expect("one keeps the order");
-    let settings = Settings { seed, ..settings(Rule::Perceptron, 3) };
-    assert_eq!(judge::train(&model, &data, &settings, &[]), refused(8, 2));
-    assert_eq!(panicked(rust::train(&model, &data, &settings)), Cause::NotComparable);
+    vec![(Found::Weights, weights), beside, (Found::Loss, vec![visit.loss])]
+}
+
+// ---- the page
+
+/// Below a first table, of what is no refusal, the section has a table for each group, and each row is a case.
+#[test]
+fn the_page_has_every_case_and_no_other() {
+    let page = fs::read_to_string(concat!(env!("CARGO_MANIFEST_DIR"), "/../docs/DIFFERENCES.md")).expect("the page");
+    let section = page.split("\n## ").find(|section| section.starts_with("Where they part\n")).expect("the section");
+    let parts: Vec<&str> = section.split("\n### ").skip(1).collect();
+    let groups = differences::groups();
+    let titles: Vec<&str> = parts.iter().map(|part| part.lines().next().expect("a title")).collect();
+    let owed: Vec<&str> = groups.iter().map(|group| group.title).collect();
+    assert_eq!(titles, [&["Other answers, no refusal"], &owed[..]].concat());
+    let mut wrong = Vec::new();
+    for (part, group) in parts[1..].iter().zip(&groups) {
+        let rows: Vec<&str> = part.lines().filter(|line| line.starts_with('|')).skip(2).collect();
+        let owed: Vec<String> = group.cases.iter().map(|case| group.row(case)).collect();
+        if rows != owed {
+            wrong.push(format!("### {}\n{}\n", group.title, owed.join("\n")));
+        }
+    }
+    assert!(wrong.is_empty(), "these tables are to be\n{}", wrong.join("\n"));
 }
 
 #[test]
-fn faults_in_what_is_not_used() {
-    let line = Line { words: 1, attributes: 2, starts: vec![0, 2], ids: vec![0, 1], values: vec![1.0, f64::NAN] };
-    assert_eq!(judge::scores(&desk::model(), &line, &[]), refused(6, 1), "a value of an id without a list");
-    assert!(rust::scores(&desk::model(), &line).is_ok());
-
-    let line = desk::data(0).line(0);
-    let mut model = desk::model();
-    model.counts.features = 3;
-    model.kinds.push(STATE);
-    model.destinations.push(2);
-    model.sources.push(0);
-    model.weights.push(0.0);
-    assert_eq!(judge::scores(&model, &line, &[]), refused(5, 2), "a destination of a feature in no list");
-    assert!(rust::scores(&model, &line).is_ok());
-
-    let mut model = desk::model();
-    model.counts.label_lists = 3;
-    model.counts.label_entries = 1;
-    model.label_starts = vec![0, 0, 0, 1];
-    model.label_entries = vec![2];
-    assert_eq!(judge::scores(&model, &line, &[]), refused(5, 0), "an id in a label list at or above L");
-    assert!(rust::scores(&model, &line).is_ok());
-    assert_eq!(judge::train(&model, &desk::data(0), &settings(AROW, 1), &[]), refused(5, 0));
-    assert!(rust::train(&model, &desk::data(0), &settings(AROW, 1)).is_ok());
+fn names_are_unique() {
+    for group in differences::groups() {
+        let names: BTreeSet<&str> = group.cases.iter().map(|case| case.name).collect();
+        assert_eq!(names.len(), group.cases.len(), "{}", group.title);
+    }
+    let cases: usize = differences::groups().iter().map(|group| group.cases.len()).sum();
+    let runs: usize = differences::groups().iter().flat_map(|group| &group.cases).map(|case| case.runs.len()).sum();
+    println!("{cases} cases, {runs} runs");
 }
 
+// ---- what is no case
+
+/// The Rust's lists are vectors, its kinds and variants are enums, and a feature or an attribute is one struct.
 #[test]
-fn set_weights() {
-    assert_eq!(judge::set_weights(2, &[1.0, 2.0], &[]), Ok(vec![1.0, 2.0]));
+fn what_cannot_be_expressed_in_the_rust() {
+    type Change = fn(&mut Model, &mut Line);
+    let changes: [(&str, Change, u32, u32); 6] = [
+        ("starts past the entries", |model, _| model.attribute_starts = vec![0, 3], 3, 1),
+        ("starts that fall", |_, line| (line.words, line.starts) = (2, vec![0, 1, 0]), 3, 2),
+        ("no starts", |model, _| model.label_starts.clear(), 2, 0),
+        ("a kind of 2", |model, _| model.kinds[1] = 2, 5, 1),
+        ("fewer sources than features", |model, _| model.sources.truncate(1), 2, 0),
+        ("fewer weights than features", |model, _| model.weights.truncate(1), 2, 0),
+    ];
+    for (name, change, number, place) in changes {
+        let (mut model, mut line) = (desk::model(), desk::data(0).line(0));
+        change(&mut model, &mut line);
+        assert_eq!(judge::scores(&model, &line, &[]), refused(number, place), "{name}");
+        let answer = rust::scores(&model, &line);
+        assert!(matches!(answer, Err(Stopped::Inexpressible(_))), "{name}: {answer:?}");
+    }
+    let variant = Input { variant: 3, ..Input::default() };
+    assert_eq!(variant.owed(Call::Passive), Some(Refusal { number: 7, place: 5 }));
+    let answer = rust::train(&variant.model, &variant.data, &variant.settings(Call::Passive));
+    assert!(matches!(answer, Err(Stopped::Inexpressible("variant"))), "{answer:?}");
+}
+
+/// Before its trainers the Rust has doors of its own: `train` refuses no instances, `append` an empty sequence. Models
+/// and instances are handed to the trainers past these.
+#[test]
+fn the_rust_has_doors_of_its_own() {
+    use crfs::attribute::Attribute;
+    use crfs::train::trainer::{Arow, Trainer};
+    let refused = |answer: std::io::Result<()>| answer.expect_err("it is refused").to_string();
+    assert_eq!(refused(Trainer::<Arow>::new().train(Path::new("no file"))), "no training data");
+    let nothing: [Vec<Attribute>; 0] = [];
+    assert_eq!(refused(Trainer::<Arow>::new().append(&nothing, &[""; 0])), "empty sequences are not allowed");
+}
+
+/// Beside what is refused lies what is not.
+#[test]
+fn what_both_accept() {
+    let both = |input: &Input, call| (input.on_the_rust(call), input.owed(call));
+    let sound = Input::default;
+    // "Epsilon of −0 is zero."
+    assert_eq!(both(&Input { epsilon: -0.0, ..sound() }, Call::Arow), (Did::GoesOn, None));
+    // the covariance of the row in which it overflows
+    let case = |found: &[Found]| {
+        let all = differences::groups().into_iter().flat_map(|group| group.cases);
+        all.into_iter().find(|case| case.found == found).expect("a case").input()
+    };
+    let arow = case(&[Found::Covariance]);
+    assert_eq!(both(&Input { variance: 2f64.powi(1023), ..arow }, Call::Arow), (Did::GoesOn, None));
+    // what lies past F is nobody's
+    assert_eq!(judge::set_weights(2, &[1.0, 2.0, f64::NAN], &[]), Ok(vec![1.0, 2.0]));
     assert_eq!(rust::set_weights(2, &[1.0, 2.0]), Ok(vec![1.0, 2.0]));
-    assert_eq!(judge::set_weights(2, &[1.0, 2.0, f64::NAN], &[]), Ok(vec![1.0, 2.0]), "a longer table is fine");
-    assert_eq!(panicked(rust::set_weights(2, &[1.0, 2.0, 3.0])), Cause::LengthsDiffer);
-    assert_eq!(judge::set_weights(2, &[1.0], &[]), refused(2, 0));
-    assert_eq!(panicked(rust::set_weights(2, &[1.0])), Cause::LengthsDiffer);
-    assert_eq!(judge::set_weights(2, &[1.0, f64::INFINITY], &[]), refused(6, 1));
-    assert!(rust::set_weights(2, &[1.0, f64::INFINITY]).is_ok());
 }
 
 /// "The definitions of `Instance`, `Feature` and the rest" are in the text, with the fields of their uses.
@@ -293,33 +250,4 @@ fn the_definitions_are_in_the_text() {
     let feature = Feature { ftype: FeatureType::Transition, src: 0, dst: 1, weight: 0.0 };
     assert_eq!((feature.ftype as u8, FeatureType::State as u8), (TRANSITION, STATE));
     assert_eq!(FeatureRefs { fids: vec![1] }.fids, [1]);
-}
-
-/// What is refused 8 outside training: the Rust answers with numbers that are not finite.
-#[test]
-fn scores_and_counts_that_are_not_finite() {
-    let mut model = desk::model();
-    model.weights = vec![1.0, f64::MAX];
-    let mut line = desk::data(0).line(0);
-    line.values[0] = 2.0;
-    assert_eq!(judge::scores(&model, &line, &[]), refused(8, 1));
-    assert_eq!(judge::decode_line(&model, &line, &[]), refused(8, 1));
-    assert_eq!(rust::scores(&model, &line).expect("it goes on").states, [2.0, f64::INFINITY]);
-
-    let twice = Line { words: 1, attributes: 2, starts: vec![0, 2], ids: vec![0, 0], values: vec![f64::MAX; 2] };
-    assert_eq!(judge::counts(&desk::model(), &twice, &[1], &[]), refused(8, 1));
-    assert!(refusals::counting(&desk::model(), &twice, &[1], &[]).is_ok());
-    assert_eq!(rust::counts(&desk::model(), &twice, &[1]), Ok(vec![0.0, f64::INFINITY]));
-
-    // transitions come after all states
-    let mut model = desk::model();
-    model.kinds = vec![TRANSITION, TRANSITION];
-    model.destinations = vec![1, 1];
-    model.weights = vec![f64::MAX, f64::MAX];
-    model.counts.label_lists = 1;
-    model.counts.label_entries = 2;
-    model.label_starts = vec![0, 2];
-    model.label_entries = vec![0, 1];
-    let line = desk::data(0).line(0);
-    assert_eq!(judge::scores(&model, &line, &[]), refused(8, 2 + 1), "T·L + prev·L + next");
 }
