@@ -6,12 +6,10 @@ mod flat;
 mod scoring;
 mod steps;
 mod times;
-#[cfg(feature = "training")]
 mod training;
 
 fn main() {
     decoding::print();
     scoring::print();
-    #[cfg(feature = "training")]
     training::print();
 }

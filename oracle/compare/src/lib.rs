@@ -8,7 +8,6 @@ pub mod calls;
 pub mod decode;
 pub mod scoring;
 pub mod shuffle;
-#[cfg(feature = "training")]
 pub mod training;
 
 /// A refusal's number and place.

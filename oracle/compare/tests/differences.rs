@@ -80,7 +80,6 @@ fn of_the_shuffle() {
 
 // ---- a model and a line
 
-#[cfg(feature = "scoring")]
 mod scoring {
     use compare::scoring::{check_model, compute_scores, extract_features, label_line, set_weights};
 
@@ -129,7 +128,6 @@ mod scoring {
 
 // ---- training
 
-#[cfg(feature = "training")]
 mod training {
     use compare::training::{Lent, Trainer, train};
 

@@ -1,6 +1,5 @@
 //! The three trainers by the archive: weights, epochs, visits, updates and refusals against the Rust and the oracle's
 //! trace of it; refusals 1 to 7 against the plain checker; to the bit, and all lent memory looked at.
-#![cfg(feature = "training")]
 
 mod shared;
 
