@@ -13,6 +13,8 @@ use Rattle.training.specs.declared.Step.{Step}
 use Rattle.training.specs.Rules.{Learned}
 use Rattle.training.specs.Visits.{State}
 use Rattle.training.specs.Epochs.{Run, isRefused, opened, visitedAt, epochOver, endsAfter, epoch, epochUnlessOver}
+use Rattle.training.specs.Orders.{OrderOf}
+use Rattle.training.proofs.Orders.{shuffle-keeps}
 use Rattle.training.proofs.Epochs.{epoch-next, epoch-cut, epoch-made, run-next, run-cut}
 use Rattle.visits.specs.Visiting.{Agreed}
 use Rattle.epochs.specs.Running.{Finished}
@@ -34,6 +36,10 @@ module _ (visit : ℕ → State → State) (order : List ℕ) where
       subst (λ (w : State). Agreed u w) e a
 
 -- ---- epochs
+-- a shuffled order goes through the same instances, whatever was drawn
+pub dealt-keeps : (n : ℕ) (k l : Deal) → l ≡ shuffled n k → OrderOf n (k .order) → OrderOf n (l .order)
+dealt-keeps n k l e o = rw e (shuffle-keeps n k o)
+
 first-false : (a b : Bool) → a || b ≡ false → a ≡ false
 first-false true b e = absurd (true≢false e)
 first-false false b e = refl

@@ -4,7 +4,6 @@ use Prim.Native.Nat.{ℕ, _+_, _-_, _*_, _≤_, _<_}
 use native.Mathlib.Nat.{le-trans}
 use native.Mathlib.Omega.{arith}
 use borrow.Author.Needs.{needs}
-use Rattle.shuffle.specs.Shuffle.{Deal}
 use lib.ListN.{length}
 use lib.Ieee.{ofBits}
 use Rattle.lines.specs.Passes.{through}
@@ -13,10 +12,10 @@ use Rattle.training.specs.Rules.{stops}
 use Rattle.training.specs.Visits.{visited}
 use Rattle.training.specs.Epochs.{Run, epochUnlessOver}
 use Rattle.training.specs.Orders.{OrderOf}
-use Rattle.training.proofs.Orders.{shuffle-keeps, places-below}
+use Rattle.training.proofs.Orders.{places-below}
 use Rattle.prediction.specs.Tables.{modelOf, dataOf}
 use Rattle.visits.specs.Visiting.{ruleOf, stateOf, Exact}
-use Rattle.epochs.proofs.Laws.{all-run, run-on, run-ended}
+use Rattle.epochs.proofs.Laws.{dealt-keeps, all-run, run-on, run-ended}
 use Rattle.epochs.proofs.run.Statement.{statement}
 use Rattle.epochs.proofs.run.Tie as tie
 use Rattle.epochs.proofs.run.Reads as reads
@@ -40,9 +39,7 @@ abbrev μ-loop : tie.MeasureT-loop
 
 -- the order that an epoch goes by
 dealt : (q : tie.After-shuffle Inv-loop μ-loop) → OrderOf (q .before .before .before .before .before .before .before .before .before .before .before .before .before .before .before .before .before .before .before .before .before .before .args .sizes .instances) (q .shuffle .last .1 .1 .0)
-dealt q =
-    let l = q .before .before .before in
-    rw (← ap (λ (d : Deal). d .order) (q .shuffle .ensures)) at (shuffle-keeps _ (record { state = l .loop .g; order = l .loop .order }) (l .loop .inv .5))
+dealt q = dealt-keeps _ _ _ (q .shuffle .ensures) (q .before .before .before .loop .inv .5)
 
 bound : (k : tie.After-epoch Inv-loop μ-loop) → k .epoch .result .visits ≤ 16384000
 bound k =
