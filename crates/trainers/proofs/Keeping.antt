@@ -26,6 +26,9 @@ use Rattle.trainers.specs.Inside.{Ready, Kept}
 pub front-long : {A : Type 0} (n : ℕ) (table : List A) → n ≤ length table → length (take n table) ≡ n
 front-long n table h = length-take-le n table h
 
+pub front-count : {A : Type 0} (n : ℕ) (table : List A) → n ≤ length table → n ≡ length (take n table)
+front-count n table h = sym (front-long n table h)
+
 -- training over the fronts, put back before what stood behind them
 pub fronts-kept : (rule : Rule) (settings : Settings) (given : Given) (before : Buffers) {answer : Training} {weights beside truly predicted : List Float} {order : List ℕ} →
     _≡_ {A = Result} (record { answer = answer; weights = weights }) (trained rule settings (given .model) (given .corpus)) →

@@ -4,23 +4,19 @@ use mathlib.Core.List.{List, [], _∷_}
 use mathlib.Core.Logic.{_⊎_, inl, inr}
 use Prim.Native.Nat.{ℕ, _≤_, _<_}
 use native.Mathlib.Omega.{arith}
-use lib.Dec.{T}
-use lib.ListN.{getD, drop, List·getD-append}
+use lib.ListN.{drop, List·getD-append}
 use lib.Ieee.{nan}
-use lib.Ieee.Scale.{finite}
-use Rattle.refusals.specs.declared.Refusal.{Refusal}
 use Rattle.refusals.specs.declared.Checked.{Checked}
 use Rattle.refusals.specs.declared.Checked.the-variants.{Accepted, Refused}
 use Rattle.refusals.specs.Refusals.{refusedAt}
 use Rattle.refusal_rows.specs.Given.{OneOf}
 use Rattle.training.specs.declared.Training.{Training}
-use Rattle.training.specs.declared.Trained.{Trained}
 use Rattle.training.proofs.Accepted.{answers-true}
 use Rattle.parameters.specs.Parameters.{AllFit}
 use Rattle.training_check.proofs.Meant.{training-means}
-use Rattle.trainers.specs.Promise.{Call, averagedPerceptron, passiveAggressive, adaptive, Given, Buffers, Outcome, Said, accepted, refused, said, ruleFor, settingsFor, ownOf, inputOf, checkedOf, trainedOf, orRefused, holding, answerTo, buffersAfter, Promised}
-use Rattle.trainers.specs.Meaning.{AcceptedTrue, RefusedMeans, RefusedTrue, ChecksAnswered, Unrefused}
-use Rattle.trainers.proofs.Trained.{trained-late, trained-long, trained-zero}
+use Rattle.trainers.specs.Promise.{Call, averagedPerceptron, passiveAggressive, adaptive, Given, Buffers, Outcome, Said, accepted, refused, said, ruleFor, settingsFor, ownOf, inputOf, checkedOf, trainedOf, orRefused, answerTo, buffersAfter, Promised}
+use Rattle.trainers.specs.Meaning.{AcceptedTrue, RefusedMeans, RefusedTrue, ChecksAnswered}
+use Rattle.trainers.proofs.Trained.{trained-late, trained-zero}
 use Rattle.trainers.proofs.Fronts.{after-is, fronts}
 
 -- an answer that is accepted comes from the training

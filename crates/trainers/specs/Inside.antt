@@ -2,7 +2,6 @@
 use mathlib.Core.Path.{_≡_}
 use Prim.Native.Nat.{ℕ, _≤_}
 use Rattle.refusals.specs.declared.Checked.{Checked}
-use Rattle.refusals.specs.declared.Checked.the-variants.{Accepted}
 use Rattle.training.specs.Rules.{Rule}
 use Rattle.training.specs.Epochs.{Settings, trained}
 use Rattle.parameters.specs.Parameters.{mostEpochs}

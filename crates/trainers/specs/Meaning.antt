@@ -1,7 +1,6 @@
 -- What a trainer's answer means, in plain terms, of whatever satisfies the promise. The proofs are in proofs/Meant.
 use mathlib.Core.Path.{_≡_}
 use mathlib.Core.List.{List, [], _∷_}
-use mathlib.Core.Logic.{_↔_}
 use Prim.Native.Nat.{ℕ, _*_, _≤_, _<_}
 use lib.Dec.{T}
 use lib.ListN.{length, getD, take, replicate}

@@ -1,11 +1,12 @@
 -- `trainers::train_fronts` meets its contract: what was accepted is what learning relies on, and the parts lent are the needed fronts. Assumes nothing.
 use mathlib.Core.Path.{sym}
+use native.Mathlib.Omega.{arith}
 use borrow.Author.Needs.{needs}
 use Rattle.training_check.specs.Sound.{LentSized}
 use Rattle.trainers.specs.Promise.{Given, Buffers, inputOf}
 use Rattle.feature_gen.specs.Lent.{modelOf}
 use Rattle.training_check.specs.Lent.{dataOf}
-use Rattle.trainers.proofs.Keeping.{front-long, fronts-kept}
+use Rattle.trainers.proofs.Keeping.{front-long, front-count, fronts-kept}
 use Rattle.trainers.proofs.train_fronts.Statement.{statement}
 use Rattle.trainers.proofs.train_fronts.Tie as tie
 
@@ -55,51 +56,50 @@ cast-t35 : tie.Need-cast-t35
 cast-t35 c = search needs
 
 slice-relend-prefix-train : tie.Need-slice-relend-prefix-train
-slice-relend-prefix-train c = room c .order
+slice-relend-prefix-train c = search (needs, room c)
 
 slice-aggregate-train : tie.Need-slice-aggregate-train
-slice-aggregate-train c = let k = c .before in sym (front-long _ _ (room k .order))
+slice-aggregate-train c = search (needs, front-count, room (c .before))
 
 slice-relend-prefix-train-2 : tie.Need-slice-relend-prefix-train-2
-slice-relend-prefix-train-2 c = room (c .before) .weights
+slice-relend-prefix-train-2 c = search (needs, room (c .before))
 
 slice-aggregate-train-2 : tie.Need-slice-aggregate-train-2
-slice-aggregate-train-2 c = let k = c .before .before in sym (front-long _ _ (room k .weights))
+slice-aggregate-train-2 c = search (needs, front-count, room (c .before .before))
 
 slice-relend-prefix-train-3 : tie.Need-slice-relend-prefix-train-3
-slice-relend-prefix-train-3 c = room (c .before .before) .beside
+slice-relend-prefix-train-3 c = search (needs, room (c .before .before))
 
 slice-aggregate-train-3 : tie.Need-slice-aggregate-train-3
-slice-aggregate-train-3 c = let k = c .before .before .before in sym (front-long _ _ (room k .beside))
+slice-aggregate-train-3 c = search (needs, front-count, room (c .before .before .before))
 
 slice-relend-prefix-train-4 : tie.Need-slice-relend-prefix-train-4
-slice-relend-prefix-train-4 c = room (c .before .before .before) .truly
+slice-relend-prefix-train-4 c = search (needs, room (c .before .before .before))
 
 slice-aggregate-train-4 : tie.Need-slice-aggregate-train-4
-slice-aggregate-train-4 c = let k = c .before .before .before .before in sym (front-long _ _ (room k .truly))
+slice-aggregate-train-4 c = search (needs, front-count, room (c .before .before .before .before))
 
 slice-relend-prefix-train-5 : tie.Need-slice-relend-prefix-train-5
-slice-relend-prefix-train-5 c = room (c .before .before .before .before) .predicted
+slice-relend-prefix-train-5 c = search (needs, room (c .before .before .before .before))
 
 slice-aggregate-train-5 : tie.Need-slice-aggregate-train-5
-slice-aggregate-train-5 c = let k = c .before .before .before .before .before in sym (front-long _ _ (room k .predicted))
+slice-aggregate-train-5 c = search (needs, front-count, room (c .before .before .before .before .before))
 
 train-requires : tie.Need-train-requires
 train-requires c κs =
     let k = c .before .before .before .before .before in
-    let s = start k in
-    let r = room k in (
+    let s = start k in (
       s .pre .sound .model,
       (
         s .pre .sound .corpus,
         (
           record {
-            weights-long = front-long _ _ (r .weights);
-            beside-long = front-long _ _ (r .beside);
-            truly-long = front-long _ _ (r .truly);
-            predicted-long = front-long _ _ (r .predicted);
+            weights-long = search (needs, front-long, room k);
+            beside-long = search (needs, front-long, room k);
+            truly-long = search (needs, front-long, room k);
+            predicted-long = search (needs, front-long, room k);
           },
-          (s .pre .few, front-long _ _ (r .order)),
+          (omega (arith, s .pre .few), search (needs, front-long, room k)),
         ),
       ),
     )
