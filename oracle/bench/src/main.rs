@@ -8,8 +8,14 @@ mod steps;
 mod times;
 mod training;
 
+/// Each table, or those that are named.
 fn main() {
-    decoding::print();
-    scoring::print();
-    training::print();
+    let named: Vec<String> = std::env::args().skip(1).collect();
+    let tables: [(&str, fn()); 3] =
+        [("decoding", decoding::print), ("scoring", scoring::print), ("training", training::print)];
+    for (name, print) in tables {
+        if named.is_empty() || named.iter().any(|given| given == name) {
+            print();
+        }
+    }
 }
