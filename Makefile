@@ -2,7 +2,7 @@
 # make run               builds the program `decode` and decodes every sheet in samples/
 # make run SHEET=FILE    decodes a sheet of one's own
 # make example           builds the C example of examples/ and runs it: learns from log lines, labels another
-# make bench             times of decoding: the library, the Rust, Rust over flat tables
+# make bench             times beside the Rust: decoding, scoring, counting, training
 # make list              writes anew, from the oracle, the answers that the gate replays, and the samples
 # make archive           the static library for C and Rust, in build/
 # make fmt               lays out the Rattle and antt files
