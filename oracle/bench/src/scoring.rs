@@ -128,7 +128,8 @@ fn compare_answers(model: &Model, generator: &FeatureGenerator, case: &Case, con
     let (mut states, mut transitions) = (vec![f64::NAN; words * width], vec![f64::NAN; width * width]);
     let mut counts = vec![f64::NAN; model.counts.features as usize];
     context.compute_scores(instance, generator);
-    let (owed_states, owed_transitions) = (probe::state_scores(context).concat(), probe::trans_scores(context).concat());
+    let (owed_states, owed_transitions) =
+        (probe::state_scores(context).concat(), probe::trans_scores(context).concat());
     let owed_counts = Trainer::<Arow>::new().counts(instance, labels, generator);
     assert_eq!(compute_scores(model, line, &mut states, &mut transitions), Ok(()));
     assert!(all_same(&states, &owed_states) && all_same(&transitions, &owed_transitions));
