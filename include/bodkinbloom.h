@@ -56,8 +56,8 @@ bodkinbloom_refused bodkinbloom_shuffle(uint64_t *state, uint32_t *order, size_t
 #define BODKINBLOOM_MOST_ENTRIES 1048576
 #define BODKINBLOOM_MOST_ATTRIBUTES 4194304
 
-/* How long a table or a buffer has to be. `labels` is used twice. A path is as long as there are words; feature counts are
- * as many as there are features. */
+/* How long a table or a buffer has to be. A path is as long as there are words; feature counts are as many as there are
+ * features. (`labels` is evaluated twice.) */
 #define BODKINBLOOM_STARTS(lists) ((size_t)(lists) + 1)
 #define BODKINBLOOM_TRANSITIONS(labels) ((size_t)(labels) * (labels))
 #define BODKINBLOOM_STATES(labels, words) ((size_t)(labels) * (words))
@@ -115,17 +115,17 @@ bodkinbloom_scored bodkinbloom_sequence_score(uint32_t labels, uint32_t words,
  * entries; the entries of list i lie from start i up to, and not at, start i + 1. An entry is a feature id. One that stands
  * in a list twice counts twice.
  *    attribute_starts, attribute_entries    at most 65,535 lists, and at most 1,048,576 entries in all
- *    label_starts, label_entries            at most 32 lists, be there as many labels or not; as many entries
+ *    label_starts, label_entries            at most 32 lists, be there as many labels or not; as many entries at the most
  *
  * The counts are numbers of their own beside the lengths of the tables. Everything within the counts is tested, used or
  * not. What a table has behind them is not looked at. */
 
 typedef struct {
-    uint32_t features;          /* the length of kinds, destinations, sources and weights */
-    uint32_t attribute_lists;   /* attribute_starts has BODKINBLOOM_STARTS(attribute_lists) entries */
-    uint32_t label_lists;       /* label_starts has BODKINBLOOM_STARTS(label_lists) */
-    uint32_t attribute_entries; /* the length of attribute_entries */
-    uint32_t label_entries;     /* the length of label_entries */
+    uint32_t features;          /* so many are needed of kinds, destinations, sources and weights */
+    uint32_t attribute_lists;   /* of attribute_starts, BODKINBLOOM_STARTS(attribute_lists) */
+    uint32_t label_lists;       /* of label_starts, BODKINBLOOM_STARTS(label_lists) */
+    uint32_t attribute_entries; /* of attribute_entries */
+    uint32_t label_entries;     /* of label_entries */
 } bodkinbloom_counts;
 
 /* Tests a model, as each call below does for itself.
@@ -212,8 +212,8 @@ bodkinbloom_refused bodkinbloom_extract_features(uint32_t labels, bodkinbloom_co
                                                  const uint32_t *path, size_t path_length,
                                                  double *amounts, size_t amounts_length);
 
-/* Labels a line: scores it and decodes the scores, which need no buffers of yours. Writes the best path to the first `words`
- * places of `path`, and answers as bodkinbloom_viterbi_decode does.
+/* Labels a line: scores it and decodes the scores, which need no buffers of yours (they take some 50,000 bytes of stack).
+ * Writes the best path to the first `words` places of `path`, and answers as bodkinbloom_viterbi_decode does.
  * The place of an 8: that of the scores. */
 bodkinbloom_decoded bodkinbloom_label_line(uint32_t labels, bodkinbloom_counts counts,
                                            const uint8_t *kinds, size_t kinds_length,
