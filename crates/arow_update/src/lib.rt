@@ -62,7 +62,7 @@ pub fn narrow(
         let narrower = 1.0 / (1.0 / sigma + delta * delta / gamma);
         weights[i] = w;
         covariance[i] = narrower;
-        all = all & training_tables::are_finite(w, narrower);
+        all = all & binary64::are_finite(w, narrower);
         i += 1;
     }
     all

@@ -2,3 +2,4 @@ pub mod Signed
 pub mod Order
 pub mod Sums
 pub mod Finite
+mod Itself

@@ -1,3 +1,4 @@
 pub mod Laws
 pub mod Meant
 pub mod Said
+mod Halves

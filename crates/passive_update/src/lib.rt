@@ -87,7 +87,7 @@ pub fn pull(
         if averaging {
             sums[i] = sums[i] + tau * counter * delta;
         }
-        all = all & training_tables::are_finite(w, sums[i]);
+        all = all & binary64::are_finite(w, sums[i]);
         i += 1;
     }
     all

@@ -30,7 +30,7 @@ pub fn push(
         let s = sums[i] + counter * delta;
         weights[i] = w;
         sums[i] = s;
-        all = all & training_tables::are_finite(w, s);
+        all = all & binary64::are_finite(w, s);
         i += 1;
     }
     all

@@ -2,4 +2,3 @@ pub mod Finite
 pub mod Moves
 pub mod Filled
 pub mod Fronts
-mod Itself

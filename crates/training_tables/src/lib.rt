@@ -5,7 +5,6 @@ ghost use mathlib.Core.Path.{_≡_};
 ghost use mathlib.Core.List.{_++_};
 ghost use Prim.Native.Nat.{_≤_};
 ghost use lib.ListN.{length, drop, replicate};
-ghost use lib.Ieee.Scale.{finite};
 ghost use Rattle.training.specs.Data.{allFinite};
 ghost use Rattle.training.specs.Epochs.{upTo};
 ghost use Rattle.training_tables.specs.Tables.{Both, Averaged};
@@ -66,13 +65,6 @@ pub fn all_finite(table: &[f64], n: usize) -> bool
     all
 }
 
-// Both are finite. A number minus itself is a zero, and equal to another zero, only where it is: one comparison for two.
-pub fn are_finite(x: f64, y: f64) -> bool
-    ensures { λ r. ⌜ r ≡ finite x && finite y ⌝ }
-{
-    x - x == y - y
-}
-
 // The first n of both tables are finite, in one pass: true and predicted counts.
 pub fn both_finite(one: &[f64], other: &[f64], n: usize) -> bool
     requires { ⌜ Both n (length (now one)) (length (now other)) ⌝ }
@@ -81,7 +73,7 @@ pub fn both_finite(one: &[f64], other: &[f64], n: usize) -> bool
     let mut all = true;
     let mut i = 0usize;
     while i < n {
-        all = all & are_finite(one[i], other[i]);
+        all = all & binary64::are_finite(one[i], other[i]);
         i += 1;
     }
     all

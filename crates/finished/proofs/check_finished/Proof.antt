@@ -3,7 +3,7 @@ use Prim.Native.Nat.{_-_}
 use native.Mathlib.Omega.{arith}
 use borrow.Author.Needs.{needs}
 use Rattle.refusals.specs.Tables.{notFinite}
-use Rattle.refusals.proofs.Laws.{Passed, begin, step}
+use Rattle.refusals.proofs.Laws.{Passed, step}
 use Rattle.finished.proofs.Laws.{placed}
 use Rattle.finished.proofs.check_finished.Statement.{statement}
 use Rattle.finished.proofs.check_finished.Tie as tie
@@ -14,8 +14,11 @@ Inv-loop numbers n others i₀ i = Passed 8 (notFinite numbers) n i
 abbrev μ-loop : tie.MeasureT-loop
 μ-loop numbers n others i₀ i = n - i
 
+finite-front-requires : tie.Need-finite-front-requires Inv-loop μ-loop
+finite-front-requires c κs = search needs
+
 loop-holds : tie.Need-loop-holds Inv-loop μ-loop
-loop-holds c = begin
+loop-holds c = record { inside = c .finite-front .ensures .0; accepted = c .finite-front .ensures .1 }
 
 mul-is-finite : tie.Need-mul-is-finite Inv-loop μ-loop
 mul-is-finite c = search needs
@@ -50,6 +53,7 @@ check-finished-spec =
     (tie.spec
     Inv-loop
     μ-loop
+    finite-front-requires
     loop-holds
     mul-is-finite
     shared-slice-read-is-finite

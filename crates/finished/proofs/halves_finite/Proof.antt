@@ -1,0 +1,74 @@
+-- `finished::halves_finite` meets its contract: while the flag stands, nothing is refused in either half. Assumes nothing.
+use mathlib.Core.Path.{_≡_}
+use mathlib.Core.Bool.{true}
+use Prim.Native.Nat.{_≤_, _-_}
+use native.Mathlib.Nat.{le-antisymm}
+use native.Mathlib.Omega.{arith}
+use borrow.Author.Needs.{needs}
+use Rattle.refusals.proofs.Laws.{begin}
+use Rattle.finished.proofs.Halves.{Halves, one-passed, all-passed}
+use Rattle.finished.proofs.halves_finite.Statement.{statement}
+use Rattle.finished.proofs.halves_finite.Tie as tie
+
+abbrev Inv-loop : tie.InvT-loop
+Inv-loop numbers half all₀ i₀ all i = (i ≤ half) × (all ≡ true → Halves numbers half i)
+
+abbrev μ-loop : tie.MeasureT-loop
+μ-loop numbers half all₀ i₀ all i = half - i
+
+loop-holds : tie.Need-loop-holds Inv-loop μ-loop
+loop-holds c = (omega arith, λ h. (begin, begin))
+
+mul-are-finite : tie.Need-mul-are-finite Inv-loop μ-loop
+mul-are-finite c = search needs
+
+shared-slice-read-are-finite : tie.Need-shared-slice-read-are-finite Inv-loop μ-loop
+shared-slice-read-are-finite c = search needs
+
+add-are-finite : tie.Need-add-are-finite Inv-loop μ-loop
+add-are-finite c = search needs
+
+mul-are-finite-2 : tie.Need-mul-are-finite-2 Inv-loop μ-loop
+mul-are-finite-2 c = search needs
+
+shared-slice-read-are-finite-2 : tie.Need-shared-slice-read-are-finite-2 Inv-loop μ-loop
+shared-slice-read-are-finite-2 c = search needs
+
+are-finite-requires : tie.Need-are-finite-requires Inv-loop μ-loop
+are-finite-requires c κs = search needs
+
+add-i : tie.Need-add-i Inv-loop μ-loop
+add-i c = search needs
+
+loop-less : tie.Need-loop-less Inv-loop μ-loop
+loop-less c = search needs
+
+loop-again : tie.Need-loop-again Inv-loop μ-loop
+loop-again c =
+    let l = c .before .before .before .before in
+    let a = l .before .before .args in
+    (omega arith, one-passed (a .numbers .now) (a .half) (l .loop .i) (omega arith) (l .loop .inv .1) (c .are-finite .ensures))
+
+returns : tie.Need-returns Inv-loop μ-loop
+returns c h =
+    let l = c .before .loop in
+    let a = c .before .before .before .args in
+    all-passed (a .numbers .now) (a .half) (rw (le-antisymm (l .inv .0) (c .loop-test .left)) at (l .inv .1 h))
+
+pub halves-finite-spec : {M : Type 1} → statement M
+halves-finite-spec =
+    tie.close
+    (tie.spec
+    Inv-loop
+    μ-loop
+    loop-holds
+    mul-are-finite
+    shared-slice-read-are-finite
+    add-are-finite
+    mul-are-finite-2
+    shared-slice-read-are-finite-2
+    are-finite-requires
+    add-i
+    loop-less
+    loop-again
+    returns)
