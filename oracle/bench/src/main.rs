@@ -4,7 +4,6 @@
 mod decoding;
 mod flat;
 mod scoring;
-mod steps;
 mod times;
 mod training;
 

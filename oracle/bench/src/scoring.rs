@@ -1,6 +1,6 @@
-//! Scoring and counting lines of one model. The Rust text tests nothing: what is held against it is the library's step after
-//! the check, which still looks for what is not finite. Beside it the whole public call, which tests the model's tables and
-//! the line's each time, and the check of the model alone, which is most of that.
+//! Scoring and counting lines of one model. The Rust text tests nothing, and the public calls test the model's tables and the
+//! line's each time. What the tests cost is timed by a copy of each line whose very last test refuses it: what the whole call
+//! takes beyond that is its step after the check, which is held against the Rust and still looks for what is not finite.
 
 use std::hint::black_box;
 
@@ -14,8 +14,7 @@ use oracle::cases::Rng;
 use oracle::cases::make::{self, Palette};
 use oracle::tables::{Counts, Line, Model, STATE, TRANSITION, all_same};
 
-use crate::steps;
-use crate::times::{median, pass};
+use crate::times::{beyond, median, pass};
 
 /// A row: a Transition feature for every two labels, the other features in attribute lists.
 pub struct Shape {
@@ -39,6 +38,8 @@ const PASSES: usize = 15;
 
 struct Case {
     line: Line,
+    /// The same, but for its last value, which is a NaN: the last thing that both calls test.
+    damaged: Line,
     labels: Vec<u32>,
     instance: Instance,
 }
@@ -99,7 +100,9 @@ fn case(rng: &mut Rng, model: &Model, shape: &Shape) -> Case {
         line.ids.iter().zip(&line.values).map(|(id, value)| Attribute::new(*id, *value)).collect();
     let items = attributes.chunks_exact(shape.attributes as usize).map(<[Attribute]>::to_vec).collect();
     let instance = Instance { num_items: shape.words, items, labels: labels.clone(), weight: 1.0 };
-    Case { line, labels, instance }
+    let mut damaged = line.clone();
+    *damaged.values.last_mut().expect("lines have attributes") = f64::NAN;
+    Case { line, damaged, labels, instance }
 }
 
 /// The model as the Rust has it.
@@ -121,9 +124,9 @@ fn generator(model: &Model) -> FeatureGenerator {
     }
 }
 
-/// The same by the text, by the whole call and by the step, to the bit.
+/// The same by the text and by the call, to the bit; and the damaged line is refused, by its last value.
 fn compare_answers(model: &Model, generator: &FeatureGenerator, case: &Case, context: &mut ScoreContext) {
-    let Case { line, labels, instance } = case;
+    let Case { line, damaged, labels, instance } = case;
     let (words, width) = (line.words as usize, model.labels as usize);
     let (mut states, mut transitions) = (vec![f64::NAN; words * width], vec![f64::NAN; width * width]);
     let mut counts = vec![f64::NAN; model.counts.features as usize];
@@ -136,14 +139,9 @@ fn compare_answers(model: &Model, generator: &FeatureGenerator, case: &Case, con
     assert_eq!(extract_features(model, line, labels, &mut counts), Ok(()));
     assert!(all_same(&counts, &owed_counts));
 
-    states.fill(f64::NAN);
-    transitions.fill(f64::NAN);
-    counts.fill(f64::NAN);
-    // both calls have just accepted them
-    assert_eq!(unsafe { steps::score(model, line, &mut states, &mut transitions) }, Ok(()));
-    assert!(all_same(&states, &owed_states) && all_same(&transitions, &owed_transitions));
-    assert_eq!(unsafe { steps::count(model, line, labels, &mut counts) }, Ok(()));
-    assert!(all_same(&counts, &owed_counts));
+    let last = Err((6, u64::from(line.attributes) - 1));
+    assert_eq!(compute_scores(model, damaged, &mut states, &mut transitions), last);
+    assert_eq!(extract_features(model, damaged, labels, &mut counts), last);
 }
 
 fn row(model: &Model, cases: &[Case], shape: &Shape) {
@@ -155,32 +153,37 @@ fn row(model: &Model, cases: &[Case], shape: &Shape) {
 
     let (mut states, mut transitions) = (vec![0.0; (words * labels) as usize], vec![0.0; (labels * labels) as usize]);
     let mut counts = vec![0.0; features as usize];
-    let mut times: [Vec<f64>; 7] = Default::default();
+    let mut times: [Vec<f64>; 5] = Default::default();
+    let (mut score, mut count) = (Vec::new(), Vec::new());
     for _ in 0..PASSES {
         times[0].extend(pass(cases, |_| black_box(check_model(black_box(model))).is_ok()));
-        times[1].extend(pass(cases, |case| {
+        let refused = pass(cases, |case| {
+            black_box(compute_scores(black_box(model), &case.damaged, &mut states, &mut transitions)).is_err()
+        });
+        let scored = pass(cases, |case| {
             black_box(compute_scores(black_box(model), &case.line, &mut states, &mut transitions)).is_ok()
-        }));
+        });
+        score.extend(beyond(&scored, &refused));
+        times[1].extend(scored);
         times[2].extend(pass(cases, |case| {
-            // every case has been accepted, in buffers of these lengths
-            black_box(unsafe { steps::score(black_box(model), &case.line, &mut states, &mut transitions) }).is_ok()
-        }));
-        times[3].extend(pass(cases, |case| {
             context.compute_scores(black_box(&case.instance), black_box(&generator));
             black_box(probe::state_scores(&context)).len() == words as usize
         }));
-        times[4].extend(pass(cases, |case| {
+        let refused = pass(cases, |case| {
+            black_box(extract_features(black_box(model), &case.damaged, &case.labels, &mut counts)).is_err()
+        });
+        let counted = pass(cases, |case| {
             black_box(extract_features(black_box(model), &case.line, &case.labels, &mut counts)).is_ok()
-        }));
-        times[5].extend(pass(cases, |case| {
-            black_box(unsafe { steps::count(black_box(model), &case.line, &case.labels, &mut counts) }).is_ok()
-        }));
-        times[6].extend(pass(cases, |case| {
+        });
+        count.extend(beyond(&counted, &refused));
+        times[3].extend(counted);
+        times[4].extend(pass(cases, |case| {
             let counts = trainer.counts(black_box(&case.instance), &case.labels, black_box(&generator));
             black_box(counts).len() == features as usize
         }));
     }
-    let [check, scored, score, score_of_text, counted, count, count_of_text] = times.map(median);
+    let [check, scored, score_of_text, counted, count_of_text] = times.map(median);
+    let (score, count) = (median(score), median(count));
     println!(
         "L {labels:2} T {words:3} F {features:5}, {attributes} attributes a word, {entries:2} entries a list ({} lines): \
          the model's check alone {check:.0}",

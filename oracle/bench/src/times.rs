@@ -16,6 +16,11 @@ pub fn pass<C>(cases: &[C], mut answered: impl FnMut(&C) -> bool) -> Vec<f64> {
     cases.chunks(cases.len().div_ceil(BATCHES)).map(batch).collect()
 }
 
+/// What each batch took beyond another pass over the same batches.
+pub fn beyond<'a>(times: &'a [f64], others: &'a [f64]) -> impl Iterator<Item = f64> + 'a {
+    times.iter().zip(others).map(|(time, other)| time - other)
+}
+
 pub fn median(mut times: Vec<f64>) -> f64 {
     times.sort_by(f64::total_cmp);
     times[times.len() / 2]

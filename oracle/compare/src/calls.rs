@@ -122,7 +122,6 @@ unsafe extern "C" {
 
 /// Calls that take numbers, tables, numbers, tables, and buffers to change: each of those in brackets is a pointer, then
 /// its length.
-#[macro_export]
 macro_rules! declared {
     ($(fn $name:ident(
         $($number:ident: $of:ty),*; [$($table:ident: $entry:ty),*];
