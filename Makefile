@@ -3,13 +3,14 @@
 # make run SHEET=FILE    decodes a sheet of one's own
 # make example           builds the C example of examples/ and runs it: learns from log lines, labels another
 # make bench             times beside the Rust: decoding, scoring, counting, training
+# make compare ROUNDS=N  the comparison with the Rust, with N times as many random cases as in make test
 # make list              writes anew, from the oracle, the answers that the gate replays, and the samples
 # make archive           the static library for C and Rust, in build/
 # make fmt               lays out the Rattle and antt files
 
 root := $(dir $(lastword $(MAKEFILE_LIST)))
 
-.PHONY: test run example bench list archive fmt
+.PHONY: test run example bench compare list archive fmt
 
 test:
 	@$(root)scripts/test
@@ -24,6 +25,10 @@ example:
 
 bench:
 	@$(root)scripts/bench
+
+compare: export ROUNDS ?= 1
+compare:
+	@$(root)scripts/compare
 
 list:
 	@$(root)scripts/list $(root)
