@@ -6,3 +6,4 @@ pub mod OneVisit
 pub mod Weights
 pub mod Accepted
 pub mod WholeCounts
+pub mod FiniteCounts

@@ -7,3 +7,4 @@ pub mod Counter
 pub mod OneVisit
 pub mod Accepted
 pub mod WholeCounts
+pub mod FiniteCounts
