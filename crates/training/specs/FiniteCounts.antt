@@ -1,4 +1,4 @@
--- What the weights tell of the counts: each of the three updates adds to every weight a product with true count minus predicted count in it, and of a count that is not finite no such sum is. The proof is in proofs/FiniteCounts.
+-- What finite weights tell of the counts: each of the three updates adds to every weight a product in which true count minus predicted count is a factor, and a sum, a difference or a product is finite only where both of its numbers are. The proof is in proofs/FiniteCounts.
 use mathlib.Core.Path.{_≡_}
 use mathlib.Core.Bool.{true, _&&_}
 use Prim.Native.Nat.{ℕ}

@@ -23,12 +23,14 @@ use Rattle.training.specs.Data.{Data, firstWord, wordsOf, referenceOf, whole, w
 use Rattle.training.specs.Rules.{Rule, Learned, Mistake, Update, updatedBy, _⊕_}
 use Rattle.training.specs.Visits.{State, refusedAs, unchanged, changedTo, finiteState, heldTo, corrected, compared, visited}
 use Rattle.training.specs.Epochs.{isRefused}
+use Rattle.training.proofs.FiniteCounts.{weights-tell-counts}
 use Rattle.training_tables.specs.declared.Outcome.{Outcome}
 use Rattle.training_tables.specs.Tables.{Updated}
 use Rattle.prediction.specs.declared.Prediction.{Prediction}
 use Rattle.training_check.specs.Sound.{SoundData}
 use Rattle.prediction.specs.Tables.{SoundLine}
 use Rattle.prediction.specs.Judged.{Judged, finiteScores}
+use Rattle.prediction.proofs.Laws.{both}
 use Rattle.visits.specs.Visiting.{Agreed, Counted, settled}
 
 pub exactly : {made meant : State} → made ≡ meant → Agreed made meant
@@ -64,28 +66,27 @@ module _ (rule : Rule) (features : ℕ) (k : Mistake) (s : State) {after : Learn
   unfolding finiteState
   told f e = rw (made, u .finite, e, and-assoc)
 
-  -- it is held
+  counts-finite : o .finite ≡ true → allFinite (k .truly) features && allFinite (k .predicted) features ≡ true
+  counts-finite t =
+      weights-tell-counts rule features k (s .learned)
+      (rw (← u .update) (both (allFinite (after .weights) features) (allFinite (after .beside) features) (sym (u .finite) ∙ t) .0))
+
+  -- it is held: nobody has to look at the counts
   pub held : (f : Bool) → f ≡ finite (s .step .loss ⊕ o .loss) → o .finite && f ≡ true →
-      Agreed (record { step = record { visit = Changed; visits = s .step .visits + 1; updates = s .step .updates + 1; loss = s .step .loss ⊕ o .loss }; learned = after })
-      (heldTo features s (changedTo (updatedBy rule features k (s .learned)) s))
-  unfolding heldTo
-  held f e t = exactly (rw (told f e, t, made))
+      Agreed (record { step = record { visit = Changed; visits = s .step .visits + 1; updates = s .step .updates + 1; loss = s .step .loss ⊕ o .loss }; learned = after }) (settled rule features k s)
+  unfolding settled heldTo
+  held f e t = exactly (rw (counts-finite (both (o .finite) f t .0), told f e, t, made))
 
   -- 9
-  pub not-held : (f : Bool) → f ≡ finite (s .step .loss ⊕ o .loss) → o .finite && f ≡ false → {r : Step} {l : Learned} → r ≡ (refusedAs 9 s) .step →
-      Agreed (record { step = r; learned = l }) (heldTo features s (changedTo (updatedBy rule features k (s .learned)) s))
-  unfolding heldTo
-  not-held f e t p = refused 9 s (rw (told f e, t)) p
+  pub not-held : (f : Bool) → f ≡ finite (s .step .loss ⊕ o .loss) → o .finite && f ≡ false → allFinite (k .truly) features && allFinite (k .predicted) features ≡ true →
+      {r : Step} {l : Learned} → r ≡ (refusedAs 9 s) .step → Agreed (record { step = r; learned = l }) (settled rule features k s)
+  unfolding settled heldTo
+  not-held f e t c p = refused 9 s (rw (c, told f e, t)) p
 
--- ---- where labels differ
-module _ (rule : Rule) (features : ℕ) (k : Mistake) (s : State) where
-  pub counted : allFinite (k .truly) features && allFinite (k .predicted) features ≡ true → {made : State} → Agreed made (heldTo features s (changedTo (updatedBy rule features k (s .learned)) s)) → Agreed made (settled rule features k s)
-  unfolding settled
-  counted t a = rw t a
-
-  pub not-counted : allFinite (k .truly) features && allFinite (k .predicted) features ≡ false → {r : Step} {l : Learned} → r ≡ (refusedAs 8 s) .step → Agreed (record { step = r; learned = l }) (settled rule features k s)
-  unfolding settled
-  not-counted t p = refused 8 s (rw t) p
+-- 8 for the counts
+pub not-counted : (rule : Rule) (features : ℕ) (k : Mistake) (s : State) → allFinite (k .truly) features && allFinite (k .predicted) features ≡ false → {r : Step} {l : Learned} → r ≡ (refusedAs 8 s) .step → Agreed (record { step = r; learned = l }) (settled rule features k s)
+unfolding settled
+not-counted rule features k s t p = refused 8 s (rw t) p
 
 -- ---- one instance, whose words go from first up to end
 module _ (d : Data) (i first end : ℕ) (f : first ≡ getD (d .starts) i 0) (g : end ≡ getD (d .starts) (i + 1) 0) where

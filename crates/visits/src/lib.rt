@@ -5,8 +5,8 @@ ghost use Prim.Native.Nat.{_+_, _≤_, _<_, _^_};
 ghost use lib.ListN.{length};
 ghost use Rattle.lines.specs.Counted.{countsOf};
 ghost use Rattle.training.specs.Data.{whole};
-ghost use Rattle.training.specs.Rules.{Learned, Mistake, updatedBy};
-ghost use Rattle.training.specs.Visits.{refusedAs, changedTo, heldTo, visited};
+ghost use Rattle.training.specs.Rules.{Learned, Mistake};
+ghost use Rattle.training.specs.Visits.{refusedAs, visited};
 ghost use Rattle.training_tables.specs.Tables.{Held, Updated};
 ghost use Rattle.feature_gen.specs.Sound.{Sound};
 ghost use Rattle.training_check.specs.Sound.{SoundData};
@@ -113,7 +113,8 @@ fn refuse(number: u32, s: Step) -> Step
     }
 }
 
-// The update, and 9: the tables and the epoch's loss have to be finite after it.
+// The update, then 8 for the counts, then 9 for the tables and the epoch's loss. Weights that are finite after it tell that the
+// counts were, so those are looked at only where something is not finite; the tables of a refused visit are read by nobody.
 fn learn(
     trainer: Trainer,
     features: usize,
@@ -128,7 +129,7 @@ fn learn(
 ) -> Step
     requires { ⌜ (p .wrong ≤ 128) × Held features (length (now truly)) (length (now predicted)) (length (now weights)) (length (now beside)) ⌝ }
     requires { ⌜ (s .visits < 2 ^ 53) × (s .updates ≤ s .visits) ⌝ }
-    ensures { λ r. ⌜ Agreed (stateOf r (now (weights .exit)) (now (beside .exit))) (heldTo features (stateOf s (now (weights .entry)) (now (beside .entry))) (changedTo (updatedBy (ruleOf trainer) features (record { words = words; wrong = p .wrong; truly = now (truly .entry); predicted = now (predicted .entry); trueScore = p .wanted; predictedScore = p .reached; weight = weight; counter = whole (s .visits + 1) }) (record { weights = now (weights .entry); beside = now (beside .entry) })) (stateOf s (now (weights .entry)) (now (beside .entry))))) ⌝ }
+    ensures { λ r. ⌜ Agreed (stateOf r (now (weights .exit)) (now (beside .exit))) (settled (ruleOf trainer) features (record { words = words; wrong = p .wrong; truly = now (truly .entry); predicted = now (predicted .entry); trueScore = p .wanted; predictedScore = p .reached; weight = weight; counter = whole (s .visits + 1) }) (stateOf s (now (weights .entry)) (now (beside .entry)))) ⌝ }
     ensures { λ r. ⌜ Counted s r ⌝ }
 {
     let visits = s.visits + 1;
@@ -154,10 +155,14 @@ fn learn(
             loss: loss,
         };
     }
-    refuse(9, s)
+    if training_tables::both_finite(truly, predicted, features) {
+        refuse(9, s)
+    } else {
+        refuse(8, s)
+    }
 }
 
-// The labels differ: 8 for the true counts, then for the predicted counts, then the update.
+// The labels differ: the true counts, the predicted counts, then the update.
 fn correct(
     trainer: Trainer,
     sizes: Sizes,
@@ -230,24 +235,18 @@ fn correct(
         path,
         predicted,
     );
-    if training_tables::all_finite(truly, features)
-        & training_tables::all_finite(predicted, features)
-    {
-        learn(
-            trainer,
-            features,
-            words as u32,
-            weight,
-            p,
-            s,
-            truly,
-            predicted,
-            weights,
-            beside,
-        )
-    } else {
-        refuse(8, s)
-    }
+    learn(
+        trainer,
+        features,
+        words as u32,
+        weight,
+        p,
+        s,
+        truly,
+        predicted,
+        weights,
+        beside,
+    )
 }
 
 // The visit of instance i.

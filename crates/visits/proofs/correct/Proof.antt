@@ -6,18 +6,14 @@ use native.Mathlib.Omega.{arith}
 use borrow.Author.Needs.{needs}
 use Rattle.lines.specs.Tables.{Model, Words}
 use Rattle.lines.specs.Counted.{countsOf}
-use Rattle.training.specs.Data.{allFinite}
 use Rattle.prediction.specs.Tables.{modelOf, wordsIn}
 use Rattle.prediction.proofs.Laws.{all-of}
-use Rattle.visits.proofs.Laws.{counted, not-counted, refused-counted}
 use Rattle.visits.proofs.correct.Statement.{statement}
 use Rattle.visits.proofs.correct.Tie as tie
 use Rattle.visits.proofs.correct.Reads as reads
 use Rattle.visits.proofs.correct.Lts as lts
 use Rattle.extract_features.proofs.count_line.Reads as count-line-reads
-use Rattle.training_tables.proofs.all_finite.Reads as all-finite-reads
 use Rattle.visits.proofs.learn.Reads as learn-reads
-use Rattle.visits.proofs.refuse.Reads as refuse-reads
 
 -- the model and the words that the arguments make
 abbrev model : tie.Start → Model
@@ -35,13 +31,7 @@ truly-are d = let s = d .before .before .before .before .before .before .before 
 predicted-are : (d : tie.After-count-line2) → let s = d .before .before .before .before .before .before .before .before .before .before .before .before .before .before .before .before .before .before .before .before .before .before in d .count-line2 .last .1 .1 .1 .1 .1 .1 .1 .1 .1 .1 .1 .1 .1 .1 .1 .1 .0 ≡ countsOf (model s) (line s) (s .args .first) (s .args .words) (s .args .path .now)
 predicted-are d = let s = d .before .before .before .before .before .before .before .before .before .before .before .before .before .before .before .before .before .before .before .before .before .before in d .count-line2 .ensures (model s) (s .args .sizes .attributes) ∙ all-of _ _ _ (s .pre .1 .1 .0 .predicted-long)
 
--- the flag, by what each test ensures
-flag : (f : tie.After-all-finite2) →
-    let s = f .before .before .before .before .before .before .before .before .before .before .before .before .before .before .before .before .before .before .before .before .before .before .before .before .before .before .before .before in
-    f .before .before .all-finite .result && f .all-finite2 .result ≡ allFinite (countsOf (model s) (line s) (s .args .first) (s .args .words) (s .args .references .now)) (s .args .sizes .features) && allFinite (countsOf (model s) (line s) (s .args .first) (s .args .words) (s .args .path .now)) (s .args .sizes .features)
-flag f = rw (f .before .before .all-finite .ensures, f .all-finite2 .ensures, truly-are (f .before .before .before .before .before .before .before .before .before .before), predicted-are (f .before .before .before .before .before .before))
-
--- src/lib.rt:182:5
+-- src/lib.rt:200:5
 count-line-requires : tie.Need-count-line-requires
 count-line-requires c κs =
     let s = c .before .before .before .before .before .before .before .before .before .before .before .before .before .before .before .before .before in
@@ -49,7 +39,7 @@ count-line-requires c κs =
     let e = s .pre .1 .1 .0 in
     (m .counts, (m .sized .sources, (m .attribute-lists, (m .label-lists, (s .pre .1 .0 .worded, (le-of-eq (sym (s .pre .1 .0 .referenced)), le-of-eq (sym (e .truly-long))))))))
 
--- src/lib.rt:201:5
+-- src/lib.rt:219:5
 count-line-requires-2 : tie.Need-count-line-requires-2
 count-line-requires-2 c κs =
     let s = c .before .before .before .before .before .before .before .before .before .before .before .before .before .before .before .before .before .before .before .before .before in
@@ -57,28 +47,20 @@ count-line-requires-2 c κs =
     let e = s .pre .1 .1 .0 in
     (m .counts, (m .sized .sources, (m .attribute-lists, (m .label-lists, (s .pre .1 .0 .worded, (le-of-eq (sym (s .pre .1 .1 .1 .0 .0)), le-of-eq (sym (e .predicted-long))))))))
 
--- src/lib.rt:220:8
-all-finite-requires : tie.Need-all-finite-requires
-all-finite-requires c κs = le-of-eq (sym (c .before .before .before .before .before .before .before .count-line .kept .1 .1 .1 .1 .1 .1 .1 .1 .1 .1 .1 .1 .1 .1 .1 .1 .0 ∙ c .before .before .before .before .before .before .before .before .before .before .before .before .before .before .before .before .before .before .before .before .before .before .before .before .before .pre .1 .1 .0 .truly-long))
-
--- src/lib.rt:220:55
-all-finite-requires-2 : tie.Need-all-finite-requires-2
-all-finite-requires-2 c κs = le-of-eq (sym (c .before .before .before .before .before .count-line2 .kept .1 .1 .1 .1 .1 .1 .1 .1 .1 .1 .1 .1 .1 .1 .1 .1 .0 ∙ c .before .before .before .before .before .before .before .before .before .before .before .before .before .before .before .before .before .before .before .before .before .before .before .before .before .before .before .pre .1 .1 .0 .predicted-long))
-
--- src/lib.rt:221:34
+-- src/lib.rt:241:9
 cast-learn : tie.Need-cast-learn
-cast-learn c = omega (arith, c .before .before .before .before .before .before .before .before .before .before .before .before .before .before .before .before .before .before .before .before .before .before .before .before .before .before .before .before .before .pre .1 .0 .sized .high)
+cast-learn c = omega (arith, c .before .before .before .before .before .before .before .before .before .before .before .before .before .before .before .before .before .before .before .before .before .before .before .before .pre .1 .0 .sized .high)
 
--- src/lib.rt:221:9
+-- src/lib.rt:238:5
 learn-requires : tie.Need-learn-requires
 learn-requires c κs =
-    let s = c .before .before .before .before .before .before .before .before .before .before .before .before .before .before .before .before .before .before .before .before .before .before .before .before .before .before .before .before .before .before .before .before .before in
+    let s = c .before .before .before .before .before .before .before .before .before .before .before .before .before .before .before .before .before .before .before .before .before .before .before .before .before .before .before .before in
     let e = s .pre .1 .1 .0 in (
       (
         s .pre .1 .1 .1 .0 .1,
         record {
-          truly-long = le-of-eq (sym (c .before .before .before .before .before .before .before .before .before .before .before .before .before .before .before .count-line .kept .1 .1 .1 .1 .1 .1 .1 .1 .1 .1 .1 .1 .1 .1 .1 .1 .0 ∙ e .truly-long));
-          predicted-long = le-of-eq (sym (c .before .before .before .before .before .before .before .before .before .before .before .count-line2 .kept .1 .1 .1 .1 .1 .1 .1 .1 .1 .1 .1 .1 .1 .1 .1 .1 .0 ∙ e .predicted-long));
+          truly-long = le-of-eq (sym (c .before .before .before .before .before .before .before .before .before .before .count-line .kept .1 .1 .1 .1 .1 .1 .1 .1 .1 .1 .1 .1 .1 .1 .1 .1 .0 ∙ e .truly-long));
+          predicted-long = le-of-eq (sym (c .before .before .before .before .before .before .count-line2 .kept .1 .1 .1 .1 .1 .1 .1 .1 .1 .1 .1 .1 .1 .1 .1 .1 .0 ∙ e .predicted-long));
           weights-long = le-of-eq (sym (e .weights-long));
           beside-long = le-of-eq (sym (e .beside-long));
         },
@@ -86,47 +68,27 @@ learn-requires c κs =
       s .pre .1 .1 .1 .1,
     )
 
--- src/lib.rt:223:9
-refuse-requires : tie.Need-refuse-requires
-refuse-requires c κs = search needs
-
--- src/lib.rt:148:1
+-- src/lib.rt:166:1
 same-length : tie.Need-same-length
 same-length c = search needs
 
--- src/lib.rt:148:1
+-- src/lib.rt:166:1
 same-length-2 : tie.Need-same-length-2
 same-length-2 c = search needs
 
--- src/lib.rt:148:1
+-- src/lib.rt:166:1
 same-length-3 : tie.Need-same-length-3
 same-length-3 c = search needs
 
--- src/lib.rt:148:1
+-- src/lib.rt:166:1
 same-length-4 : tie.Need-same-length-4
 same-length-4 c = search needs
 
--- src/lib.rt:148:1
+-- src/lib.rt:166:1
 returns : tie.Need-returns
 returns c =
-    let f = c .before .before .before .before .before .before .before .before .before .before in
     let made = c .before .before .before .before .learn .ensures in
-    (counted _ _ _ _ (sym (flag f) ∙ c .before .before .before .before .before .before .before .before .before .if1 .taken) (rw (truly-are (f .before .before .before .before .before .before .before .before .before .before), predicted-are (f .before .before .before .before .before .before)) at (made .0)), made .1)
-
--- src/lib.rt:148:1
-same-length-5 : tie.Need-same-length-5
-same-length-5 c = search needs
-
--- src/lib.rt:148:1
-same-length-6 : tie.Need-same-length-6
-same-length-6 c = search needs
-
--- src/lib.rt:148:1
-returns-2 : tie.Need-returns-2
-returns-2 c =
-    let f = c .before .before in
-    let made = c .refuse .ensures in
-    (not-counted _ _ _ _ (sym (flag f) ∙ c .before .if1 .left) (made _), refused-counted 8 _ _ made (c .before .before .before .before .before .before .before .before .before .before .before .before .before .before .before .before .before .before .before .before .before .before .before .before .before .before .before .before .before .before .pre .1 .1 .1 .1 .1))
+    (rw (truly-are (c .before .before .before .before .before .before .before .before .before .before .before .before .before .before .before), predicted-are (c .before .before .before .before .before .before .before .before .before .before .before)) at (made .0), made .1)
 
 pub correct-spec : {M : Type 1} → statement M
 correct-spec =
@@ -134,16 +96,10 @@ correct-spec =
     (tie.spec
     count-line-requires
     count-line-requires-2
-    all-finite-requires
-    all-finite-requires-2
     cast-learn
     learn-requires
-    refuse-requires
     same-length
     same-length-2
     same-length-3
     same-length-4
-    returns
-    same-length-5
-    same-length-6
-    returns-2)
+    returns)
