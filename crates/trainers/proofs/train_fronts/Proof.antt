@@ -2,6 +2,7 @@
 use mathlib.Core.Path.{sym}
 use native.Mathlib.Omega.{arith}
 use borrow.Author.Needs.{needs}
+use mir.Facts.{fits-32-64}
 use Rattle.training_check.specs.Sound.{LentSized}
 use Rattle.trainers.specs.Promise.{Given, Buffers, inputOf}
 use Rattle.feature_gen.specs.Lent.{modelOf}
@@ -32,58 +33,58 @@ room : (c : tie.After-struct-known8) → LentSized (start c .args .counts .featu
 room c = start c .pre .sound .fits .lent
 
 cast-features : tie.Need-cast-features
-cast-features c = search needs
+cast-features c = fits-32-64 (c .struct-known .given .0)
 
 cast-instances : tie.Need-cast-instances
-cast-instances c = search needs
+cast-instances c = fits-32-64 (c .struct-known2 .given .0)
 
 cast-t30 : tie.Need-cast-t30
-cast-t30 c = search needs
+cast-t30 c = fits-32-64 (c .struct-known3 .given .1 .0)
 
 cast-t31 : tie.Need-cast-t31
-cast-t31 c = search needs
+cast-t31 c = fits-32-64 (c .struct-known4 .given .1 .1 .0)
 
 cast-t32 : tie.Need-cast-t32
-cast-t32 c = search needs
+cast-t32 c = fits-32-64 (c .struct-known5 .given .1 .1 .1 .0)
 
 cast-t33 : tie.Need-cast-t33
-cast-t33 c = search needs
+cast-t33 c = fits-32-64 (c .struct-known6 .given .1 .1 .1 .1 .0)
 
 cast-t34 : tie.Need-cast-t34
-cast-t34 c = search needs
+cast-t34 c = fits-32-64 (c .struct-known7 .given .1 .0)
 
 cast-t35 : tie.Need-cast-t35
-cast-t35 c = search needs
+cast-t35 c = fits-32-64 (c .struct-known8 .given .1 .1 .0)
 
 slice-relend-prefix-train : tie.Need-slice-relend-prefix-train
-slice-relend-prefix-train c = search (needs, room c)
+slice-relend-prefix-train c = room c .order
 
 slice-aggregate-train : tie.Need-slice-aggregate-train
-slice-aggregate-train c = search (needs, front-count, room (c .before))
+slice-aggregate-train c = front-count _ _ (room (c .before) .order)
 
 slice-relend-prefix-train-2 : tie.Need-slice-relend-prefix-train-2
-slice-relend-prefix-train-2 c = search (needs, room (c .before))
+slice-relend-prefix-train-2 c = room (c .before) .weights
 
 slice-aggregate-train-2 : tie.Need-slice-aggregate-train-2
-slice-aggregate-train-2 c = search (needs, front-count, room (c .before .before))
+slice-aggregate-train-2 c = front-count _ _ (room (c .before .before) .weights)
 
 slice-relend-prefix-train-3 : tie.Need-slice-relend-prefix-train-3
-slice-relend-prefix-train-3 c = search (needs, room (c .before .before))
+slice-relend-prefix-train-3 c = room (c .before .before) .beside
 
 slice-aggregate-train-3 : tie.Need-slice-aggregate-train-3
-slice-aggregate-train-3 c = search (needs, front-count, room (c .before .before .before))
+slice-aggregate-train-3 c = front-count _ _ (room (c .before .before .before) .beside)
 
 slice-relend-prefix-train-4 : tie.Need-slice-relend-prefix-train-4
-slice-relend-prefix-train-4 c = search (needs, room (c .before .before .before))
+slice-relend-prefix-train-4 c = room (c .before .before .before) .truly
 
 slice-aggregate-train-4 : tie.Need-slice-aggregate-train-4
-slice-aggregate-train-4 c = search (needs, front-count, room (c .before .before .before .before))
+slice-aggregate-train-4 c = front-count _ _ (room (c .before .before .before .before) .truly)
 
 slice-relend-prefix-train-5 : tie.Need-slice-relend-prefix-train-5
-slice-relend-prefix-train-5 c = search (needs, room (c .before .before .before .before))
+slice-relend-prefix-train-5 c = room (c .before .before .before .before) .predicted
 
 slice-aggregate-train-5 : tie.Need-slice-aggregate-train-5
-slice-aggregate-train-5 c = search (needs, front-count, room (c .before .before .before .before .before))
+slice-aggregate-train-5 c = front-count _ _ (room (c .before .before .before .before .before) .predicted)
 
 train-requires : tie.Need-train-requires
 train-requires c κs =
@@ -94,12 +95,12 @@ train-requires c κs =
         s .pre .sound .corpus,
         (
           record {
-            weights-long = search (needs, front-long, room k);
-            beside-long = search (needs, front-long, room k);
-            truly-long = search (needs, front-long, room k);
-            predicted-long = search (needs, front-long, room k);
+            weights-long = front-long _ _ (room k .weights);
+            beside-long = front-long _ _ (room k .beside);
+            truly-long = front-long _ _ (room k .truly);
+            predicted-long = front-long _ _ (room k .predicted);
           },
-          (omega (arith, s .pre .few), search (needs, front-long, room k)),
+          (omega (arith, s .pre .few), front-long _ _ (room k .order)),
         ),
       ),
     )
