@@ -10,14 +10,14 @@ use lib.Ieee.{Float, nan}
 use Rattle.refusals.specs.declared.Refusal.{Refusal}
 use Rattle.refusals.specs.declared.Checked.{Checked}
 use Rattle.refusals.specs.declared.Checked.the-variants.{Accepted, Refused}
-use Rattle.refusals.specs.Refusals.{first, orNext}
+use Rattle.refusals.specs.Refusals.{first, firstFrom, orNext}
 use Rattle.refusals.proofs.Laws.{settled, both, all-accepted}
 use Rattle.score_tables.specs.Rows.{one}
 use Rattle.refusal_rows.specs.Limits.{two, AllWithin}
 use Rattle.refusal_rows.specs.Tests.{checks}
 use Rattle.refusal_rows.proofs.Means.{two-means, within-parts}
 use Rattle.lines.specs.Tables.{Model}
-use Rattle.feature_gen.specs.Rows.{modelLimits, weightLimits, startTests, idTests, weightTests, modelSized, modelChecked}
+use Rattle.feature_gen.specs.Rows.{modelLimits, weightLimits, startTests, featureTests, entryTests, idTests, weightTests, modelSized, modelChecked}
 use Rattle.feature_gen.specs.SetWeights.{Setting, newLimits, newTests, newChecked, answerTo, weightsAfter, WeightsSet}
 use Rattle.feature_gen.specs.Sound.{Sized}
 
@@ -49,6 +49,12 @@ module _ (m : Model) (weights : List Float) where
   pub stopped : (why : Refusal) → modelSized m weights ≡ Refused why → Refused why ≡ modelChecked m weights
   unfolding modelSized modelChecked
   stopped why h = sym (settled (first by-size) (checks (startTests m) ++ checks (idTests m) ++ checks (weightTests m weights)) why h)
+
+  -- the tests one after the other are the call's
+  pub answered : {sizes three features five r : Checked} → sizes ≡ modelSized m weights → three ≡ firstFrom sizes (checks (startTests m)) → features ≡ firstFrom three (checks (featureTests (m .labels) (m .features))) →
+      five ≡ firstFrom features (checks (entryTests m)) → r ≡ firstFrom five (checks (weightTests m weights)) → r ≡ modelChecked m weights
+  unfolding modelSized modelChecked
+  answered a b c d e = rw (e, d, c, b, a)
 
   within : (r : Checked) → r ≡ modelSized m weights → r ≡ Accepted → AllWithin (modelLimits m ++ weightLimits m weights)
   unfolding modelSized

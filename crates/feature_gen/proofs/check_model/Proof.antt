@@ -1,9 +1,8 @@
 -- `feature_gen::check_model` meets its contract: where the sizes are accepted, every table has room for its test. Assumes nothing.
 use mathlib.Core.Path.{_≡_, sym, _∙_, ap}
 use borrow.Author.Needs.{needs}
-use Rattle.feature_gen.specs.Rows.{modelSized, modelChecked}
 use Rattle.feature_gen.specs.CheckModel.{said, answerTo}
-use Rattle.feature_gen.proofs.Laws.{stopped, roomy}
+use Rattle.feature_gen.proofs.Laws.{stopped, roomy, answered}
 use Rattle.feature_gen.proofs.check_model.Statement.{statement}
 use Rattle.feature_gen.proofs.check_model.Tie as tie
 
@@ -46,11 +45,11 @@ check-numbers-requires c κs =
     roomy _ _ _ (e .before .before .check-sizes .ensures) (e .enum-told .given .1) .1
 
 returns-2 : tie.Need-returns-2
-unfolding answerTo modelChecked modelSized
+unfolding answerTo
 returns-2 c =
     let e = c .before .before in
     let s = e .before .before in
-    record { answers = rw (c .check-numbers .ensures, e .check-entries .ensures, e .before .check-features .ensures, s .check-starts .ensures, s .before .before .before .check-sizes .ensures) }
+    record { answers = ap said (answered _ _ (s .before .before .before .check-sizes .ensures) (s .check-starts .ensures) (e .before .check-features .ensures) (e .check-entries .ensures) (c .check-numbers .ensures)) }
 
 pub check-model-spec : {M : Type 1} → statement M
 check-model-spec =
