@@ -8,7 +8,7 @@ use lib.ListN.{length}
 use Rattle.refusals.specs.declared.Refusal.{Refusal}
 use Rattle.refusals.specs.declared.Checked.{Checked}
 use Rattle.refusals.specs.declared.Checked.the-variants.{Accepted, Refused}
-use Rattle.refusals.specs.Refusals.{first, refuse}
+use Rattle.refusals.specs.Refusals.{first, firstFrom, refuse}
 use Rattle.refusals.proofs.Laws.{settled, all-accepted}
 use Rattle.score_tables.specs.Rows.{one, four}
 use Rattle.refusal_rows.specs.Limits.{Limit, anyBroken, two, AllWithin}
@@ -18,7 +18,7 @@ use Rattle.lines.specs.Tables.{Words}
 use Rattle.feature_gen.specs.Rows.{modelLimits, weightLimits, idTests, weightTests}
 use Rattle.feature_gen.specs.Sound.{Sized}
 use Rattle.feature_gen.proofs.Laws.{sized}
-use Rattle.line_check.specs.Rows.{Scoring, Counting, lineLimits, scoreLimits, scoringLimits, countLimits, countingLimits, lineStarts, labelTests, valueTests, sizesTested, scoringSized, scoringChecked, countingSized, countingChecked}
+use Rattle.line_check.specs.Rows.{Scoring, Counting, lineLimits, scoreLimits, scoringLimits, countLimits, countingLimits, lineStarts, listTests, labelTests, valueTests, sizesTested, scoringSized, scoringChecked, countingSized, countingChecked}
 use Rattle.line_check.specs.Sound.{LineSized, ScoringFits, CountingFits}
 
 pub line-sized : (words : ℕ) (line : Words) → AllWithin (lineLimits words line) → LineSized words line
@@ -59,6 +59,12 @@ module _ (s : Scoring) where
       why
       h)
 
+  -- the tests one after the other are the call's
+  pub scoring-answered : {sizes lists weighted r : Checked} → sizes ≡ scoringSized s → lists ≡ firstFrom sizes (checks (listTests (s .model) (s .words) (s .line .starts) (s .line .size))) →
+      weighted ≡ firstFrom lists (checks (weightTests (s .model) (s .weights))) → r ≡ firstFrom weighted (checks (valueTests (s .line))) → r ≡ scoringChecked s
+  unfolding scoringSized scoringChecked
+  scoring-answered a b c d = rw (d, c, b, a)
+
   pub scoring-within : AllWithin (scoringLimits s) → ScoringFits s
   scoring-within w =
       let p = within-parts (tables ++ line) scores w in
@@ -95,6 +101,11 @@ module _ (c : Counting) where
       (checks (lineStarts (c .model) (c .words) (c .line .starts) (c .line .size)) ++ checks (idTests (c .model) ++ labelTests c) ++ checks (valueTests (c .line)))
       why
       h)
+
+  pub counting-answered : {sizes lists labelled r : Checked} → sizes ≡ countingSized c → lists ≡ firstFrom sizes (checks (listTests (c .model) (c .words) (c .line .starts) (c .line .size))) →
+      labelled ≡ firstFrom lists (checks (labelTests c)) → r ≡ firstFrom labelled (checks (valueTests (c .line))) → r ≡ countingChecked c
+  unfolding countingSized countingChecked
+  counting-answered a b d e = rw (e, d, b, a)
 
   pub counting-within : AllWithin (countingLimits c) → CountingFits c
   counting-within w =

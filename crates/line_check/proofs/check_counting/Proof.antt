@@ -1,8 +1,7 @@
 -- `line_check::check_counting` meets its contract: where the sizes are accepted, every table has room for its test. Assumes nothing.
 use mathlib.Core.Path.{sym, _∙_}
 use borrow.Author.Needs.{needs}
-use Rattle.line_check.specs.Rows.{countingSized, countingChecked}
-use Rattle.line_check.proofs.Laws.{counting-stopped, counting-fits}
+use Rattle.line_check.proofs.Laws.{counting-stopped, counting-fits, counting-answered}
 use Rattle.line_check.proofs.check_counting.Statement.{statement}
 use Rattle.line_check.proofs.check_counting.Tie as tie
 
@@ -34,10 +33,9 @@ check-numbers-requires c κs =
     counting-fits _ _ (e .before .before .counting-sizes .ensures) (e .enum-told .given .1) .line .values
 
 returns-2 : tie.Need-returns-2
-unfolding countingChecked countingSized
 returns-2 c =
     let l = c .before .before in
-    rw (c .check-numbers .ensures, c .before .check-ids .ensures, l .check-lists .ensures, l .before .before .before .counting-sizes .ensures)
+    counting-answered _ (l .before .before .before .counting-sizes .ensures) (l .check-lists .ensures) (c .before .check-ids .ensures) (c .check-numbers .ensures)
 
 pub check-counting-spec : {M : Type 1} → statement M
 check-counting-spec =

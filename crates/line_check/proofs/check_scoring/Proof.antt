@@ -1,8 +1,7 @@
 -- `line_check::check_scoring` meets its contract: where the sizes are accepted, every table has room for its test. Assumes nothing.
 use mathlib.Core.Path.{sym, _∙_}
 use borrow.Author.Needs.{needs}
-use Rattle.line_check.specs.Rows.{scoringSized, scoringChecked}
-use Rattle.line_check.proofs.Laws.{scoring-stopped, scoring-fits}
+use Rattle.line_check.proofs.Laws.{scoring-stopped, scoring-fits, scoring-answered}
 use Rattle.line_check.proofs.check_scoring.Statement.{statement}
 use Rattle.line_check.proofs.check_scoring.Tie as tie
 
@@ -37,10 +36,9 @@ check-numbers-requires-2 c κs =
     scoring-fits _ _ (e .before .before .scoring-sizes .ensures) (e .enum-told .given .1) .line .values
 
 returns-2 : tie.Need-returns-2
-unfolding scoringChecked scoringSized
 returns-2 c =
     let l = c .before .before .before in
-    rw (c .check-numbers2 .ensures, c .before .check-numbers .ensures, l .check-lists .ensures, l .before .before .before .scoring-sizes .ensures)
+    scoring-answered _ (l .before .before .before .scoring-sizes .ensures) (l .check-lists .ensures) (c .before .check-numbers .ensures) (c .check-numbers2 .ensures)
 
 pub check-scoring-spec : {M : Type 1} → statement M
 check-scoring-spec =
