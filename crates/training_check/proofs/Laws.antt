@@ -14,11 +14,11 @@ use Rattle.refusals.specs.Tables.{outside}
 use Rattle.refusals.proofs.Laws.{settled, all-accepted}
 use Rattle.score_tables.specs.Rows.{mostWords, one}
 use Rattle.refusal_rows.specs.Limits.{Limit, atMost, between, room, anyBroken, two, AllWithin}
-use Rattle.refusal_rows.specs.Tests.{checks}
+use Rattle.refusal_rows.specs.Tests.{idsBelow, numbersFinite, checks}
 use Rattle.refusal_rows.proofs.Means.{two-means, broken-thirds, within-parts}
-use Rattle.feature_gen.specs.Rows.{modelLimits}
+use Rattle.feature_gen.specs.Rows.{modelLimits, featureTests, entryTests}
 use Rattle.feature_gen.proofs.Laws.{sized}
-use Rattle.line_check.specs.Rows.{lineLimits}
+use Rattle.line_check.specs.Rows.{lineLimits, valueTests}
 use Rattle.line_check.proofs.Laws.{line-sized}
 use Rattle.training.specs.Data.{Data}
 use Rattle.parameters.specs.Parameters.{Parameter, sevens}
@@ -76,6 +76,13 @@ module _ (g : Input) where
       (checks (inputStarts g) ++ checks (lengthTests (g .corpus)) ++ checks (inputIds g) ++ checks (inputNumbers (g .corpus)))
       why
       h)
+
+  -- the tests one after the other are the call's
+  pub input-answered : {sizes four features lists five valued r : Checked} → sizes ≡ inputSized g → four ≡ firstFrom sizes (checks (inputStarts g ++ lengthTests (g .corpus))) → features ≡ firstFrom four (checks (featureTests (g .model .labels) (g .model .features))) →
+      lists ≡ firstFrom features (checks (entryTests (g .model))) → five ≡ firstFrom lists (checks (idsBelow (g .corpus .references) (g .corpus .count) (g .model .labels) ∷ [])) → valued ≡ firstFrom five (checks (valueTests (g .corpus .words))) →
+      r ≡ firstFrom valued (checks (numbersFinite (g .corpus .weights) (g .corpus .instances) ∷ [])) → r ≡ inputChecked g
+  unfolding inputSized inputChecked
+  input-answered a b c d e f h = rw (h, f, e, d, c, b, a)
 
   pub input-within : AllWithin (inputLimits g) → InputFits g
   input-within w =

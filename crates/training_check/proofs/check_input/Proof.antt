@@ -1,8 +1,7 @@
 -- `training_check::check_input` meets its contract: where the sizes are accepted, every table has room for its test. Assumes nothing.
 use mathlib.Core.Path.{sym, _∙_}
 use borrow.Author.Needs.{needs}
-use Rattle.training_check.specs.Rows.{inputSized, inputChecked}
-use Rattle.training_check.proofs.Laws.{input-stopped, input-fits}
+use Rattle.training_check.proofs.Laws.{input-stopped, input-fits, input-answered}
 use Rattle.training_check.proofs.check_input.Statement.{statement}
 use Rattle.training_check.proofs.check_input.Tie as tie
 
@@ -64,11 +63,10 @@ check-numbers-requires-2 c κs =
     f .corpus .weights
 
 returns-2 : tie.Need-returns-2
-unfolding inputChecked inputSized
 returns-2 c =
     let i = c .before .before .before .before in
     let s = i .before .before .before in
-    rw (c .check-numbers2 .ensures, c .before .before .check-numbers .ensures, i .check-ids .ensures, i .before .check-entries .ensures, i .before .before .check-features .ensures, s .check-starts .ensures, s .before .before .before .before .input-sizes .ensures)
+    input-answered _ (s .before .before .before .before .input-sizes .ensures) (s .check-starts .ensures) (i .before .before .check-features .ensures) (i .before .check-entries .ensures) (i .check-ids .ensures) (c .before .before .check-numbers .ensures) (c .check-numbers2 .ensures)
 
 pub check-input-spec : {M : Type 1} → statement M
 check-input-spec =
