@@ -1,7 +1,7 @@
 -- `trainers::train_fronts` meets its contract: what was accepted is what learning relies on, and the parts lent are the needed fronts. Assumes nothing.
 use mathlib.Core.Path.{sym}
 use native.Mathlib.Omega.{arith}
-use borrow.Author.Needs.{needs}
+use lib.Seq.{length-front}
 use mir.Facts.{fits-32-64}
 use Rattle.training_check.specs.Sound.{LentSized}
 use Rattle.trainers.specs.Promise.{Given, Buffers, inputOf}
@@ -105,25 +105,32 @@ train-requires c κs =
       ),
     )
 
+-- the call, from where it returns, and the start
+abbrev trained : tie.After-slice-known10 → tie.After-train
+trained c = c .before .before .before .before .before .before .before .before .before .before
+
+abbrev entry : tie.After-train → tie.Start
+entry t = start (t .before .before .before .before .before .before)
+
 same-length : tie.Need-same-length
-same-length c = search needs
+same-length c = let t = trained c in length-front (entry t .args .weights .now) (t .train .last .1 .1 .1 .1 .1 .1 .1 .1 .1 .1 .1 .1 .1 .1 .1 .1 .1 .1 .1 .0) (entry t .args .counts .features) (t .train .kept .1 .1 .1 .1 .1 .1 .1 .1 .1 .1 .1 .1 .1 .1 .1 .1 .1 .1 .1 .0)
 
 same-length-2 : tie.Need-same-length-2
-same-length-2 c = search needs
+same-length-2 c = let t = trained c in length-front (entry t .args .beside .now) (t .train .last .1 .1 .1 .1 .1 .1 .1 .1 .1 .1 .1 .1 .1 .1 .1 .1 .1 .1 .1 .1 .0) (entry t .args .counts .features) (t .train .kept .1 .1 .1 .1 .1 .1 .1 .1 .1 .1 .1 .1 .1 .1 .1 .1 .1 .1 .1 .1 .0)
 
 same-length-3 : tie.Need-same-length-3
-same-length-3 c = search needs
+same-length-3 c = let t = trained c in length-front (entry t .args .truly .now) (t .train .last .1 .1 .1 .1 .1 .1 .1 .1 .1 .1 .1 .1 .1 .1 .1 .1 .1 .1 .1 .1 .1 .0) (entry t .args .counts .features) (t .train .kept .1 .1 .1 .1 .1 .1 .1 .1 .1 .1 .1 .1 .1 .1 .1 .1 .1 .1 .1 .1 .1 .0)
 
 same-length-4 : tie.Need-same-length-4
-same-length-4 c = search needs
+same-length-4 c = let t = trained c in length-front (entry t .args .predicted .now) (t .train .last .1 .1 .1 .1 .1 .1 .1 .1 .1 .1 .1 .1 .1 .1 .1 .1 .1 .1 .1 .1 .1 .1 .0) (entry t .args .counts .features) (t .train .kept .1 .1 .1 .1 .1 .1 .1 .1 .1 .1 .1 .1 .1 .1 .1 .1 .1 .1 .1 .1 .1 .1 .0)
 
 same-length-5 : tie.Need-same-length-5
-same-length-5 c = search needs
+same-length-5 c = let t = trained c in length-front (entry t .args .order .now) (t .train .last .1 .1 .1 .1 .1 .1 .1 .1 .1 .1 .1 .1 .1 .1 .1 .1 .1 .1 .0) (entry t .args .totals .instances) (t .train .kept .1 .1 .1 .1 .1 .1 .1 .1 .1 .1 .1 .1 .1 .1 .1 .1 .1 .1 .0)
 
 returns : tie.Need-returns
 returns c =
-    let t = c .before .before .before .before .before .before .before .before .before .before in
-    let s = start (t .before .before .before .before .before .before) in
+    let t = trained c in
+    let s = entry t in
     fronts-kept _ _ (given s) (lent s) (t .train .ensures .0) (t .train .ensures .1)
 
 pub train-fronts-spec : {M : Type 1} → statement M
