@@ -33,8 +33,10 @@ pub fn print() {
         let mut rng = Rng::new(u64::from(features) + 1);
         let model = scoring::model(&mut rng, &shape);
         let data = data(&mut rng, &model, &shape, instances);
+        let lent = 4 * size_of::<f64>() * features as usize + size_of::<u32>() * instances as usize;
         println!(
-            "N {instances:4} L {labels:2} T {words:3} F {features:5}, {attributes} attributes a word, {entries:2} entries a list:"
+            "N {instances:4} L {labels:2} T {words:3} F {features:5}, {attributes} attributes a word, {entries:2} entries a list, \
+             {lent} bytes lent for result and work:"
         );
         for (name, rule) in TRAINERS {
             println!("  {name}: {}", row(&model, &data, rule));
