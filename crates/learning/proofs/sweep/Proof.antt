@@ -30,19 +30,19 @@ fill-requires-3 c κs = search needs
 
 -- src/lib.rt:137:1
 same-length : tie.Need-same-length
-same-length c = search needs
+same-length c = c .before .before .before .before .before .before .before .before .before .before .before .before .before .before .clear .kept .0
 
 -- src/lib.rt:137:1
 same-length-2 : tie.Need-same-length-2
-same-length-2 c = search needs
+same-length-2 c = c .before .before .before .before .before .before .before .before .before .before .fill .kept .0
 
 -- src/lib.rt:137:1
 same-length-3 : tie.Need-same-length-3
-same-length-3 c = search needs
+same-length-3 c = c .before .before .before .before .before .before .fill2 .kept .0
 
 -- src/lib.rt:137:1
 same-length-4 : tie.Need-same-length-4
-same-length-4 c = search needs
+same-length-4 c = c .before .before .fill3 .kept .0
 
 -- src/lib.rt:137:1
 returns : tie.Need-returns
