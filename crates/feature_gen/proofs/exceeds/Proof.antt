@@ -1,16 +1,9 @@
 -- `feature_gen::exceeds` meets its contract: the counts are 32-bit, and the tests are the rows' in their order. Assumes nothing.
 use mathlib.Core.Path.{refl}
-use Prim.Native.Nat.{ℕ, _+_}
 use native.Mathlib.Omega.{arith}
-use mir.Syntax.{w32, w64}
-use mir.Val.{Fits}
 use mir.Facts.{fits-32-64}
 use Rattle.feature_gen.proofs.exceeds.Statement.{statement}
 use Rattle.feature_gen.proofs.exceeds.Tie as tie
-
--- a 32-bit count has room for one more in 64 bits
-one-more-fits : {n : ℕ} → Fits w32 n → Fits w64 (n + 1)
-one-more-fits f = omega arith
 
 cast-result : tie.Need-cast-result
 cast-result c = fits-32-64 (c .struct-known6 .given .0)
@@ -25,7 +18,7 @@ cast-result-4 : tie.Need-cast-result-4
 cast-result-4 c = fits-32-64 (c .struct-known9 .given .1 .0)
 
 add-result : tie.Need-add-result
-add-result c = one-more-fits (c .struct-known9 .given .1 .0)
+add-result c = omega (arith, c .struct-known9 .given .1 .0)
 
 cast-result-5 : tie.Need-cast-result-5
 cast-result-5 c = fits-32-64 (c .struct-known10 .given .1 .1 .1 .0)
@@ -34,7 +27,7 @@ cast-result-6 : tie.Need-cast-result-6
 cast-result-6 c = fits-32-64 (c .struct-known11 .given .1 .1 .0)
 
 add-result-2 : tie.Need-add-result-2
-add-result-2 c = one-more-fits (c .struct-known11 .given .1 .1 .0)
+add-result-2 c = omega (arith, c .struct-known11 .given .1 .1 .0)
 
 cast-result-7 : tie.Need-cast-result-7
 cast-result-7 c = fits-32-64 (c .struct-known12 .given .1 .1 .1 .1 .0)
