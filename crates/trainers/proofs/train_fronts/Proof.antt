@@ -63,16 +63,16 @@ slice-aggregate-train : tie.Need-slice-aggregate-train
 slice-aggregate-train c = front-count _ _ (room (c .before) .order)
 
 slice-relend-prefix-train-2 : tie.Need-slice-relend-prefix-train-2
-slice-relend-prefix-train-2 c = room (c .before) .weights
+slice-relend-prefix-train-2 c = search (room (c .before))
 
 slice-aggregate-train-2 : tie.Need-slice-aggregate-train-2
-slice-aggregate-train-2 c = front-count _ _ (room (c .before .before) .weights)
+slice-aggregate-train-2 c = search (front-count, room (c .before .before))
 
 slice-relend-prefix-train-3 : tie.Need-slice-relend-prefix-train-3
-slice-relend-prefix-train-3 c = room (c .before .before) .beside
+slice-relend-prefix-train-3 c = search (room (c .before .before))
 
 slice-aggregate-train-3 : tie.Need-slice-aggregate-train-3
-slice-aggregate-train-3 c = front-count _ _ (room (c .before .before .before) .beside)
+slice-aggregate-train-3 c = search (front-count, room (c .before .before .before))
 
 slice-relend-prefix-train-4 : tie.Need-slice-relend-prefix-train-4
 slice-relend-prefix-train-4 c = room (c .before .before .before) .truly
@@ -95,8 +95,8 @@ train-requires c κs =
         s .pre .sound .corpus,
         (
           record {
-            weights-long = front-long _ _ (room k .weights);
-            beside-long = front-long _ _ (room k .beside);
+            weights-long = search (front-long, room k);
+            beside-long = search (front-long, room k);
             truly-long = front-long _ _ (room k .truly);
             predicted-long = front-long _ _ (room k .predicted);
           },
@@ -113,10 +113,10 @@ abbrev entry : tie.After-train → tie.Start
 entry t = start (t .before .before .before .before .before .before)
 
 same-length : tie.Need-same-length
-same-length c = let t = trained c in length-front (entry t .args .weights .now) (t .train .last .1 .1 .1 .1 .1 .1 .1 .1 .1 .1 .1 .1 .1 .1 .1 .1 .1 .1 .1 .0) (entry t .args .counts .features) (t .train .kept .1 .1 .1 .1 .1 .1 .1 .1 .1 .1 .1 .1 .1 .1 .1 .1 .1 .1 .1 .0)
+same-length c = search length-front
 
 same-length-2 : tie.Need-same-length-2
-same-length-2 c = let t = trained c in length-front (entry t .args .beside .now) (t .train .last .1 .1 .1 .1 .1 .1 .1 .1 .1 .1 .1 .1 .1 .1 .1 .1 .1 .1 .1 .1 .0) (entry t .args .counts .features) (t .train .kept .1 .1 .1 .1 .1 .1 .1 .1 .1 .1 .1 .1 .1 .1 .1 .1 .1 .1 .1 .1 .0)
+same-length-2 c = search length-front
 
 same-length-3 : tie.Need-same-length-3
 same-length-3 c = let t = trained c in length-front (entry t .args .truly .now) (t .train .last .1 .1 .1 .1 .1 .1 .1 .1 .1 .1 .1 .1 .1 .1 .1 .1 .1 .1 .1 .1 .1 .0) (entry t .args .counts .features) (t .train .kept .1 .1 .1 .1 .1 .1 .1 .1 .1 .1 .1 .1 .1 .1 .1 .1 .1 .1 .1 .1 .1 .0)
