@@ -13,24 +13,19 @@ use Rattle.epochs.proofs.ends.Lts as lts
 use Rattle.epochs.proofs.is_low.Reads as is-low-reads
 use Rattle.epochs.proofs.is_refused.Reads as is-refused-reads
 
--- src/lib.rt:53:8
 is-refused-requires : tie.Need-is-refused-requires
 is-refused-requires c κs = search needs
 
--- src/lib.rt:54:9
 returns : tie.Need-returns
 returns c = search needs
 
--- src/lib.rt:56:38
 int-to-float-is-low : tie.Need-int-to-float-is-low
 unfolding inFloat
 int-to-float-is-low c = le→leb (c .before .before .before .args .instances) 9007199254740992 (omega arith)
 
--- src/lib.rt:56:5
 is-low-requires : tie.Need-is-low-requires
 is-low-requires c κs = search needs
 
--- src/lib.rt:47:1
 returns-2 : tie.Need-returns-2
 returns-2 c = rw (sym (c .before .before .before .is-refused .ensures) ∙ c .before .before .if1 .left, c .is-low .ensures)
 

@@ -10,29 +10,23 @@ use Rattle.epochs.proofs.is_low.Tie as tie
 use Rattle.epochs.proofs.is_low.Reads as reads
 use Rattle.epochs.proofs.is_low.Lts as lts
 
--- src/lib.rt:40:32
 enum-told : tie.Need-enum-told
 enum-told c = search needs
 
--- src/lib.rt:41:36
 enum-told-2 : tie.Need-enum-told-2
 enum-told-2 c = search needs
 
--- src/lib.rt:42:33
 enum-told-3 : tie.Need-enum-told-3
 enum-told-3 c = search needs
 
--- src/lib.rt:36:1
 returns : tie.Need-returns
 unfolding stops
 returns c = rw (c .enum-told .given .1)
 
--- src/lib.rt:36:1
 returns-2 : tie.Need-returns-2
 unfolding stops
 returns-2 c = rw (c .enum-told2 .given .1)
 
--- src/lib.rt:36:1
 returns-3 : tie.Need-returns-3
 unfolding stops
 returns-3 c = rw (c .enum-told3 .given .1)

@@ -25,33 +25,26 @@ choice s b =
 picked : (a : tie.After-is-averaging) → let g = a .before .before .before .args in averagedBy (ruleOf (g .trainer)) (g .features) (g .counter) (record { weights = g .weights .now; beside = g .beside .now }) ≡ choice (a .before .before .before) (a .is-averaging .result)
 picked a = a .is-averaging .ensures _ _ _
 
--- src/lib.rt:80:8
 is-averaging-requires : tie.Need-is-averaging-requires
 is-averaging-requires c κs = search needs
 
--- src/lib.rt:81:9
 average-requires : tie.Need-average-requires
 average-requires c κs = search needs
 
--- src/lib.rt:81:9
 same-length : tie.Need-same-length
 same-length c = search needs
 
--- src/lib.rt:81:9
 returns : tie.Need-returns
 returns c =
     let a = c .before .before .average .ensures in
     record { weights = a .weights ∙ sym (picked (c .before .before .before .before .before) ∙ ap (choice (c .before .before .before .before .before .before .before .before)) (c .before .before .before .before .if1 .taken)); finite = a .finite }
 
--- src/lib.rt:83:5
 all-finite-requires : tie.Need-all-finite-requires
 all-finite-requires c κs = search needs
 
--- src/lib.rt:70:1
 same-length-2 : tie.Need-same-length-2
 same-length-2 c = search needs
 
--- src/lib.rt:70:1
 returns-2 : tie.Need-returns-2
 returns-2 c = record { weights = sym (picked (c .before .before .before) ∙ ap (choice (c .before .before .before .before .before .before)) (c .before .before .if1 .left)); finite = c .all-finite .ensures }
 

@@ -14,39 +14,30 @@ use Rattle.learning.proofs.first_beside.Reads as first-beside-reads
 use Rattle.training_tables.proofs.count_up.Reads as count-up-reads
 use Rattle.training_tables.proofs.fill.Reads as fill-reads
 
--- src/lib.rt:48:38
 cast-count-up : tie.Need-cast-count-up
 cast-count-up c = search needs
 
--- src/lib.rt:48:5
 count-up-requires : tie.Need-count-up-requires
 count-up-requires c κs = search needs
 
--- src/lib.rt:49:5
 fill-requires : tie.Need-fill-requires
 fill-requires c κs = search needs
 
--- src/lib.rt:50:45
 first-beside-requires : tie.Need-first-beside-requires
 first-beside-requires c κs = search needs
 
--- src/lib.rt:50:5
 fill-requires-2 : tie.Need-fill-requires-2
 fill-requires-2 c κs = search needs
 
--- src/lib.rt:37:1
 same-length : tie.Need-same-length
 same-length c = search needs
 
--- src/lib.rt:37:1
 same-length-2 : tie.Need-same-length-2
 same-length-2 c = search needs
 
--- src/lib.rt:37:1
 same-length-3 : tie.Need-same-length-3
 same-length-3 c = search needs
 
--- src/lib.rt:37:1
 returns : tie.Need-returns
 unfolding ofBits
 returns c =

@@ -16,58 +16,45 @@ use Rattle.learning.proofs.average.Reads as average-reads
 use Rattle.learning.proofs.why_of.Reads as why-of-reads
 use Rattle.training_tables.proofs.fill.Reads as fill-reads
 
--- src/lib.rt:117:8
 is-refused-requires : tie.Need-is-refused-requires
 is-refused-requires c κs = search needs
 
--- src/lib.rt:118:9
 fill-requires : tie.Need-fill-requires
 fill-requires c κs = search needs
 
--- src/lib.rt:119:34
 why-of-requires : tie.Need-why-of-requires
 why-of-requires c κs = search needs
 
--- src/lib.rt:119:9
 same-length : tie.Need-same-length
 same-length c = search needs
 
--- src/lib.rt:119:9
 returns : tie.Need-returns
 unfolding ofBits
 returns c =
     λ set m d r e f. visit-refused _ set m d e f (sym (c .before .before .before .before .before .before .is-refused .ensures) ∙ c .before .before .before .before .before .if1 .taken) (c .why-of .ensures) (c .before .before .before .fill .ensures ∙ all-of _ _ _ (c .before .before .before .before .before .before .before .before .before .before .pre .0))
 
--- src/lib.rt:121:20
 add-counter : tie.Need-add-counter
 add-counter c = search needs
 
--- src/lib.rt:121:19
 int-to-float-counter : tie.Need-int-to-float-counter
 unfolding inFloat
 int-to-float-counter c = le→leb (c .before .before .before .before .before .before .args .ran .step .visits + 1) 9007199254740992 (omega (arith, c .before .before .before .before .before .before .pre .2))
 
--- src/lib.rt:122:8
 average-requires : tie.Need-average-requires
 average-requires c κs = search needs
 
--- src/lib.rt:123:9
 same-length-2 : tie.Need-same-length-2
 same-length-2 c = search needs
 
--- src/lib.rt:123:9
 returns-2 : tie.Need-returns-2
 returns-2 c = λ set m d r e f. accepted _ set m d e f (sym (c .before .before .before .before .before .before .before .is-refused .ensures) ∙ c .before .before .before .before .before .before .if1 .left) (c .before .before .before .average .ensures) (c .if2 .taken)
 
--- src/lib.rt:129:5
 fill-requires-2 : tie.Need-fill-requires-2
 fill-requires-2 c κs = search needs
 
--- src/lib.rt:104:1
 same-length-3 : tie.Need-same-length-3
 same-length-3 c = search needs
 
--- src/lib.rt:104:1
 returns-3 : tie.Need-returns-3
 unfolding ofBits
 returns-3 c =

@@ -10,29 +10,23 @@ use Rattle.learning.proofs.first_beside.Tie as tie
 use Rattle.learning.proofs.first_beside.Reads as reads
 use Rattle.learning.proofs.first_beside.Lts as lts
 
--- src/lib.rt:30:32
 enum-told : tie.Need-enum-told
 enum-told c = search needs
 
--- src/lib.rt:31:36
 enum-told-2 : tie.Need-enum-told-2
 enum-told-2 c = search needs
 
--- src/lib.rt:32:25
 enum-known-trainer : tie.Need-enum-known-trainer
 enum-known-trainer c = search needs
 
--- src/lib.rt:26:1
 returns : tie.Need-returns
 unfolding besideAtFirst ofBits
 returns c = rw (c .enum-told .given .1)
 
--- src/lib.rt:26:1
 returns-2 : tie.Need-returns-2
 unfolding besideAtFirst ofBits
 returns-2 c = rw (c .enum-told2 .given .1)
 
--- src/lib.rt:26:1
 returns-3 : tie.Need-returns-3
 unfolding besideAtFirst
 returns-3 c = rw (c .before .trainer .given .1)

@@ -9,29 +9,23 @@ use Rattle.learning.proofs.is_averaging.Tie as tie
 use Rattle.learning.proofs.is_averaging.Reads as reads
 use Rattle.learning.proofs.is_averaging.Lts as lts
 
--- src/lib.rt:58:32
 enum-told : tie.Need-enum-told
 enum-told c = search needs
 
--- src/lib.rt:63:13
 enum-known-trainer : tie.Need-enum-known-trainer
 enum-known-trainer c = search needs
 
--- src/lib.rt:65:33
 enum-told-2 : tie.Need-enum-told-2
 enum-told-2 c = search needs
 
--- src/lib.rt:54:1
 returns : tie.Need-returns
 unfolding averagedBy
 returns c = λ f k s. rw (c .enum-told .given .1)
 
--- src/lib.rt:54:1
 returns-2 : tie.Need-returns-2
 unfolding averagedBy
 returns-2 c = λ f k s. rw (c .before .trainer .given .1)
 
--- src/lib.rt:54:1
 returns-3 : tie.Need-returns-3
 unfolding averagedBy
 returns-3 c = λ f k s. rw (c .enum-told2 .given .1)

@@ -12,39 +12,30 @@ use Rattle.learning.proofs.sweep.Lts as lts
 use Rattle.training_tables.proofs.clear.Reads as clear-reads
 use Rattle.training_tables.proofs.fill.Reads as fill-reads
 
--- src/lib.rt:148:5
 clear-requires : tie.Need-clear-requires
 clear-requires c κs = search needs
 
--- src/lib.rt:149:5
 fill-requires : tie.Need-fill-requires
 fill-requires c κs = search needs
 
--- src/lib.rt:150:5
 fill-requires-2 : tie.Need-fill-requires-2
 fill-requires-2 c κs = search needs
 
--- src/lib.rt:151:5
 fill-requires-3 : tie.Need-fill-requires-3
 fill-requires-3 c κs = search needs
 
--- src/lib.rt:137:1
 same-length : tie.Need-same-length
 same-length c = c .before .before .before .before .before .before .before .before .before .before .before .before .before .before .clear .kept .0
 
--- src/lib.rt:137:1
 same-length-2 : tie.Need-same-length-2
 same-length-2 c = c .before .before .before .before .before .before .before .before .before .before .fill .kept .0
 
--- src/lib.rt:137:1
 same-length-3 : tie.Need-same-length-3
 same-length-3 c = c .before .before .before .before .before .before .fill2 .kept .0
 
--- src/lib.rt:137:1
 same-length-4 : tie.Need-same-length-4
 same-length-4 c = c .before .before .fill3 .kept .0
 
--- src/lib.rt:137:1
 returns : tie.Need-returns
 unfolding ofBits
 returns c =

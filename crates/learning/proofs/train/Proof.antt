@@ -58,11 +58,9 @@ run-is r =
     let b = r .before .before .before .before .before .before .before .before .before .before .before .before .begin .ensures in
     rw (b .order-is, b .weights-are, b .beside-is) at (r .run .ensures)
 
--- src/lib.rt:189:5
 begin-requires : tie.Need-begin-requires
 begin-requires c κs = search needs
 
--- src/lib.rt:190:9
 run-requires : tie.Need-run-requires
 run-requires c κs =
     let s = c .before .before .before .before .before .before .before .before .before .before .before .before .before .before .before .before .before .before .before .before .before .before .before .before .before .before .before .before .before .before .before .before .before in
@@ -78,35 +76,27 @@ run-requires c κs =
       ),
     )
 
--- src/lib.rt:215:9
 conclude-requires : tie.Need-conclude-requires
 conclude-requires c κs = let r = c .before .before .before .before .before .before .before .before .before .before .before .before in (weights-long r, beside-long r, r .run .ensures .visits)
 
--- src/lib.rt:216:5
 sweep-requires : tie.Need-sweep-requires
 sweep-requires c κs = let r = c .before .before .before .before .before .before .before .before .before .before .before .before .before .before .before .before .before .before .before in (order-long r, beside-long r, truly-long r, predicted-long r)
 
--- src/lib.rt:155:1
 same-length : tie.Need-same-length
 same-length c = let r = c .before .before .before .before .before .before .before .before .before .before .before .before .before .before .before .before .before .before .before .before .before .before .before .before .before .before .before .before in c .before .before .before .before .before .before .before .before .sweep .kept .1 .1 .0 ∙ order-long r ∙ sym (c .before .before .before .before .before .before .before .before .before .before .before .before .before .before .before .before .before .before .before .before .before .before .before .before .before .before .before .before .before .before .before .before .before .before .before .before .before .before .before .before .before .before .before .before .before .before .before .before .before .before .before .before .before .before .before .before .before .before .before .before .before .before .pre .1 .1 .1 .1)
 
--- src/lib.rt:155:1
 same-length-2 : tie.Need-same-length-2
 same-length-2 c = let r = c .before .before .before .before .before .before .before .before .before .before .before .before .before .before .before .before .before .before .before .before .before .before .before .before .before .before .before .before in c .before .before .before .before .before .before .before .before .before .before .before .before .before .before .before .conclude .kept .1 .1 .1 .1 .0 ∙ weights-long r ∙ sym (c .before .before .before .before .before .before .before .before .before .before .before .before .before .before .before .before .before .before .before .before .before .before .before .before .before .before .before .before .before .before .before .before .before .before .before .before .before .before .before .before .before .before .before .before .before .before .before .before .before .before .before .before .before .before .before .before .before .before .before .before .before .before .pre .1 .1 .0 .weights-long)
 
--- src/lib.rt:155:1
 same-length-3 : tie.Need-same-length-3
 same-length-3 c = let r = c .before .before .before .before .before .before .before .before .before .before .before .before .before .before .before .before .before .before .before .before .before .before .before .before .before .before .before .before in c .before .before .before .before .before .before .before .before .sweep .kept .1 .1 .1 .0 ∙ beside-long r ∙ sym (c .before .before .before .before .before .before .before .before .before .before .before .before .before .before .before .before .before .before .before .before .before .before .before .before .before .before .before .before .before .before .before .before .before .before .before .before .before .before .before .before .before .before .before .before .before .before .before .before .before .before .before .before .before .before .before .before .before .before .before .before .before .before .pre .1 .1 .0 .beside-long)
 
--- src/lib.rt:155:1
 same-length-4 : tie.Need-same-length-4
 same-length-4 c = let r = c .before .before .before .before .before .before .before .before .before .before .before .before .before .before .before .before .before .before .before .before .before .before .before .before .before .before .before .before in c .before .before .before .before .before .before .before .before .sweep .kept .1 .1 .1 .1 .0 ∙ truly-long r ∙ sym (c .before .before .before .before .before .before .before .before .before .before .before .before .before .before .before .before .before .before .before .before .before .before .before .before .before .before .before .before .before .before .before .before .before .before .before .before .before .before .before .before .before .before .before .before .before .before .before .before .before .before .before .before .before .before .before .before .before .before .before .before .before .before .pre .1 .1 .0 .truly-long)
 
--- src/lib.rt:155:1
 same-length-5 : tie.Need-same-length-5
 same-length-5 c = let r = c .before .before .before .before .before .before .before .before .before .before .before .before .before .before .before .before .before .before .before .before .before .before .before .before .before .before .before .before in c .before .before .before .before .before .before .before .before .sweep .kept .1 .1 .1 .1 .1 .0 ∙ predicted-long r ∙ sym (c .before .before .before .before .before .before .before .before .before .before .before .before .before .before .before .before .before .before .before .before .before .before .before .before .before .before .before .before .before .before .before .before .before .before .before .before .before .before .before .before .before .before .before .before .before .before .before .before .before .before .before .before .before .before .before .before .before .before .before .before .before .before .pre .1 .1 .0 .predicted-long)
 
--- src/lib.rt:155:1
 returns : tie.Need-returns
 unfolding trained
 returns c =

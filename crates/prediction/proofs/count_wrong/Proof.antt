@@ -17,39 +17,30 @@ Inv-loop path references words wrong₀ word₀ wrong word = (word ≤ words) ×
 abbrev μ-loop : tie.MeasureT-loop
 μ-loop path references words wrong₀ word₀ wrong word = words - word
 
--- src/lib.rt:39:5
 loop-holds : tie.Need-loop-holds Inv-loop μ-loop
 loop-holds c = (omega arith, omega arith, wrong-none _ _)
 
--- src/lib.rt:40:12
 mul-if1 : tie.Need-mul-if1 Inv-loop μ-loop
 mul-if1 c = search needs
 
--- src/lib.rt:40:12
 shared-slice-read-if1 : tie.Need-shared-slice-read-if1 Inv-loop μ-loop
 shared-slice-read-if1 c = search needs
 
--- src/lib.rt:40:26
 mul-if1-2 : tie.Need-mul-if1-2 Inv-loop μ-loop
 mul-if1-2 c = search needs
 
--- src/lib.rt:40:26
 shared-slice-read-if1-2 : tie.Need-shared-slice-read-if1-2 Inv-loop μ-loop
 shared-slice-read-if1-2 c = search needs
 
--- src/lib.rt:41:13
 add-wrong : tie.Need-add-wrong Inv-loop μ-loop
 add-wrong c = search needs
 
--- src/lib.rt:43:9
 add-word : tie.Need-add-word Inv-loop μ-loop
 add-word c = search needs
 
--- src/lib.rt:39:5
 loop-less : tie.Need-loop-less Inv-loop μ-loop
 loop-less c = search needs
 
--- src/lib.rt:39:5
 loop-again : tie.Need-loop-again Inv-loop μ-loop
 loop-again c =
     let l = c .before .before .before .before in
@@ -58,7 +49,6 @@ loop-again c =
     (λ w. (omega arith, omega arith, w .1 ∙ wrong-same _ _ (l .loop .word) (l .loop .inv .2) (w .0 .left)))
     (c .if1 .came)
 
--- src/lib.rt:33:1
 returns : tie.Need-returns Inv-loop μ-loop
 returns c = (let e : c .before .loop .word ≡ c .before .before .args .words = omega arith in rw (← e) (c .before .loop .inv .2), omega arith)
 

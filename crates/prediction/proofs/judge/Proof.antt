@@ -29,59 +29,46 @@ is-finite c = sym (flag (c .before)) ∙ not-false _ (c .if1 .left)
 path-is : (d : tie.After-decode-tables) → d .decode-tables .last .1 .1 .1 .1 .0 ≡ decodedPath (tabled (d .before .before .before .before .before .before .before .before .before .args .labels) (d .before .before .before .before .before .before .before .before .before .args .transitions .now) (d .before .before .before .before .before .before .before .before .before .args .states .now)) (d .before .before .before .before .before .before .before .before .before .args .words)
 path-is d = d .decode-tables .ensures .path ∙ all-of _ _ _ (d .before .before .before .before .before .before .before .before .before .pre .long-path)
 
--- src/lib.rt:60:54
 mul-all-finite : tie.Need-mul-all-finite
 mul-all-finite c = search needs
 
--- src/lib.rt:60:18
 all-finite-requires : tie.Need-all-finite-requires
 all-finite-requires c κs = search needs
 
--- src/lib.rt:61:52
 mul-all-finite-2 : tie.Need-mul-all-finite-2
 mul-all-finite-2 c = search needs
 
--- src/lib.rt:61:11
 all-finite-requires-2 : tie.Need-all-finite-requires-2
 all-finite-requires-2 c κs = search needs
 
--- src/lib.rt:63:9
 returns : tie.Need-returns
 returns c = unscored _ _ (not-finite c)
 
--- src/lib.rt:70:5
 decode-tables-requires : tie.Need-decode-tables-requires
 decode-tables-requires c κs = ready (c .before .before .before .before .before .before .before .before .pre)
 
--- src/lib.rt:71:9
 count-wrong-requires : tie.Need-count-wrong-requires
 count-wrong-requires c κs = search needs
 
--- src/lib.rt:73:9
 same-length : tie.Need-same-length
 same-length c = search needs
 
--- src/lib.rt:73:9
 returns-2 : tie.Need-returns-2
 returns-2 c =
     let d = c .before .before .before .before .before in
     agreed _ _ (is-finite (d .before .before)) (path-is d) (c .before .count-wrong .ensures .0) (c .if2 .taken)
 
--- src/lib.rt:80:9
 score-path-requires : tie.Need-score-path-requires
 score-path-requires c κs =
     let d = c .before .before .before .before .before .before in
     predicted-met (d .before .before .before .before .before .before .before .before .before .pre) _ (path-is d)
 
--- src/lib.rt:81:9
 score-path-requires-2 : tie.Need-score-path-requires-2
 score-path-requires-2 c κs = search needs
 
--- src/lib.rt:49:1
 same-length-2 : tie.Need-same-length-2
 same-length-2 c = search needs
 
--- src/lib.rt:49:1
 returns-3 : tie.Need-returns-3
 returns-3 c =
     let d = c .before .before .before .before .before .before .before .before in

@@ -11,38 +11,30 @@ use Rattle.prediction.proofs.predict.Lts as lts
 use Rattle.prediction.proofs.predict_long.Reads as predict-long-reads
 use Rattle.prediction.proofs.predict_short.Reads as predict-short-reads
 
--- src/lib.rt:276:9
 mul-if1 : tie.Need-mul-if1
 mul-if1 c = let s = c .before .before .before .before .before .before .before .before .before .before .before .before .before in omega (arith, square-small (s .pre .0))
 
--- src/lib.rt:276:36
 mul-if1-2 : tie.Need-mul-if1-2
 mul-if1-2 c = let s = c .before .before .before .before .before .before .before .before .before .before .before .before .before in omega (arith, rows-small (s .pre .0) (s .pre .1 .0 .sized))
 
--- src/lib.rt:277:9
 predict-short-requires : tie.Need-predict-short-requires
 predict-short-requires c κs =
     let s = c .before .before .before .before .before .before .before .before .before .before .before .before .before .before .before in
     let small = both _ _ (c .before .if1 .taken) in
     (s .pre .0, (s .pre .1 .0, (s .pre .1 .1, (leb-true _ _ (small .0), leb-true _ _ (small .1)))))
 
--- src/lib.rt:296:9
 predict-long-requires : tie.Need-predict-long-requires
 predict-long-requires c κs = search needs
 
--- src/lib.rt:252:1
 same-length : tie.Need-same-length
 same-length c = search needs
 
--- src/lib.rt:252:1
 returns : tie.Need-returns
 returns c = search needs
 
--- src/lib.rt:252:1
 same-length-2 : tie.Need-same-length-2
 same-length-2 c = search needs
 
--- src/lib.rt:252:1
 returns-2 : tie.Need-returns-2
 returns-2 c = search needs
 

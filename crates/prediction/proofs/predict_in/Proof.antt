@@ -27,21 +27,18 @@ transitions-are d = let s = d .before .before .before .before .before .before .b
 states-are : (d : tie.After-score-line) → d .score-line .last .1 .1 .1 .1 .1 .1 .1 .1 .1 .1 .1 .1 .1 .0 ≡ statesOf (model (d .before .before .before .before .before .before .before .before .before .before .before .before .before .before .before .before .before .before .before .before .before)) (d .before .before .before .before .before .before .before .before .before .before .before .before .before .before .before .before .before .before .before .before .before .args .weights .now) (wordsIn (d .before .before .before .before .before .before .before .before .before .before .before .before .before .before .before .before .before .before .before .before .before .args .sizes) (d .before .before .before .before .before .before .before .before .before .before .before .before .before .before .before .before .before .before .before .before .before .args .begins .now) (d .before .before .before .before .before .before .before .before .before .before .before .before .before .before .before .before .before .before .before .before .before .args .ids .now) (d .before .before .before .before .before .before .before .before .before .before .before .before .before .before .before .before .before .before .before .before .before .args .values .now)) (d .before .before .before .before .before .before .before .before .before .before .before .before .before .before .before .before .before .before .before .before .before .args .first) (d .before .before .before .before .before .before .before .before .before .before .before .before .before .before .before .before .before .before .before .before .before .args .words)
 states-are d = let s = d .before .before .before .before .before .before .before .before .before .before .before .before .before .before .before .before .before .before .before .before .before in d .score-line .ensures (model s) (s .args .sizes .attributes) ∙ all-of _ _ _ (s .pre .1 .1 .1 .1)
 
--- src/lib.rt:119:5
 score-transitions-requires : tie.Need-score-transitions-requires
 score-transitions-requires c κs =
     let s = c .before .before .before .before .before .before .before .before .before .before .before .before .before .before .before .before in
     let m = s .pre .0 in
     (transitions-sound m _ (omega (arith, s .pre .1 .1 .0)), (m .label-lists, omega (arith, s .pre .1 .1 .1 .0)))
 
--- src/lib.rt:131:5
 score-line-requires : tie.Need-score-line-requires
 score-line-requires c κs =
     let s = c .before .before .before .before .before .before .before .before .before .before .before .before .before .before .before .before .before .before .before .before in
     let m = s .pre .0 in
     (transitions-sound m (s .args .weights .now) (omega (arith, s .pre .1 .1 .0)) .states, (m .attribute-lists, (s .pre .1 .0 .worded, omega (arith, s .pre .1 .1 .1 .1))))
 
--- src/lib.rt:147:5
 judge-requires : tie.Need-judge-requires
 judge-requires c κs =
     let s = c .before .before .before .before .before .before .before .before .before .before .before .before .before .before .before .before .before .before .before .before .before .before .before .before .before .before in
@@ -55,19 +52,15 @@ judge-requires c κs =
       long-path = s .pre .1 .1 .0 .1;
     }
 
--- src/lib.rt:91:1
 same-length : tie.Need-same-length
 same-length c = search needs
 
--- src/lib.rt:91:1
 same-length-2 : tie.Need-same-length-2
 same-length-2 c = search needs
 
--- src/lib.rt:91:1
 same-length-3 : tie.Need-same-length-3
 same-length-3 c = search needs
 
--- src/lib.rt:91:1
 returns : tie.Need-returns
 returns c =
     let l = c .before .before .before .before .before .before .before .before in

@@ -10,41 +10,32 @@ use Rattle.prediction.proofs.predict_short.Reads as reads
 use Rattle.prediction.proofs.predict_short.Lts as lts
 use Rattle.prediction.proofs.predict_in.Reads as predict-in-reads
 
--- src/lib.rt:177:18
 mul-square : tie.Need-mul-square
 mul-square c = search needs
 
--- src/lib.rt:178:16
 mul-rows : tie.Need-mul-rows
 mul-rows c = search needs
 
--- src/lib.rt:195:9
 array-borrow-prefix-transitions : tie.Need-array-borrow-prefix-transitions
 array-borrow-prefix-transitions c = search needs
 
--- src/lib.rt:195:9
 slice-aggregate-predict-in : tie.Need-slice-aggregate-predict-in
 slice-aggregate-predict-in c = sym (length-take-le _ _ (c .before .before .before .before .before .before .before .before .before .before .before .before .before .before .before .before .pre .1 .1 .1 .0))
 
--- src/lib.rt:196:9
 array-borrow-prefix-states : tie.Need-array-borrow-prefix-states
 array-borrow-prefix-states c = omega (arith, c .before .before .before .before .before .before .before .before .before .before .before .before .before .before .before .before .pre .1 .1 .1 .1)
 
--- src/lib.rt:196:9
 slice-aggregate-predict-in-2 : tie.Need-slice-aggregate-predict-in-2
 slice-aggregate-predict-in-2 c = sym (length-take-le _ _ (c .before .before .before .before .before .before .before .before .before .before .before .before .before .before .before .before .before .pre .1 .1 .1 .1))
 
--- src/lib.rt:179:5
 predict-in-requires : tie.Need-predict-in-requires
 predict-in-requires c κs =
     let s = c .before .before .before .before .before .before .before .before .before .before .before .before .before .before .before .before .before .before in
     (s .pre .0, (s .pre .1 .0, ((s .pre .1 .1 .0 .0, s .pre .1 .1 .0 .1), (length-take-le _ _ (s .pre .1 .1 .1 .0), length-take-le _ _ (s .pre .1 .1 .1 .1)))))
 
--- src/lib.rt:151:1
 same-length : tie.Need-same-length
 same-length c = search needs
 
--- src/lib.rt:151:1
 returns : tie.Need-returns
 returns c = search needs
 

@@ -31,7 +31,6 @@ truly-are d = let s = d .before .before .before .before .before .before .before 
 predicted-are : (d : tie.After-count-line2) → let s = d .before .before .before .before .before .before .before .before .before .before .before .before .before .before .before .before .before .before .before .before .before .before in d .count-line2 .last .1 .1 .1 .1 .1 .1 .1 .1 .1 .1 .1 .1 .1 .1 .1 .1 .0 ≡ countsOf (model s) (line s) (s .args .first) (s .args .words) (s .args .path .now)
 predicted-are d = let s = d .before .before .before .before .before .before .before .before .before .before .before .before .before .before .before .before .before .before .before .before .before .before in d .count-line2 .ensures (model s) (s .args .sizes .attributes) ∙ all-of _ _ _ (s .pre .1 .1 .0 .predicted-long)
 
--- src/lib.rt:200:5
 count-line-requires : tie.Need-count-line-requires
 count-line-requires c κs =
     let s = c .before .before .before .before .before .before .before .before .before .before .before .before .before .before .before .before .before in
@@ -39,7 +38,6 @@ count-line-requires c κs =
     let e = s .pre .1 .1 .0 in
     (m .counts, (m .sized .sources, (m .attribute-lists, (m .label-lists, (s .pre .1 .0 .worded, (le-of-eq (sym (s .pre .1 .0 .referenced)), le-of-eq (sym (e .truly-long))))))))
 
--- src/lib.rt:219:5
 count-line-requires-2 : tie.Need-count-line-requires-2
 count-line-requires-2 c κs =
     let s = c .before .before .before .before .before .before .before .before .before .before .before .before .before .before .before .before .before .before .before .before .before in
@@ -47,11 +45,9 @@ count-line-requires-2 c κs =
     let e = s .pre .1 .1 .0 in
     (m .counts, (m .sized .sources, (m .attribute-lists, (m .label-lists, (s .pre .1 .0 .worded, (le-of-eq (sym (s .pre .1 .1 .1 .0 .0)), le-of-eq (sym (e .predicted-long))))))))
 
--- src/lib.rt:241:9
 cast-learn : tie.Need-cast-learn
 cast-learn c = omega (arith, c .before .before .before .before .before .before .before .before .before .before .before .before .before .before .before .before .before .before .before .before .before .before .before .before .pre .1 .0 .sized .high)
 
--- src/lib.rt:238:5
 learn-requires : tie.Need-learn-requires
 learn-requires c κs =
     let s = c .before .before .before .before .before .before .before .before .before .before .before .before .before .before .before .before .before .before .before .before .before .before .before .before .before .before .before .before in
@@ -68,23 +64,18 @@ learn-requires c κs =
       s .pre .1 .1 .1 .1,
     )
 
--- src/lib.rt:166:1
 same-length : tie.Need-same-length
 same-length c = search needs
 
--- src/lib.rt:166:1
 same-length-2 : tie.Need-same-length-2
 same-length-2 c = search needs
 
--- src/lib.rt:166:1
 same-length-3 : tie.Need-same-length-3
 same-length-3 c = search needs
 
--- src/lib.rt:166:1
 same-length-4 : tie.Need-same-length-4
 same-length-4 c = search needs
 
--- src/lib.rt:166:1
 returns : tie.Need-returns
 returns c =
     let made = c .before .before .before .before .learn .ensures in

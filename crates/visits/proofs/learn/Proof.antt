@@ -15,77 +15,60 @@ use Rattle.training_tables.proofs.both_finite.Reads as both-finite-reads
 use Rattle.visits.proofs.refuse.Reads as refuse-reads
 use Rattle.visits.proofs.update.Reads as update-reads
 
--- src/lib.rt:135:18
 add-visits : tie.Need-add-visits
 add-visits c = search needs
 
--- src/lib.rt:136:19
 int-to-float-counter : tie.Need-int-to-float-counter
 unfolding inFloat
 int-to-float-counter c = le→leb (c .before .before .before .before .before .before .args .s .visits + 1) 9007199254740992 (omega (arith, c .before .before .before .before .before .before .pre .1))
 
--- src/lib.rt:137:9
 update-requires : tie.Need-update-requires
 update-requires c κs = search needs
 
--- src/lib.rt:150:25
 is-finite-requires : tie.Need-is-finite-requires
 is-finite-requires c κs = search needs
 
--- src/lib.rt:154:22
 add-t22 : tie.Need-add-t22
 add-t22 c = search needs
 
--- src/lib.rt:151:9
 same-length : tie.Need-same-length
 same-length c = search needs
 
--- src/lib.rt:151:9
 same-length-2 : tie.Need-same-length-2
 same-length-2 c = search needs
 
--- src/lib.rt:151:9
 returns : tie.Need-returns
 returns c =
     let u = c .before .before .before .before .before .before .before .before .before .before .update .ensures in
     (held _ _ _ _ u _ (c .before .before .before .is-finite .ensures) (c .before .if1 .taken), record { visits = omega arith; updates = omega (arith, c .before .before .before .before .before .before .before .before .before .before .before .before .before .before .before .before .before .before .before .pre .1) })
 
--- src/lib.rt:158:8
 both-finite-requires : tie.Need-both-finite-requires
 both-finite-requires c κs = search needs
 
--- src/lib.rt:159:9
 refuse-requires : tie.Need-refuse-requires
 refuse-requires c κs = search needs
 
--- src/lib.rt:161:9
 refuse-requires-2 : tie.Need-refuse-requires-2
 refuse-requires-2 c κs = search needs
 
--- src/lib.rt:118:1
 same-length-3 : tie.Need-same-length-3
 same-length-3 c = search needs
 
--- src/lib.rt:118:1
 same-length-4 : tie.Need-same-length-4
 same-length-4 c = search needs
 
--- src/lib.rt:118:1
 returns-2 : tie.Need-returns-2
 returns-2 c =
     let u = c .before .before .before .before .before .before .before .before .before .before .before .before .update .ensures in
     let made = c .refuse .ensures in
     (not-held _ _ _ _ u _ (c .before .before .before .before .before .is-finite .ensures) (c .before .before .before .if1 .left) (sym (c .before .before .both-finite .ensures) ∙ c .before .if2 .taken) (made _), refused-counted 9 _ _ made (c .before .before .before .before .before .before .before .before .before .before .before .before .before .before .before .before .before .before .before .before .before .pre .1 .1))
 
--- src/lib.rt:118:1
 same-length-5 : tie.Need-same-length-5
 same-length-5 c = search needs
 
--- src/lib.rt:118:1
 same-length-6 : tie.Need-same-length-6
 same-length-6 c = search needs
 
--- src/lib.rt:118:1
 returns-3 : tie.Need-returns-3
 returns-3 c =
     let made = c .refuse2 .ensures in

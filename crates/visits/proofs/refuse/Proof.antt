@@ -9,7 +9,6 @@ use Rattle.visits.proofs.refuse.Tie as tie
 use Rattle.visits.proofs.refuse.Reads as reads
 use Rattle.visits.proofs.refuse.Lts as lts
 
--- src/lib.rt:100:1
 returns : tie.Need-returns
 unfolding refusedAs
 returns c = λ l. refl

@@ -11,63 +11,48 @@ use Rattle.arow_update.proofs.update.Reads as update-reads
 use Rattle.passive_update.proofs.update.Reads as update-reads′
 use Rattle.perceptron_update.proofs.update.Reads as update-reads′′
 
--- src/lib.rt:60:13
 enum-told : tie.Need-enum-told
 enum-told c = search needs
 
--- src/lib.rt:52:32
 update-requires : tie.Need-update-requires
 update-requires c κs = search needs
 
--- src/lib.rt:64:13
 enum-known-trainer : tie.Need-enum-known-trainer
 enum-known-trainer c = search needs
 
--- src/lib.rt:68:14
 update-requires-2 : tie.Need-update-requires-2
 update-requires-2 c κs = search needs
 
--- src/lib.rt:84:38
 enum-known-trainer-2 : tie.Need-enum-known-trainer-2
 enum-known-trainer-2 c = search needs
 
--- src/lib.rt:84:49
 update-requires-3 : tie.Need-update-requires-3
 update-requires-3 c κs = search needs
 
--- src/lib.rt:36:1
 same-length : tie.Need-same-length
 same-length c = search needs
 
--- src/lib.rt:36:1
 same-length-2 : tie.Need-same-length-2
 same-length-2 c = search needs
 
--- src/lib.rt:36:1
 returns : tie.Need-returns
 returns c = rw (c .before .before .before .before .before .before .before .enum-told .given .1) (c .before .before .before .before .update .ensures _ _)
 
--- src/lib.rt:36:1
 same-length-3 : tie.Need-same-length-3
 same-length-3 c = search needs
 
--- src/lib.rt:36:1
 same-length-4 : tie.Need-same-length-4
 same-length-4 c = search needs
 
--- src/lib.rt:36:1
 returns-2 : tie.Need-returns-2
 returns-2 c = rw (c .before .before .before .before .before .before .before .before .trainer .given .1) (c .before .before .before .before .update2 .ensures _)
 
--- src/lib.rt:36:1
 same-length-5 : tie.Need-same-length-5
 same-length-5 c = search needs
 
--- src/lib.rt:36:1
 same-length-6 : tie.Need-same-length-6
 same-length-6 c = search needs
 
--- src/lib.rt:36:1
 returns-3 : tie.Need-returns-3
 returns-3 c = rw (c .before .before .before .before .before .before .before .before .trainer2 .given .1) (c .before .before .before .before .update3 .ensures _ _ _)
 

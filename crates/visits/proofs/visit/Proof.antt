@@ -61,47 +61,36 @@ path-long d = d .predict .kept .1 .1 .1 .1 .1 .1 .1 .1 .1 .1 .1 .1 .1 .1 .1 .0 �
 path-fits : (d : tie.After-predict) → let e = d .before .before .before .before in let n = e .at2 .result - e .before .at .result in n ≤ length (d .predict .last .1 .1 .1 .1 .1 .1 .1 .1 .1 .1 .1 .1 .1 .1 .1 .0 ++ drop n (replicate 128 0))
 path-fits d = front-again (d .predict .last .1 .1 .1 .1 .1 .1 .1 .1 .1 .1 .1 .1 .1 .1 .1 .0) (replicate 128 0) _ (path-long d)
 
--- src/lib.rt:258:9
 at-requires : tie.Need-at-requires
 at-requires c κs = search needs
 
--- src/lib.rt:259:32
 add-at : tie.Need-add-at
 add-at c = search needs
 
--- src/lib.rt:259:9
 at-requires-2 : tie.Need-at-requires-2
 at-requires-2 c κs = search needs
 
--- src/lib.rt:260:17
 sub-words : tie.Need-sub-words
 sub-words c = omega (arith, some c)
 
--- src/lib.rt:261:21
 mul-reference : tie.Need-mul-reference
 mul-reference c = omega (arith, some c, all c, c .before .before .before .before .before .before .before .before .before .before .before .before .before .before .before .before .before .before .before .good)
 
--- src/lib.rt:261:21
 sub-reference : tie.Need-sub-reference
 sub-reference c = omega (arith, some c)
 
--- src/lib.rt:261:21
 part-reference-start : tie.Need-part-reference-start
 part-reference-start c = omega (arith, some c)
 
--- src/lib.rt:261:21
 part-reference-end : tie.Need-part-reference-end
 part-reference-end c = all c
 
--- src/lib.rt:279:9
 array-borrow-prefix-path : tie.Need-array-borrow-prefix-path
 array-borrow-prefix-path c = few (c .before .before)
 
--- src/lib.rt:279:9
 slice-aggregate-predict : tie.Need-slice-aggregate-predict
 slice-aggregate-predict c = sym (length-take-le _ _ (few (c .before .before .before)))
 
--- src/lib.rt:263:9
 predict-requires : tie.Need-predict-requires
 predict-requires c κs =
     let e = c .before .before .before in
@@ -113,15 +102,12 @@ predict-requires c κs =
       ),
     )
 
--- src/lib.rt:282:9
 refuse-requires : tie.Need-refuse-requires
 refuse-requires c κs = search needs
 
--- src/lib.rt:282:9
 same-length : tie.Need-same-length
 same-length c = search needs
 
--- src/lib.rt:282:9
 returns : tie.Need-returns
 returns c =
     let e = c .before .before .before .before .before .before .before .before in
@@ -131,15 +117,12 @@ returns c =
       refused-counted 8 _ _ made (s .pre .1 .1 .1 .2),
     )
 
--- src/lib.rt:287:21
 add-t38 : tie.Need-add-t38
 add-t38 c = omega (arith, c .before .before .before .before .before .before .before .before .before .before .before .before .before .before .before .before .before .before .before .before .before .before .before .before .before .before .before .before .before .pre .1 .1 .1 .1)
 
--- src/lib.rt:285:9
 same-length-2 : tie.Need-same-length-2
 same-length-2 c = search needs
 
--- src/lib.rt:285:9
 returns-2 : tie.Need-returns-2
 returns-2 c =
     let e = c .before .before .before .before .before .before .before .before .before .before in
@@ -148,23 +131,18 @@ returns-2 c =
       record { visits = omega arith; updates = omega (arith, s .pre .1 .1 .1 .2) },
     )
 
--- src/lib.rt:308:9
 array-share-prefix-path : tie.Need-array-share-prefix-path
 array-share-prefix-path c = path-fits (c .before .before .before .before .before)
 
--- src/lib.rt:308:9
 slice-aggregate-correct : tie.Need-slice-aggregate-correct
 slice-aggregate-correct c = sym (length-take-le _ _ (path-fits (c .before .before .before .before .before .before)))
 
--- src/lib.rt:309:9
 mul-correct : tie.Need-mul-correct
 mul-correct c = let s = c .before .before .before .before .before .before .before .before .before .before .before .before .before .before .before .before .before .before .before .before .before .before .before .before .before .before .before .before .before in omega (arith, s .pre .1 .1 .1 .0, s .pre .1 .0 .few)
 
--- src/lib.rt:309:9
 shared-slice-read-correct : tie.Need-shared-slice-read-correct
 shared-slice-read-correct c = let s = c .before .before .before .before .before .before .before .before .before .before .before .before .before .before .before .before .before .before .before .before .before .before .before .before .before .before .before .before .before .before in omega (arith, s .pre .1 .1 .1 .0, s .pre .1 .0 .weighted)
 
--- src/lib.rt:292:5
 correct-requires : tie.Need-correct-requires
 correct-requires c κs =
     let e = c .before .before .before .before .before .before .before .before .before .before .before .before .before .before .before in
@@ -176,23 +154,18 @@ correct-requires c κs =
       ),
     )
 
--- src/lib.rt:228:1
 same-length-3 : tie.Need-same-length-3
 same-length-3 c = search needs
 
--- src/lib.rt:228:1
 same-length-4 : tie.Need-same-length-4
 same-length-4 c = search needs
 
--- src/lib.rt:228:1
 same-length-5 : tie.Need-same-length-5
 same-length-5 c = search needs
 
--- src/lib.rt:228:1
 same-length-6 : tie.Need-same-length-6
 same-length-6 c = search needs
 
--- src/lib.rt:228:1
 returns-3 : tie.Need-returns-3
 returns-3 c =
     let e = c .before .before .before .before .before .before .before .before .before .before .before .before .before .before .before .before .before .before .before .before .before .before .before .before in
