@@ -8,6 +8,7 @@
 //! - `judge`: the whole answer that a call owes, put together from those.
 //! - `cases`: seeded cases with corners on purpose, damaged copies, and shares that are counted and required.
 //! - `desk`: the desk cases P1 to P14.
+//! - `differences`: where the Rust and document 01 part, each case with its smallest input.
 //! - `list`: the fixed list of answers that the repository replays without Rust at hand.
 //! - `sheets`: the fixed sheet files, good and damaged, and the samples.
 //! - `log_sheet`: what the C example has to print.
