@@ -5,7 +5,7 @@ ghost use lib.ListN.{length};
 ghost use lib.Ieee.{Float};
 ghost use Rattle.lines.specs.Passes.{through};
 ghost use Rattle.training.specs.Data.{whole};
-ghost use Rattle.training.specs.Rules.{spread, narrowed, arow, _⊕_, _⊖_};
+ghost use Rattle.training.specs.Rules.{spread, narrowed, arow, _⊕_, _⊖_, _⊘_};
 ghost use Rattle.training_tables.specs.Tables.{Both, Held, Moved, Updated};
 use training_tables::Outcome;
 
@@ -38,6 +38,18 @@ pub fn cost_of(wrong: u32, reached: f64, wanted: f64) -> f64
     reached - wanted + wrong as f64
 }
 
+// A square over gamma. A division by 1 changes nothing, and the loop below takes no longer than its divisions do: the compiler
+// makes two loops of it, one for each way. 1 is the gamma that the Rust text starts from.
+pub fn over(square: f64, gamma: f64) -> f64
+    ensures { λ r. ⌜ r ≡ square ⊘ gamma ⌝ }
+{
+    if gamma == 1.0 {
+        square
+    } else {
+        square / gamma
+    }
+}
+
 // Each feature's weight moves by its weighted difference of counts, as far as its covariance allows, and the covariance
 // narrows. The answer is whether both tables are finite then.
 pub fn narrow(
@@ -59,7 +71,7 @@ pub fn narrow(
         let sigma = covariance[i];
         let delta = (truly[i] - predicted[i]) * weight;
         let w = weights[i] + alpha * sigma * delta;
-        let narrower = 1.0 / (1.0 / sigma + delta * delta / gamma);
+        let narrower = 1.0 / (1.0 / sigma + over(delta * delta, gamma));
         weights[i] = w;
         covariance[i] = narrower;
         all = all & binary64::are_finite(w, narrower);

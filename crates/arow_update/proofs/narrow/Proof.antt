@@ -50,6 +50,9 @@ mul-w c = search needs
 slice-read-w : tie.Need-slice-read-w Inv-loop μ-loop
 slice-read-w c = search needs
 
+over-requires : tie.Need-over-requires Inv-loop μ-loop
+over-requires c κs = search needs
+
 mul-weights : tie.Need-mul-weights Inv-loop μ-loop
 mul-weights c = search needs
 
@@ -74,11 +77,11 @@ loop-less c = search needs
 loop-again : tie.Need-loop-again Inv-loop μ-loop
 unfolding narrowed raised ofBits ofInt
 loop-again c =
-    let l = c .before .before .before .before .before .before in (
+    let l = c .before .before .before .before .before .before .before in (
       omega arith,
       search needs,
       search needs,
-      moved-next _ _ _ _ _ (l .loop .inv .3) refl (c .are-finite .ensures) (finite-stored _ _ _ (search needs)) (finite-stored _ _ _ (search needs)),
+      moved-next _ _ _ _ _ (l .loop .inv .3) (rw (c .before .over .ensures)) (c .are-finite .ensures) (finite-stored _ _ _ (search needs)) (finite-stored _ _ _ (search needs)),
     )
 
 same-length : tie.Need-same-length Inv-loop μ-loop
@@ -105,6 +108,7 @@ narrow-spec =
     shared-slice-read-delta-2
     mul-w
     slice-read-w
+    over-requires
     mul-weights
     slice-write-weights
     mul-covariance
