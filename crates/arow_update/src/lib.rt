@@ -43,11 +43,7 @@ pub fn cost_of(wrong: u32, reached: f64, wanted: f64) -> f64
 pub fn over(square: f64, gamma: f64) -> f64
     ensures { λ r. ⌜ r ≡ square ⊘ gamma ⌝ }
 {
-    if gamma == 1.0 {
-        square
-    } else {
-        square / gamma
-    }
+    if gamma == 1.0 { square } else { square / gamma }
 }
 
 // Each feature's weight moves by its weighted difference of counts, as far as its covariance allows, and the covariance
