@@ -16,8 +16,8 @@ use Rattle.training.specs.Epochs.{Run, isRefused, opened, visitedAt, epochOver,
 use Rattle.training.specs.Orders.{OrderOf}
 use Rattle.training.proofs.Orders.{shuffle-keeps}
 use Rattle.training.proofs.Epochs.{epoch-next, epoch-cut, epoch-made, run-next, run-cut}
-use Rattle.visits.specs.Visiting.{Agreed}
-use Rattle.epochs.specs.Running.{Finished}
+use Rattle.updates.specs.Updating.{Agreed}
+use Rattle.begin_and_end.specs.Ending.{Finished}
 
 -- whether a state's visit was refused can be told by its step
 same-end : {made meant : State} {b : Bool} → Agreed made meant → isRefused (made .step .visit) ≡ b → isRefused (meant .step .visit) ≡ b

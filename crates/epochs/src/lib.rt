@@ -6,57 +6,19 @@ ghost use lib.ListN.{length, getD};
 ghost use Rattle.lines.specs.Passes.{through, nought};
 ghost use Rattle.training.specs.Rules.{stops};
 ghost use Rattle.training.specs.Visits.{visited};
-ghost use Rattle.training.specs.Epochs.{isRefused, endsAfter, epochOver, epochUnlessOver};
+ghost use Rattle.training.specs.Epochs.{epochOver, epochUnlessOver};
 ghost use Rattle.training.specs.Orders.{OrderOf};
 ghost use Rattle.feature_gen.specs.Sound.{Sound};
 ghost use Rattle.training_check.specs.Sound.{SoundData};
 ghost use Rattle.prediction.specs.Tables.{modelOf, dataOf};
-ghost use Rattle.visits.specs.Visiting.{ruleOf, stateOf, Agreed, Exact};
-ghost use Rattle.epochs.specs.Running.{CountedIn, Finished, firstStep};
+ghost use Rattle.updates.specs.Updating.{ruleOf, stateOf, Agreed, Exact};
+ghost use Rattle.begin_and_end.specs.Ending.{Finished};
+ghost use Rattle.epochs.specs.Running.{CountedIn, firstStep};
+use begin_and_end::Ran;
 use prediction::Sizes;
 use training::Step;
 use training::Visit;
-use visits::Trainer;
-
-// What a run of epochs comes to: the last step, and how many epochs were run.
-pub struct Ran {
-    pub step: Step,
-    pub epochs: u64,
-}
-
-pub fn is_refused(v: Visit) -> bool
-    ensures { λ r. ⌜ r ≡ isRefused v ⌝ }
-{
-    match v {
-        Visit::Refused(_) => true,
-        Visit::Updated => false,
-        Visit::Unchanged => false,
-    }
-}
-
-// Whether an epoch's rate of loss ends training: below epsilon, with AROW also at it.
-fn is_low(trainer: Trainer, epsilon: f64, rate: f64) -> bool
-    ensures { λ r. ⌜ r ≡ stops (ruleOf trainer) epsilon rate ⌝ }
-{
-    match trainer {
-        Trainer::Perceptron => rate < epsilon,
-        Trainer::Passive { .. } => rate < epsilon,
-        Trainer::Arow { .. } => rate <= epsilon,
-    }
-}
-
-// Whether training ends after an epoch.
-fn ends(trainer: Trainer, epsilon: f64, instances: usize, s: Step) -> bool
-    requires { ⌜ instances ≤ 16384 ⌝ }
-    ensures { λ r. ⌜ r ≡ endsAfter (stops (ruleOf trainer) epsilon) instances s ⌝ }
-{
-    let v = s.visit;
-    let loss = s.loss;
-    if is_refused(v) {
-        return true;
-    }
-    is_low(trainer, epsilon, loss / (instances as f64))
-}
+use updates::Trainer;
 
 // An epoch's visits: the first that is refused ends it.
 fn epoch(
@@ -124,7 +86,7 @@ fn epoch(
             predicted,
         );
         let v = step.visit;
-        if is_refused(v) {
+        if updates::is_refused(v) {
             return step;
         }
         j += 1;
@@ -199,7 +161,7 @@ pub fn run(
             predicted,
         );
         e += 1;
-        if ends(trainer, epsilon, n, step) {
+        if updates::ends(trainer, epsilon, n, step) {
             return Ran {
                 step: step,
                 epochs: e,

@@ -1,118 +1,13 @@
--- Laws of counting wrong labels, and what scoring and judging one instance rely on. Assumes nothing.
-use mathlib.Core.Path.{_≡_, refl, sym, ap, _∙_}
-use mathlib.Core.Bool.{Bool, true, false, cond, _&&_, false≢true}
-use mathlib.Core.List.{List, [], _++_, append-nil}
-use Prim.Native.Nat.{ℕ, _+_, _*_, _≤_, _<_}
-use native.Mathlib.Nat.{mul-le-mul, le-antisymm, le-of-eq}
-use native.Mathlib.Omega.{arith}
-use borrow.Author.Tests.{eq-eqb, ne-eqb}
-use lib.Dec.{eqb}
-use lib.ListN.{length, getD, drop, drop-of-length-le}
+-- What scoring one instance relies on. Assumes nothing.
+use mathlib.Core.List.{List}
+use Prim.Native.Nat.{ℕ, _*_, _≤_}
+use native.Mathlib.Nat.{mul-le-mul}
+use lib.ListN.{length}
 use lib.Ieee.{Float}
-use Rattle.lines.specs.Passes.{through}
-use Rattle.lines.proofs.Laws.{through-more}
-use Rattle.best_path.specs.Scores.{tabled}
-use Rattle.best_path.specs.Decoded.{decodedPath}
-use Rattle.best_path.specs.PathScore.{pathScore}
-use Rattle.best_path.proofs.Laws.{decoded-length, decoded-allowed}
-use Rattle.score_tables.specs.Sound.{Sized, LabelsIn, WordsIn}
-use Rattle.sequence_score.specs.Sound.{Met}
-use Rattle.viterbi.specs.Answered.{Ready}
-use Rattle.training.specs.Data.{wrongAt, wrongOf}
+use Rattle.score_tables.specs.Sound.{WordsIn}
 use Rattle.lines.specs.Tables.{Model}
 use Rattle.lines.specs.Sound.{SoundTransitions}
 use Rattle.feature_gen.specs.Sound.{Sound}
-use Rattle.prediction.specs.Judged.{Scored, Judged, finiteScores}
-
-module _ (p q : List ℕ) where
-  pub wrong-none : 0 ≡ wrongOf p q 0
-  unfolding wrongOf through
-  wrong-none = refl
-
-  wrong-more : (word : ℕ) → wrongOf p q (word + 1) ≡ cond (eqb (getD p word 0) (getD q word 0)) (wrongOf p q word) (wrongOf p q word + 1)
-  unfolding wrongOf wrongAt
-  wrong-more word = through-more (wrongAt p q) word 0
-
-  pub wrong-same : (word : ℕ) {n : ℕ} → n ≡ wrongOf p q word → getD p word 0 ≡ getD q word 0 → n ≡ wrongOf p q (word + 1)
-  wrong-same word e h = e ∙ sym (wrong-more word ∙ rw (eq-eqb (getD p word 0) (getD q word 0) h))
-
-  pub wrong-other : (word : ℕ) {n : ℕ} → n ≡ wrongOf p q word → (getD p word 0 ≡ getD q word 0 → ⊥) → n + 1 ≡ wrongOf p q (word + 1)
-  wrong-other word e h = ap (λ (k : ℕ). k + 1) e ∙ sym (wrong-more word ∙ rw (ne-eqb (getD p word 0) (getD q word 0) h))
-
--- two tests that hold together
-pub both : (p q : Bool) → p && q ≡ true → (p ≡ true) × (q ≡ true)
-both true q e = (refl, e)
-both false q e = absurd (false≢true e)
-
--- a buffer that is no longer than its front
-pub all-of : {A : Type 0} (xs ys : List A) (n : ℕ) → length ys ≡ n → xs ++ drop n ys ≡ xs
-all-of xs ys n e = ap (λ (zs : List _). xs ++ zs) (drop-of-length-le ys (le-of-eq e)) ∙ append-nil xs
-
-module _ {labels words : ℕ} {transitions states : List Float} {references path : List ℕ} (s : Scored labels words transitions states references path) where
-  pub ready : Ready labels words transitions states path
-  ready = record {
-    sized = record {
-      labels-in = s .labelled;
-      words-in = s .sized;
-      room = record { long-transitions = omega (arith, s); long-states = omega (arith, s) };
-      few-transitions = mul-le-mul (s .labelled .high) (s .labelled .high);
-      few-states = mul-le-mul (s .sized .high) (s .labelled .high);
-    };
-    long-path = omega (arith, s);
-  }
-
-  -- the reference labels meet entries of the tables, and so do those of the predicted path
-  pub true-met : Met labels transitions states references words
-  true-met = record {
-    long-path = omega (arith, s);
-    long-states = omega (arith, s);
-    long-transitions = omega (arith, s);
-    below = s .below;
-  }
-
-  pub predicted-met : (p : List ℕ) → p ≡ decodedPath (tabled labels transitions states) words → Met labels transitions states p words
-  predicted-met p e =
-      let a = decoded-allowed (tabled labels transitions states) (s .labelled .low) words (s .sized .low) in
-      rw e (record {
-        long-path = omega (arith, a .long);
-        long-states = omega (arith, s);
-        long-transitions = omega (arith, s);
-        below = a .labels;
-      })
-
--- 8 for the scores: there is nothing else to know
-pub unscored : {labels words : ℕ} {transitions states : List Float} {references after : List ℕ} (x y : Float) → finiteScores labels words transitions states ≡ false → Judged labels words transitions states references after (record { finite = false; wrong = 0; reached = x; wanted = y })
-unscored x y e = record {
-  finite = sym e;
-  path = λ t. absurd (false≢true t);
-  wrong = λ t. absurd (false≢true t);
-  few = omega arith;
-  reached = λ t. absurd (false≢true t);
-  wanted = λ t. absurd (false≢true t);
-}
-
-module _ {labels words : ℕ} {transitions states : List Float} {references after : List ℕ} where
-  -- the labels agree: the path scores are not looked at
-  pub agreed : (x y : Float) {n : ℕ} → finiteScores labels words transitions states ≡ true → after ≡ decodedPath (tabled labels transitions states) words → n ≡ wrongOf after references words → n ≡ 0 → Judged labels words transitions states references after (record { finite = true; wrong = 0; reached = x; wanted = y })
-  agreed x y f p w z = record {
-    finite = sym f;
-    path = λ _. p;
-    wrong = λ _. rw (← p) (sym z ∙ w);
-    few = omega arith;
-    reached = λ _ other. absurd (other refl);
-    wanted = λ _ other. absurd (other refl);
-  }
-
-  -- they differ
-  pub differed : {x y : Float} {n : ℕ} → finiteScores labels words transitions states ≡ true → after ≡ decodedPath (tabled labels transitions states) words → n ≡ wrongOf after references words → n ≤ 128 → x ≡ pathScore (tabled labels transitions states) after words → y ≡ pathScore (tabled labels transitions states) references words → Judged labels words transitions states references after (record { finite = true; wrong = n; reached = x; wanted = y })
-  differed f p w h r q = record {
-    finite = sym f;
-    path = λ _. p;
-    wrong = λ _. rw (← p) w;
-    few = h;
-    reached = λ _ _. rw (← p) r;
-    wanted = λ _ _. q;
-  }
 
 module _ {m : Model} (s : Sound m) where
   pub transitions-sound : (weights : List Float) → m .features .count ≤ length weights → SoundTransitions (m .labels) (m .features .count) (m .features .kinds) (m .features .destinations) (m .features .sources) weights

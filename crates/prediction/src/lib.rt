@@ -1,13 +1,12 @@
-// What a visit does before it learns: it scores an instance with the present weights, decodes, and compares the path with the
-// reference labels.
+// What a visit does before it learns: it scores an instance with the present weights and has the scores judged.
 ghost use mathlib.Core.Path.{_≡_};
 ghost use Prim.Native.Nat.{_*_, _≤_};
 ghost use lib.ListN.{length};
 ghost use Rattle.lines.specs.Scored.{statesOf, transitionsOf};
 ghost use Rattle.feature_gen.specs.Sound.{Sound};
-ghost use Rattle.training.specs.Data.{wrongOf};
 ghost use Rattle.prediction.specs.Tables.{modelOf, wordsIn, SoundLine};
-ghost use Rattle.prediction.specs.Judged.{Judged, Scored};
+ghost use Rattle.judging.specs.Judged.{Judged};
+use judging::Prediction;
 
 // The counts of a trainer's tables.
 pub struct Sizes {
@@ -20,72 +19,6 @@ pub struct Sizes {
     pub instances: usize,
     pub words: usize,
     pub attributes: usize,
-}
-
-// Whether the scores are finite, how many labels are wrong, and where some are, the scores of the predicted and the true path.
-pub struct Prediction {
-    pub finite: bool,
-    pub wrong: u32,
-    pub reached: f64,
-    pub wanted: f64,
-}
-
-// In how many words two paths differ.
-fn count_wrong(path: &[u32], references: &[u32], words: usize) -> u32
-    requires { ⌜ (words ≤ 128) × (words ≤ length (now path)) × (words ≤ length (now references)) ⌝ }
-    ensures { λ r. ⌜ (r ≡ wrongOf (now (path .entry)) (now (references .entry)) words) × (r ≤ words) ⌝ }
-{
-    let mut wrong = 0u32;
-    let mut word = 0usize;
-    while word < words {
-        if path[word] != references[word] {
-            wrong += 1;
-        }
-        word += 1;
-    }
-    wrong
-}
-
-// 8 for the scores, then the path and the number of wrong labels, then the two path scores.
-fn judge(
-    labels: usize,
-    words: usize,
-    transitions: &[f64],
-    states: &[f64],
-    references: &[u32],
-    path: &mut [u32],
-) -> Prediction
-    requires { ⌜ Scored labels words (now transitions) (now states) (now references) (now path) ⌝ }
-    ensures { λ r. ⌜ Judged labels words (now (transitions .entry)) (now (states .entry)) (now (references .entry)) (now (path .exit)) r ⌝ }
-{
-    let finite = training_tables::all_finite(states, words * labels)
-        & training_tables::all_finite(transitions, labels * labels);
-    if !finite {
-        return Prediction {
-            finite: false,
-            wrong: 0,
-            reached: 0.0,
-            wanted: 0.0,
-        };
-    }
-    viterbi::decode_tables(labels, words, transitions, states, path);
-    let wrong = count_wrong(path, references, words);
-    if wrong == 0 {
-        return Prediction {
-            finite: true,
-            wrong: 0,
-            reached: 0.0,
-            wanted: 0.0,
-        };
-    }
-    let reached = sequence_score::score_path(labels, transitions, states, path, words);
-    let wanted = sequence_score::score_path(labels, transitions, states, references, words);
-    Prediction {
-        finite: true,
-        wrong: wrong,
-        reached: reached,
-        wanted: wanted,
-    }
 }
 
 // The scores in two lent tables that are exactly as long as they have to be.
@@ -145,7 +78,7 @@ fn predict_in(
         words,
         states,
     );
-    judge(labels, words, transitions, states, references, path)
+    judging::judge(labels, words, transitions, states, references, path)
 }
 
 // A short line has its scores in small arrays: clearing large ones would take longer than the line.

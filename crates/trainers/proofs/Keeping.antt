@@ -13,7 +13,7 @@ use Rattle.refusals.specs.Refusals.{firstFrom}
 use Rattle.training.specs.declared.Training.{Training}
 use Rattle.training.specs.Rules.{Rule, passive}
 use Rattle.training.specs.Epochs.{Settings, Result, trained}
-use Rattle.learning.specs.Learning.{Swept}
+use Rattle.begin_and_end.specs.Ending.{Swept}
 use Rattle.parameters.specs.declared.Passive.{Passive}
 use Rattle.parameters.specs.Parameters.{AllFit, mostEpochs, sevens}
 use Rattle.training_check.specs.Rows.{inputChecked}

@@ -4,7 +4,7 @@ ghost use mathlib.Core.Path.{_≡_};
 ghost use Rattle.refusals.specs.declared.Checked.the-variants.{Accepted};
 ghost use Rattle.feature_gen.specs.Lent.{modelOf};
 ghost use Rattle.training_check.specs.Lent.{dataOf};
-ghost use Rattle.visits.specs.Visiting.{ruleOf};
+ghost use Rattle.updates.specs.Updating.{ruleOf};
 ghost use Rattle.trainers.specs.Promise.{on, averagedPerceptron, passiveAggressive, adaptive, Promised};
 ghost use Rattle.trainers.specs.Inside.{Ready, Kept};
 use feature_gen::Counts;
@@ -16,7 +16,7 @@ use refusals::Checked;
 use training::Training;
 use training_check::Lent;
 use training_check::Totals;
-use visits::Trainer;
+use updates::Trainer;
 
 // A switch that comes as a number.
 fn is_on(switch: u32) -> bool

@@ -1,11 +1,11 @@
 -- A loop that gives the front of a table the entries of a list, one after the other. Assumes nothing.
 use mathlib.Core.Path.{_≡_, refl, sym, ap, _∙_}
-use mathlib.Core.List.{List, _++_}
+use mathlib.Core.List.{List, _++_, append-nil}
 use Prim.Native.Nat.{ℕ, zero, suc, _+_, _≤_, _<_}
 use native.Mathlib.Numerals.{add-one}
-use native.Mathlib.Nat.{le-antisymm, zero-add}
+use native.Mathlib.Nat.{le-antisymm, le-of-eq, zero-add}
 use native.Mathlib.Omega.{arith}
-use lib.ListN.{length, getD, set, take, drop}
+use lib.ListN.{length, getD, set, take, drop, drop-of-length-le}
 use lib.Seq.{paste-zero, paste-suc, take-length}
 use Rattle.training.specs.Epochs.{countedFrom}
 
@@ -39,3 +39,7 @@ unfolding countedFrom
 getD-counted k zero i h = omega arith
 getD-counted k (suc n) zero h = omega arith
 getD-counted k (suc n) (suc i) h = getD-counted (suc k) n i (omega arith) ∙ omega arith
+
+-- a buffer that is no longer than its front
+pub all-of : {A : Type 0} (xs ys : List A) (n : ℕ) → length ys ≡ n → xs ++ drop n ys ≡ xs
+all-of xs ys n e = ap (λ (zs : List _). xs ++ zs) (drop-of-length-le ys (le-of-eq e)) ∙ append-nil xs

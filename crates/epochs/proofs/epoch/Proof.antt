@@ -11,14 +11,14 @@ use Rattle.training.specs.Visits.{State, visited}
 use Rattle.training.specs.Epochs.{isRefused, opened, visitedAt}
 use Rattle.training.proofs.Epochs.{epoch-end}
 use Rattle.prediction.specs.Tables.{modelOf, dataOf}
-use Rattle.visits.specs.Visiting.{ruleOf, stateOf, Exact}
-use Rattle.visits.proofs.Laws.{exactly}
+use Rattle.updates.specs.Updating.{ruleOf, stateOf, Exact}
+use Rattle.updates.proofs.Laws.{exactly}
 use Rattle.epochs.proofs.Laws.{visited-next, visited-cut}
 use Rattle.epochs.proofs.epoch.Statement.{statement}
 use Rattle.epochs.proofs.epoch.Tie as tie
 use Rattle.epochs.proofs.epoch.Reads as reads
 use Rattle.epochs.proofs.epoch.Lts as lts
-use Rattle.epochs.proofs.is_refused.Reads as is-refused-reads
+use Rattle.updates.proofs.is_refused.Reads as is-refused-reads
 use Rattle.lines.proofs.at.Reads as at-reads
 use Rattle.visits.proofs.visit.Reads as visit-reads
 

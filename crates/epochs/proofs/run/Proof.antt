@@ -14,13 +14,13 @@ use Rattle.training.specs.Epochs.{Run, epochUnlessOver}
 use Rattle.training.specs.Orders.{OrderOf}
 use Rattle.training.proofs.Orders.{places-below}
 use Rattle.prediction.specs.Tables.{modelOf, dataOf}
-use Rattle.visits.specs.Visiting.{ruleOf, stateOf, Exact}
+use Rattle.updates.specs.Updating.{ruleOf, stateOf, Exact}
 use Rattle.epochs.proofs.Laws.{dealt-keeps, all-run, run-on, run-ended}
 use Rattle.epochs.proofs.run.Statement.{statement}
 use Rattle.epochs.proofs.run.Tie as tie
 use Rattle.epochs.proofs.run.Reads as reads
 use Rattle.epochs.proofs.run.Lts as lts
-use Rattle.epochs.proofs.ends.Reads as ends-reads
+use Rattle.updates.proofs.ends.Reads as ends-reads
 use Rattle.epochs.proofs.epoch.Reads as epoch-reads
 use Rattle.shuffle.proofs.shuffle.Reads as shuffle-reads
 

@@ -10,16 +10,16 @@ use Rattle.training.specs.Data.{Data}
 use Rattle.training.specs.Epochs.{Settings, ran, begun, trained}
 use Rattle.training.proofs.Orders.{order-first}
 use Rattle.prediction.specs.Tables.{modelOf, dataOf}
-use Rattle.visits.specs.Visiting.{ruleOf}
-use Rattle.epochs.specs.Running.{Finished}
+use Rattle.updates.specs.Updating.{ruleOf}
+use Rattle.begin_and_end.specs.Ending.{Finished}
 use Rattle.learning.proofs.train.Statement.{statement}
 use Rattle.learning.proofs.train.Tie as tie
 use Rattle.learning.proofs.train.Reads as reads
 use Rattle.learning.proofs.train.Lts as lts
 use Rattle.epochs.proofs.run.Reads as run-reads
-use Rattle.learning.proofs.begin.Reads as begin-reads
-use Rattle.learning.proofs.conclude.Reads as conclude-reads
-use Rattle.learning.proofs.sweep.Reads as sweep-reads
+use Rattle.begin_and_end.proofs.begin.Reads as begin-reads
+use Rattle.begin_and_end.proofs.conclude.Reads as conclude-reads
+use Rattle.begin_and_end.proofs.sweep.Reads as sweep-reads
 
 -- the model, the data and the settings that the arguments make
 abbrev model : tie.Start → Model

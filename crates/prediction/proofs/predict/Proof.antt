@@ -2,7 +2,8 @@ use mathlib.Core.Path.{_≡_, refl, sym, ap, _∙_}
 use Prim.Native.Nat.{_*_, _≤_}
 use native.Mathlib.Omega.{arith}
 use borrow.Author.Needs.{needs}
-use Rattle.prediction.proofs.Laws.{square-small, rows-small, both}
+use Rattle.judging.proofs.Laws.{both}
+use Rattle.prediction.proofs.Laws.{square-small, rows-small}
 use borrow.Author.Tests.{leb-true}
 use Rattle.prediction.proofs.predict.Statement.{statement}
 use Rattle.prediction.proofs.predict.Tie as tie

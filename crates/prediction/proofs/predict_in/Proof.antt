@@ -5,14 +5,15 @@ use borrow.Author.Needs.{needs}
 use Rattle.lines.specs.Tables.{Model}
 use Rattle.lines.specs.Scored.{transitionsOf, statesOf}
 use Rattle.prediction.specs.Tables.{modelOf, wordsIn}
-use Rattle.prediction.proofs.Laws.{all-of, transitions-sound}
+use Rattle.training_tables.proofs.Filled.{all-of}
+use Rattle.prediction.proofs.Laws.{transitions-sound}
 use Rattle.prediction.proofs.predict_in.Statement.{statement}
 use Rattle.prediction.proofs.predict_in.Tie as tie
 use Rattle.prediction.proofs.predict_in.Reads as reads
 use Rattle.prediction.proofs.predict_in.Lts as lts
 use Rattle.compute_scores.proofs.score_line.Reads as score-line-reads
 use Rattle.compute_scores.proofs.score_transitions.Reads as score-transitions-reads
-use Rattle.prediction.proofs.judge.Reads as judge-reads
+use Rattle.judging.proofs.judge.Reads as judge-reads
 
 -- the model and the words that the arguments make
 abbrev model : tie.Start → Model

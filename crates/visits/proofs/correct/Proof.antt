@@ -7,13 +7,13 @@ use borrow.Author.Needs.{needs}
 use Rattle.lines.specs.Tables.{Model, Words}
 use Rattle.lines.specs.Counted.{countsOf}
 use Rattle.prediction.specs.Tables.{modelOf, wordsIn}
-use Rattle.prediction.proofs.Laws.{all-of}
+use Rattle.training_tables.proofs.Filled.{all-of}
 use Rattle.visits.proofs.correct.Statement.{statement}
 use Rattle.visits.proofs.correct.Tie as tie
 use Rattle.visits.proofs.correct.Reads as reads
 use Rattle.visits.proofs.correct.Lts as lts
 use Rattle.extract_features.proofs.count_line.Reads as count-line-reads
-use Rattle.visits.proofs.learn.Reads as learn-reads
+use Rattle.updates.proofs.learn.Reads as learn-reads
 
 -- the model and the words that the arguments make
 abbrev model : tie.Start → Model

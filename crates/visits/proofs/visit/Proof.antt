@@ -13,8 +13,9 @@ use Rattle.lines.specs.Tables.{Model}
 use Rattle.training.specs.Data.{Data}
 use Rattle.training.specs.Visits.{State}
 use Rattle.prediction.specs.Tables.{modelOf, dataOf, SoundLine}
-use Rattle.visits.specs.Visiting.{ruleOf, stateOf}
-use Rattle.visits.proofs.Laws.{some-words, few-words, all-words, line-sound, unscored, same, other, refused-counted, front-again}
+use Rattle.updates.specs.Updating.{ruleOf, stateOf}
+use Rattle.updates.proofs.Laws.{refused-counted, unchanged-counted}
+use Rattle.visits.proofs.Laws.{some-words, few-words, all-words, line-sound, unscored, same, other, front-again}
 use Rattle.visits.proofs.visit.Statement.{statement}
 use Rattle.visits.proofs.visit.Tie as tie
 use Rattle.visits.proofs.visit.Reads as reads
@@ -22,7 +23,8 @@ use Rattle.visits.proofs.visit.Lts as lts
 use Rattle.lines.proofs.at.Reads as at-reads
 use Rattle.prediction.proofs.predict.Reads as predict-reads
 use Rattle.visits.proofs.correct.Reads as correct-reads
-use Rattle.visits.proofs.refuse.Reads as refuse-reads
+use Rattle.updates.proofs.refuse.Reads as refuse-reads
+use Rattle.updates.proofs.unchanged.Reads as unchanged-reads
 
 -- the model, the data and the state that the arguments make
 abbrev model : tie.Start → Model
@@ -117,8 +119,8 @@ returns c =
       refused-counted 8 _ _ made (s .pre .1 .1 .1 .2),
     )
 
-add-t38 : tie.Need-add-t38
-add-t38 c = omega (arith, c .before .before .before .before .before .before .before .before .before .before .before .before .before .before .before .before .before .before .before .before .before .before .before .before .before .before .before .before .before .pre .1 .1 .1 .1)
+unchanged-requires : tie.Need-unchanged-requires
+unchanged-requires c κs = let s = c .before .before .before .before .before .before .before .before .before .before .before .before .before .before .before .before .before .before .before .before .before .before .before .before .before .before .before .before in (s .pre .1 .1 .1 .1, s .pre .1 .1 .1 .2)
 
 same-length-2 : tie.Need-same-length-2
 same-length-2 c = search needs
@@ -126,9 +128,10 @@ same-length-2 c = search needs
 returns-2 : tie.Need-returns-2
 returns-2 c =
     let e = c .before .before .before .before .before .before .before .before .before .before in
-    let s = c .before .before .before .before .before .before .before .before .before .before .before .before .before .before .before .before .before .before .before .before .before .before .before .before .before .before .before .before .before in (
-      same (data-of s) _ _ _ (e .before .at .ensures) (e .at2 .ensures) _ (model s) (state s) (c .before .before .before .before .before .before .predict .ensures) (not-false _ (c .before .before .before .if1 .left)) (c .before .if2 .taken),
-      record { visits = omega arith; updates = omega (arith, s .pre .1 .1 .1 .2) },
+    let s = c .before .before .before .before .before .before .before .before .before .before .before .before .before .before .before .before .before .before .before .before .before .before .before .before .before .before .before .before .before in
+    let made = c .unchanged .ensures in (
+      same (data-of s) _ _ _ (e .before .at .ensures) (e .at2 .ensures) _ (model s) (state s) (c .before .before .before .before .before .before .predict .ensures) (not-false _ (c .before .before .before .if1 .left)) (c .before .if2 .taken) (made _),
+      unchanged-counted _ _ made (s .pre .1 .1 .1 .2),
     )
 
 array-share-prefix-path : tie.Need-array-share-prefix-path
@@ -194,7 +197,7 @@ visit-spec =
     refuse-requires
     same-length
     returns
-    add-t38
+    unchanged-requires
     same-length-2
     returns-2
     array-share-prefix-path

@@ -1,0 +1,155 @@
+// How a training begins and ends: the tables at the start, the final averaging, the answer, and the zeroing of what is not the
+// result.
+ghost use mathlib.Core.Path.{_≡_};
+ghost use mathlib.Core.Bool.{cond};
+ghost use Prim.Native.Nat.{ℕ, _≤_};
+ghost use lib.ListN.{length};
+ghost use lib.Ieee.{Float};
+ghost use Rattle.lines.specs.Passes.{through};
+ghost use Rattle.lines.specs.Tables.{Model};
+ghost use Rattle.training.specs.Data.{Data};
+ghost use Rattle.training.specs.Rules.{Learned, besideAtFirst, averagedAt, averagedBy};
+ghost use Rattle.training.specs.Epochs.{Settings, Run, Result, finished};
+ghost use Rattle.updates.specs.Updating.{ruleOf};
+ghost use Rattle.begin_and_end.specs.Ending.{whyOf, Begun, Swept, AveragedAs, Finished};
+use refusals::Refusal;
+use training::Step;
+use training::Trained;
+use training::Training;
+use training::Visit;
+use updates::Trainer;
+
+// What a run of epochs comes to: the last step, and how many epochs were run.
+pub struct Ran {
+    pub step: Step,
+    pub epochs: u64,
+}
+
+// The table beside the weights starts at 0, the covariance at the variance.
+fn first_beside(trainer: Trainer) -> f64
+    ensures { λ r. ⌜ r ≡ besideAtFirst (ruleOf trainer) ⌝ }
+{
+    match trainer {
+        Trainer::Perceptron => 0.0,
+        Trainer::Passive { .. } => 0.0,
+        Trainer::Arow { variance, gamma: _ } => variance,
+    }
+}
+
+// Weights at 0, and the order 0 to N−1.
+pub fn begin(
+    trainer: Trainer,
+    features: usize,
+    instances: usize,
+    order: &mut [u32],
+    weights: &mut [f64],
+    beside: &mut [f64],
+)
+    requires { ⌜ (instances ≤ 16384) × (length (now order) ≡ instances) × (length (now weights) ≡ features) × (length (now beside) ≡ features) ⌝ }
+    ensures { λ _. ⌜ Begun (ruleOf trainer) features instances (now (order .exit)) (now (weights .exit)) (now (beside .exit)) ⌝ }
+{
+    training_tables::count_up(order, instances as u32);
+    training_tables::fill(weights, features, 0.0);
+    training_tables::fill(beside, features, first_beside(trainer));
+}
+
+// Whether the trained weights are averaged.
+fn is_averaging(trainer: Trainer) -> bool
+    ensures { λ r. ⌜ ((features : ℕ) (counter : Float) (s : Learned) → averagedBy (ruleOf trainer) features counter s ≡ cond r (through (averagedAt counter (s .beside)) 0 features (s .weights)) (s .weights)) ⌝ }
+{
+    match trainer {
+        Trainer::Perceptron => true,
+        Trainer::Passive {
+            variant: _,
+            c: _,
+            sensitive: _,
+            averaging,
+        } => averaging,
+        Trainer::Arow { .. } => false,
+    }
+}
+
+// The final averaging, and whether the weights are finite after it.
+fn average(
+    trainer: Trainer,
+    features: usize,
+    counter: f64,
+    beside: &[f64],
+    weights: &mut [f64],
+) -> bool
+    requires { ⌜ (length (now weights) ≡ features) × (length (now beside) ≡ features) ⌝ }
+    ensures { λ r. ⌜ AveragedAs (ruleOf trainer) features counter (record { weights = now (weights .entry); beside = now (beside .entry) }) (now (weights .exit)) r ⌝ }
+{
+    if is_averaging(trainer) {
+        return training_tables::average(features, counter, beside, weights);
+    }
+    training_tables::all_finite(weights, features)
+}
+
+// What a refused visit carries.
+fn why_of(v: Visit) -> Refusal
+    ensures { λ r. ⌜ r ≡ whyOf v ⌝ }
+{
+    match v {
+        Visit::Refused(why) => why,
+        Visit::Updated => Refusal {
+            number: 0,
+            place: 0,
+        },
+        Visit::Unchanged => Refusal {
+            number: 0,
+            place: 0,
+        },
+    }
+}
+
+// The answer and the trained weights: zero where a visit was refused, or the averaging by 9.
+pub fn conclude(
+    trainer: Trainer,
+    features: usize,
+    ran: Ran,
+    beside: &[f64],
+    weights: &mut [f64],
+) -> Training
+    requires { ⌜ (length (now weights) ≡ features) × (length (now beside) ≡ features) × (ran .step .visits ≤ 16384000) ⌝ }
+    ensures { λ r. ⌜ ((set : Settings) (m : Model) (d : Data) (meant : Run) → m .features .count ≡ features → Finished ran (now (weights .entry)) (now (beside .entry)) meant → _≡_ {A = Result} (record { answer = r; weights = now (weights .exit) }) (finished (ruleOf trainer) set m d (meant .state .step .visit) meant)) ⌝ }
+{
+    let step = ran.step;
+    let visit = step.visit;
+    let visits = step.visits;
+    if updates::is_refused(visit) {
+        training_tables::fill(weights, features, 0.0);
+        return Training::Refused(why_of(visit));
+    }
+    let counter = (visits + 1) as f64;
+    if average(trainer, features, counter, beside, weights) {
+        return Training::Accepted(Trained {
+            epochs: ran.epochs,
+            visits: visits,
+            updates: step.updates,
+        });
+    }
+    training_tables::fill(weights, features, 0.0);
+    Training::Refused(Refusal {
+        number: 9,
+        place: visits,
+    })
+}
+
+// The work tables are zero at the end.
+pub fn sweep(
+    features: usize,
+    instances: usize,
+    order: &mut [u32],
+    beside: &mut [f64],
+    truly: &mut [f64],
+    predicted: &mut [f64],
+)
+    requires { ⌜ (length (now order) ≡ instances) × (length (now beside) ≡ features) × (length (now truly) ≡ features) × (length (now predicted) ≡ features) ⌝ }
+    ensures { λ _. ⌜ Swept features instances (now (order .exit)) (now (beside .exit)) (now (truly .exit)) (now (predicted .exit)) ⌝ }
+{
+    training_tables::clear(order, instances);
+    training_tables::fill(beside, features, 0.0);
+    training_tables::fill(truly, features, 0.0);
+    training_tables::fill(predicted, features, 0.0);
+}

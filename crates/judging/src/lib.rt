@@ -1,0 +1,73 @@
+// What a visit has to know of an instance whose scores are made: 8 for the scores, the predicted path beside the reference, and
+// their path scores.
+ghost use mathlib.Core.Path.{_≡_};
+ghost use Prim.Native.Nat.{_≤_};
+ghost use lib.ListN.{length};
+ghost use Rattle.training.specs.Data.{wrongOf};
+ghost use Rattle.judging.specs.Judged.{Judged, Scored};
+
+// Whether the scores are finite, how many labels are wrong, and where some are, the scores of the predicted and the true path.
+pub struct Prediction {
+    pub finite: bool,
+    pub wrong: u32,
+    pub reached: f64,
+    pub wanted: f64,
+}
+
+// In how many words two paths differ.
+fn count_wrong(path: &[u32], references: &[u32], words: usize) -> u32
+    requires { ⌜ (words ≤ 128) × (words ≤ length (now path)) × (words ≤ length (now references)) ⌝ }
+    ensures { λ r. ⌜ (r ≡ wrongOf (now (path .entry)) (now (references .entry)) words) × (r ≤ words) ⌝ }
+{
+    let mut wrong = 0u32;
+    let mut word = 0usize;
+    while word < words {
+        if path[word] != references[word] {
+            wrong += 1;
+        }
+        word += 1;
+    }
+    wrong
+}
+
+// 8 for the scores, then the path and the number of wrong labels, then the two path scores.
+pub fn judge(
+    labels: usize,
+    words: usize,
+    transitions: &[f64],
+    states: &[f64],
+    references: &[u32],
+    path: &mut [u32],
+) -> Prediction
+    requires { ⌜ Scored labels words (now transitions) (now states) (now references) (now path) ⌝ }
+    ensures { λ r. ⌜ Judged labels words (now (transitions .entry)) (now (states .entry)) (now (references .entry)) (now (path .exit)) r ⌝ }
+{
+    let finite = training_tables::all_finite(states, words * labels)
+        & training_tables::all_finite(transitions, labels * labels);
+    if !finite {
+        return Prediction {
+            finite: false,
+            wrong: 0,
+            reached: 0.0,
+            wanted: 0.0,
+        };
+    }
+    viterbi::decode_tables(labels, words, transitions, states, path);
+    let wrong = count_wrong(path, references, words);
+    if wrong == 0 {
+        return Prediction {
+            finite: true,
+            wrong: 0,
+            reached: 0.0,
+            wanted: 0.0,
+        };
+    }
+    let reached = sequence_score::score_path(labels, transitions, states, path, words);
+    let wanted = sequence_score::score_path(labels, transitions, states, references, words);
+    Prediction {
+        finite: true,
+        wrong: wrong,
+        reached: reached,
+        wanted: wanted,
+    }
+}

@@ -1,0 +1,97 @@
+use mathlib.Core.Path.{_≡_, refl, sym, ap, _∙_}
+use mathlib.Core.Bool.{true, false, _&&_}
+use Prim.Native.Nat.{_+_, _-_, _*_, _≤_, _<_}
+use native.Mathlib.Omega.{arith}
+use borrow.Author.Needs.{needs}
+use lib.Dec.{le→leb}
+use lib.Ieee.{inFloat}
+use Rattle.updates.proofs.Laws.{held, not-held, not-counted, refused-counted}
+use Rattle.updates.proofs.learn.Statement.{statement}
+use Rattle.updates.proofs.learn.Tie as tie
+use Rattle.updates.proofs.learn.Reads as reads
+use Rattle.updates.proofs.learn.Lts as lts
+use Rattle.binary64.proofs.is_finite.Reads as is-finite-reads
+use Rattle.training_tables.proofs.both_finite.Reads as both-finite-reads
+use Rattle.updates.proofs.refuse.Reads as refuse-reads
+use Rattle.updates.proofs.update.Reads as update-reads
+
+add-visits : tie.Need-add-visits
+add-visits c = search needs
+
+int-to-float-counter : tie.Need-int-to-float-counter
+unfolding inFloat
+int-to-float-counter c = le→leb (c .before .before .before .before .before .before .args .s .visits + 1) 9007199254740992 (omega (arith, c .before .before .before .before .before .before .pre .1))
+
+update-requires : tie.Need-update-requires
+update-requires c κs = search needs
+
+is-finite-requires : tie.Need-is-finite-requires
+is-finite-requires c κs = search needs
+
+add-t22 : tie.Need-add-t22
+add-t22 c = search needs
+
+same-length : tie.Need-same-length
+same-length c = search needs
+
+same-length-2 : tie.Need-same-length-2
+same-length-2 c = search needs
+
+returns : tie.Need-returns
+returns c =
+    let u = c .before .before .before .before .before .before .before .before .before .before .update .ensures in
+    (held _ _ _ _ u _ (c .before .before .before .is-finite .ensures) (c .before .if1 .taken), record { visits = omega arith; updates = omega (arith, c .before .before .before .before .before .before .before .before .before .before .before .before .before .before .before .before .before .before .before .pre .1) })
+
+both-finite-requires : tie.Need-both-finite-requires
+both-finite-requires c κs = search needs
+
+refuse-requires : tie.Need-refuse-requires
+refuse-requires c κs = search needs
+
+refuse-requires-2 : tie.Need-refuse-requires-2
+refuse-requires-2 c κs = search needs
+
+same-length-3 : tie.Need-same-length-3
+same-length-3 c = search needs
+
+same-length-4 : tie.Need-same-length-4
+same-length-4 c = search needs
+
+returns-2 : tie.Need-returns-2
+returns-2 c =
+    let u = c .before .before .before .before .before .before .before .before .before .before .before .before .update .ensures in
+    let made = c .refuse .ensures in
+    (not-held _ _ _ _ u _ (c .before .before .before .before .before .is-finite .ensures) (c .before .before .before .if1 .left) (sym (c .before .before .both-finite .ensures) ∙ c .before .if2 .taken) (made _), refused-counted 9 _ _ made (c .before .before .before .before .before .before .before .before .before .before .before .before .before .before .before .before .before .before .before .before .before .pre .1 .1))
+
+same-length-5 : tie.Need-same-length-5
+same-length-5 c = search needs
+
+same-length-6 : tie.Need-same-length-6
+same-length-6 c = search needs
+
+returns-3 : tie.Need-returns-3
+returns-3 c =
+    let made = c .refuse2 .ensures in
+    (not-counted _ _ _ _ (sym (c .before .before .both-finite .ensures) ∙ c .before .if2 .left) (made _), refused-counted 8 _ _ made (c .before .before .before .before .before .before .before .before .before .before .before .before .before .before .before .before .before .before .before .before .before .pre .1 .1))
+
+pub learn-spec : {M : Type 1} → statement M
+learn-spec =
+    tie.close
+    (tie.spec
+    add-visits
+    int-to-float-counter
+    update-requires
+    is-finite-requires
+    add-t22
+    same-length
+    same-length-2
+    returns
+    both-finite-requires
+    refuse-requires
+    refuse-requires-2
+    same-length-3
+    same-length-4
+    returns-2
+    same-length-5
+    same-length-6
+    returns-3)

@@ -1,0 +1,47 @@
+-- What the code of a visit is held to: the rule that its trainer stands for, and when a step and the two tables are as a definition has them. Assumes nothing.
+use mathlib.Core.Path.{_≡_}
+use mathlib.Core.Bool.{false, cond, _&&_}
+use mathlib.Core.List.{List}
+use Prim.Native.Nat.{ℕ, _+_, _≤_}
+use lib.ListN.{length}
+use lib.Ieee.{Float}
+use Rattle.training.specs.declared.Step.{Step}
+use Rattle.training.specs.Data.{allFinite}
+use Rattle.training.specs.Rules.{Rule, Learned, Mistake, perceptron, passive, arow, updatedBy}
+use Rattle.training.specs.Visits.{State, refusedAs, changedTo, heldTo}
+use Rattle.training.specs.Epochs.{isRefused}
+use Rattle.updates.specs.declared.Trainer.{Trainer}
+
+-- the rule of a trainer
+abbrev pub ruleOf : Trainer → Rule
+ruleOf Trainer.Perceptron = perceptron
+ruleOf (Trainer.Passive variant c sensitive averaging) = passive variant c sensitive averaging
+ruleOf (Trainer.Arow variance gamma) = arow variance gamma
+
+-- the state that a step and the two tables make
+abbrev pub stateOf : Step → List Float → List Float → State
+stateOf step weights beside = record { step = step; learned = record { weights = weights; beside = beside } }
+
+-- the step is the definition's, and so are the tables unless the visit was refused: then nobody reads them, since they are to be zero
+pub record Agreed (made meant : State) : Type 0 where
+  pub step : made .step ≡ meant .step
+  pub whole : isRefused (meant .step .visit) ≡ false → made ≡ meant
+
+-- the counters rise by one visit at most
+pub record Counted (before after : Step) : Type 0 where
+  pub visits : after .visits ≤ before .visits + 1
+  pub updates : after .updates ≤ after .visits
+
+-- where labels differ: 8 for the counts, then the update and 9
+unfoldable pub settled : Rule → ℕ → Mistake → State → State
+settled rule features k s =
+    cond (allFinite (k .truly) features && allFinite (k .predicted) features)
+    (heldTo features s (changedTo (updatedBy rule features k (s .learned)) s))
+    (refusedAs 8 s)
+
+-- the tables that training changes are exactly as long as there are features
+pub record Exact (features : ℕ) (weights beside truly predicted : List Float) : Type 0 where
+  pub weights-long : length weights ≡ features
+  pub beside-long : length beside ≡ features
+  pub truly-long : length truly ≡ features
+  pub predicted-long : length predicted ≡ features
