@@ -10,14 +10,14 @@ ghost use Rattle.lines.specs.Tables.{Model};
 ghost use Rattle.training.specs.Data.{Data};
 ghost use Rattle.training.specs.Rules.{Learned, besideAtFirst, averagedAt, averagedBy};
 ghost use Rattle.training.specs.Epochs.{Settings, Run, Result, finished};
-ghost use Rattle.updates.specs.Updating.{ruleOf};
+ghost use Rattle.parameters.specs.Trainers.{ruleOf};
 ghost use Rattle.begin_and_end.specs.Ending.{whyOf, Begun, Swept, AveragedAs, Finished};
 use refusals::Refusal;
 use training::Step;
 use training::Trained;
 use training::Training;
 use training::Visit;
-use updates::Trainer;
+use parameters::Trainer;
 
 // What a run of epochs comes to: the last step, and how many epochs were run.
 pub struct Ran {

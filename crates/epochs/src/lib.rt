@@ -11,14 +11,15 @@ ghost use Rattle.training.specs.Orders.{OrderOf};
 ghost use Rattle.feature_gen.specs.Sound.{Sound};
 ghost use Rattle.training_check.specs.Sound.{SoundData};
 ghost use Rattle.prediction.specs.Tables.{modelOf, dataOf};
-ghost use Rattle.updates.specs.Updating.{ruleOf, stateOf, Agreed, Exact};
+ghost use Rattle.parameters.specs.Trainers.{ruleOf};
+ghost use Rattle.updates.specs.Updating.{stateOf, Agreed, Exact};
 ghost use Rattle.begin_and_end.specs.Ending.{Finished};
 ghost use Rattle.epochs.specs.Running.{CountedIn, firstStep};
 use begin_and_end::Ran;
 use prediction::Sizes;
 use training::Step;
 use training::Visit;
-use updates::Trainer;
+use parameters::Trainer;
 
 // An epoch's visits: the first that is refused ends it.
 fn epoch(

@@ -6,11 +6,12 @@ ghost use Rattle.training.specs.Epochs.{Result, trained};
 ghost use Rattle.feature_gen.specs.Sound.{Sound};
 ghost use Rattle.training_check.specs.Sound.{SoundData};
 ghost use Rattle.prediction.specs.Tables.{modelOf, dataOf};
-ghost use Rattle.updates.specs.Updating.{ruleOf, Exact};
+ghost use Rattle.parameters.specs.Trainers.{ruleOf};
+ghost use Rattle.updates.specs.Updating.{Exact};
 ghost use Rattle.begin_and_end.specs.Ending.{Swept};
 use prediction::Sizes;
 use training::Training;
-use updates::Trainer;
+use parameters::Trainer;
 
 // Training, from the tables as they are lent to the result.
 pub fn train(

@@ -1,1 +1,2 @@
+pub mod Trainers
 pub mod Parameters

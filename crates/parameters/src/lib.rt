@@ -1,7 +1,9 @@
-// The parameters of the three trainers, and refusal 7: "each trainer tests only its own".
+// The parameters of the three trainers, the trainer that they stand for, and refusal 7: "each trainer tests only its own".
 ghost use mathlib.Core.Path.{_≡_};
 ghost use mathlib.Core.List.{[], _∷_};
 ghost use Rattle.refusals.specs.Refusals.{firstFrom};
+ghost use Rattle.training.specs.Rules.{passive, arow};
+ghost use Rattle.parameters.specs.Trainers.{on, ruleOf};
 ghost use Rattle.parameters.specs.Parameters.{negative, notAboveZero, epochs, epsilon, sevens, perceptronsOwn, passivesOwn, arowsOwn};
 use refusals::Checked;
 
@@ -35,6 +37,48 @@ pub struct Arow {
     pub seed: u64,
     pub variance: f64,
     pub gamma: f64,
+}
+
+// A trainer with its own parameters; variants 0 Pa, 1 PaI, 2 PaII.
+pub enum Trainer {
+    Perceptron,
+    Passive {
+        variant: u32,
+        c: f64,
+        sensitive: bool,
+        averaging: bool,
+    },
+    Arow {
+        variance: f64,
+        gamma: f64,
+    },
+}
+
+// A switch that comes as a number.
+fn is_on(switch: u32) -> bool
+    ensures { λ r. ⌜ r ≡ on switch ⌝ }
+{
+    switch != 0
+}
+
+pub fn passive_trainer(parameters: Passive) -> Trainer
+    ensures { λ r. ⌜ ruleOf r ≡ passive (parameters .variant) (parameters .c) (on (parameters .sensitive)) (on (parameters .averaging)) ⌝ }
+{
+    Trainer::Passive {
+        variant: parameters.variant,
+        c: parameters.c,
+        sensitive: is_on(parameters.sensitive),
+        averaging: is_on(parameters.averaging),
+    }
+}
+
+pub fn arow_trainer(parameters: Arow) -> Trainer
+    ensures { λ r. ⌜ ruleOf r ≡ arow (parameters .variance) (parameters .gamma) ⌝ }
+{
+    Trainer::Arow {
+        variance: parameters.variance,
+        gamma: parameters.gamma,
+    }
 }
 
 // Below 0, or not finite: −0 is neither.

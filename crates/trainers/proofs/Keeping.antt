@@ -1,6 +1,5 @@
 -- From what the shared functions are held to, to the promise. Assumes nothing.
 use mathlib.Core.Path.{_≡_, refl, sym, ap, _∙_}
-use mathlib.Core.Bool.{Bool}
 use mathlib.Core.List.{List, _++_}
 use Prim.Native.Nat.{ℕ, _≤_}
 use lib.ListN.{length, take, drop}
@@ -11,15 +10,14 @@ use Rattle.refusals.specs.declared.Checked.{Checked}
 use Rattle.refusals.specs.declared.Checked.the-variants.{Accepted, Refused}
 use Rattle.refusals.specs.Refusals.{firstFrom}
 use Rattle.training.specs.declared.Training.{Training}
-use Rattle.training.specs.Rules.{Rule, passive}
+use Rattle.training.specs.Rules.{Rule}
 use Rattle.training.specs.Epochs.{Settings, Result, trained}
 use Rattle.begin_and_end.specs.Ending.{Swept}
-use Rattle.parameters.specs.declared.Passive.{Passive}
 use Rattle.parameters.specs.Parameters.{AllFit, mostEpochs, sevens}
 use Rattle.training_check.specs.Rows.{inputChecked}
 use Rattle.training_check.proofs.Laws.{with-parameters}
 use Rattle.training_check.proofs.Meant.{training-means}
-use Rattle.trainers.specs.Promise.{Call, averagedPerceptron, passiveAggressive, adaptive, Given, Buffers, Outcome, said, on, ruleFor, settingsFor, ownOf, inputOf, checkedOf, answerTo, buffersAfter, Promised}
+use Rattle.trainers.specs.Promise.{Call, averagedPerceptron, passiveAggressive, adaptive, Given, Buffers, Outcome, said, ruleFor, settingsFor, ownOf, inputOf, checkedOf, answerTo, buffersAfter, Promised}
 use Rattle.trainers.specs.Inside.{Ready, Kept}
 
 -- a front that fits is as long as it is meant to be
@@ -81,7 +79,3 @@ module _ (call : Call) (given : Given) (before : Buffers) where
   pub kept-promised : {checked : Checked} {rule : Rule} {outcome : Outcome} → checked ≡ checkedOf call given before → rule ≡ ruleFor call → Kept checked rule (settingsFor call) given before outcome → Promised call given before outcome
   unfolding answerTo buffersAfter
   kept-promised e f k = record { answers = rw (← e, ← f) (k .answers); after = rw (← e, ← f) (k .after) }
-
--- both switches
-pub switched : (p : Passive) {a b : Bool} → a ≡ on (p .sensitive) → b ≡ on (p .averaging) → passive (p .variant) (p .c) a b ≡ ruleFor (passiveAggressive p)
-switched p e f i = passive (p .variant) (p .c) (e i) (f i)

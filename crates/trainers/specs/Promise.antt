@@ -1,9 +1,7 @@
 -- What the three trainers promise, in one promise: document 01's answer to what a call is given, and what the lent buffers hold afterwards. Assumes nothing.
 use mathlib.Core.Path.{_≡_}
-use mathlib.Core.Bool.{Bool, not}
 use mathlib.Core.List.{List, _++_}
 use Prim.Native.Nat.{ℕ}
-use lib.Dec.{eqb}
 use lib.ListN.{length, drop}
 use lib.Ieee.{Float}
 use Rattle.refusals.specs.declared.Checked.{Checked}
@@ -18,6 +16,7 @@ use Rattle.training.specs.Epochs.{Settings, Result, trained}
 use Rattle.parameters.specs.declared.Perceptron.{Perceptron}
 use Rattle.parameters.specs.declared.Passive.{Passive}
 use Rattle.parameters.specs.declared.Arow.{Arow}
+use Rattle.parameters.specs.Trainers.{on}
 use Rattle.parameters.specs.Parameters.{Parameter, perceptronsOwn, passivesOwn, arowsOwn}
 use Rattle.training_check.specs.Rows.{Input, trainingChecked}
 
@@ -53,10 +52,6 @@ pub data Said : Type 0 where
 abbrev pub said : Training → Said
 said (Training.Accepted t) = accepted (t .epochs) (t .visits) (t .updates)
 said (Training.Refused why) = refused (why .number) (why .place)
-
--- "two switches, error-sensitive and averaging; where one comes as a number, 0 is off and all else on"
-abbrev pub on : ℕ → Bool
-on switch = not (eqb switch 0)
 
 -- the update and the stop test
 abbrev pub ruleFor : Call → Rule

@@ -4,8 +4,8 @@ ghost use mathlib.Core.Path.{_≡_};
 ghost use Rattle.refusals.specs.declared.Checked.the-variants.{Accepted};
 ghost use Rattle.feature_gen.specs.Lent.{modelOf};
 ghost use Rattle.training_check.specs.Lent.{dataOf};
-ghost use Rattle.updates.specs.Updating.{ruleOf};
-ghost use Rattle.trainers.specs.Promise.{on, averagedPerceptron, passiveAggressive, adaptive, Promised};
+ghost use Rattle.parameters.specs.Trainers.{ruleOf};
+ghost use Rattle.trainers.specs.Promise.{averagedPerceptron, passiveAggressive, adaptive, Promised};
 ghost use Rattle.trainers.specs.Inside.{Ready, Kept};
 use feature_gen::Counts;
 use parameters::Arow;
@@ -16,14 +16,7 @@ use refusals::Checked;
 use training::Training;
 use training_check::Lent;
 use training_check::Totals;
-use updates::Trainer;
-
-// A switch that comes as a number.
-fn is_on(switch: u32) -> bool
-    ensures { λ r. ⌜ r ≡ on switch ⌝ }
-{
-    switch != 0
-}
+use parameters::Trainer;
 
 // Training on what is accepted, in the fronts of the buffers.
 fn train_fronts(
@@ -298,12 +291,7 @@ pub fn passive_aggressive(
         lent,
     );
     let checked = parameters::check_passive(input, parameters);
-    let rule = Trainer::Passive {
-        variant: parameters.variant,
-        c: parameters.c,
-        sensitive: is_on(parameters.sensitive),
-        averaging: is_on(parameters.averaging),
-    };
+    let rule = parameters::passive_trainer(parameters);
     train_checked(
         checked,
         rule,
@@ -388,10 +376,7 @@ pub fn arow(
         lent,
     );
     let checked = parameters::check_arow(input, parameters);
-    let rule = Trainer::Arow {
-        variance: parameters.variance,
-        gamma: parameters.gamma,
-    };
+    let rule = parameters::arow_trainer(parameters);
     train_checked(
         checked,
         rule,

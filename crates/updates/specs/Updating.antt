@@ -1,4 +1,4 @@
--- What the code of a visit is held to: the rule that its trainer stands for, and when a step and the two tables are as a definition has them. Assumes nothing.
+-- What the code of a visit is held to: when a step and the two tables are as a definition has them. Assumes nothing.
 use mathlib.Core.Path.{_≡_}
 use mathlib.Core.Bool.{false, cond, _&&_}
 use mathlib.Core.List.{List}
@@ -7,16 +7,9 @@ use lib.ListN.{length}
 use lib.Ieee.{Float}
 use Rattle.training.specs.declared.Step.{Step}
 use Rattle.training.specs.Data.{allFinite}
-use Rattle.training.specs.Rules.{Rule, Learned, Mistake, perceptron, passive, arow, updatedBy}
+use Rattle.training.specs.Rules.{Rule, Learned, Mistake, updatedBy}
 use Rattle.training.specs.Visits.{State, refusedAs, changedTo, heldTo}
 use Rattle.training.specs.Epochs.{isRefused}
-use Rattle.updates.specs.declared.Trainer.{Trainer}
-
--- the rule of a trainer
-abbrev pub ruleOf : Trainer → Rule
-ruleOf Trainer.Perceptron = perceptron
-ruleOf (Trainer.Passive variant c sensitive averaging) = passive variant c sensitive averaging
-ruleOf (Trainer.Arow variance gamma) = arow variance gamma
 
 -- the state that a step and the two tables make
 abbrev pub stateOf : Step → List Float → List Float → State

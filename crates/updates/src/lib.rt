@@ -8,27 +8,14 @@ ghost use Rattle.training.specs.Rules.{Learned, Mistake, stops};
 ghost use Rattle.training.specs.Visits.{refusedAs, unchanged as unchangedIn};
 ghost use Rattle.training.specs.Epochs.{isRefused, endsAfter};
 ghost use Rattle.training_tables.specs.Tables.{Held, Updated};
-ghost use Rattle.updates.specs.Updating.{ruleOf, stateOf, Agreed, Counted, settled};
+ghost use Rattle.parameters.specs.Trainers.{ruleOf};
+ghost use Rattle.updates.specs.Updating.{stateOf, Agreed, Counted, settled};
 use judging::Prediction;
+use parameters::Trainer;
 use refusals::Refusal;
 use training::Step;
 use training::Visit;
 use training_tables::Outcome;
-
-// A trainer with its own parameters; variants 0 Pa, 1 PaI, 2 PaII.
-pub enum Trainer {
-    Perceptron,
-    Passive {
-        variant: u32,
-        c: f64,
-        sensitive: bool,
-        averaging: bool,
-    },
-    Arow {
-        variance: f64,
-        gamma: f64,
-    },
-}
 
 // The update by the trainer's rule.
 fn update(

@@ -10,11 +10,12 @@ ghost use Rattle.training.specs.Visits.{visited};
 ghost use Rattle.feature_gen.specs.Sound.{Sound};
 ghost use Rattle.training_check.specs.Sound.{SoundData};
 ghost use Rattle.prediction.specs.Tables.{modelOf, wordsIn, dataOf, SoundLine};
-ghost use Rattle.updates.specs.Updating.{ruleOf, stateOf, Agreed, Counted, settled, Exact};
+ghost use Rattle.parameters.specs.Trainers.{ruleOf};
+ghost use Rattle.updates.specs.Updating.{stateOf, Agreed, Counted, settled, Exact};
 use judging::Prediction;
 use prediction::Sizes;
 use training::Step;
-use updates::Trainer;
+use parameters::Trainer;
 
 // The labels differ: the true counts, the predicted counts, then the update.
 fn correct(

@@ -7,7 +7,7 @@ use mathlib.Core.List.{List}
 use lib.Ieee.{Float}
 use Rattle.lines.specs.Passes.{through}
 use Rattle.training.specs.Rules.{averagedAt, averagedBy}
-use Rattle.updates.specs.Updating.{ruleOf}
+use Rattle.parameters.specs.Trainers.{ruleOf}
 use Rattle.begin_and_end.proofs.average.Statement.{statement}
 use Rattle.begin_and_end.proofs.average.Tie as tie
 use Rattle.begin_and_end.proofs.average.Reads as reads

@@ -11,7 +11,8 @@ use Rattle.training.specs.Visits.{State, visited}
 use Rattle.training.specs.Epochs.{isRefused, opened, visitedAt}
 use Rattle.training.proofs.Epochs.{epoch-end}
 use Rattle.prediction.specs.Tables.{modelOf, dataOf}
-use Rattle.updates.specs.Updating.{ruleOf, stateOf, Exact}
+use Rattle.parameters.specs.Trainers.{ruleOf}
+use Rattle.updates.specs.Updating.{stateOf, Exact}
 use Rattle.updates.proofs.Laws.{exactly}
 use Rattle.epochs.proofs.Laws.{visited-next, visited-cut}
 use Rattle.epochs.proofs.epoch.Statement.{statement}

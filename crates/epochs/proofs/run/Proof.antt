@@ -14,7 +14,8 @@ use Rattle.training.specs.Epochs.{Run, epochUnlessOver}
 use Rattle.training.specs.Orders.{OrderOf}
 use Rattle.training.proofs.Orders.{places-below}
 use Rattle.prediction.specs.Tables.{modelOf, dataOf}
-use Rattle.updates.specs.Updating.{ruleOf, stateOf, Exact}
+use Rattle.parameters.specs.Trainers.{ruleOf}
+use Rattle.updates.specs.Updating.{stateOf, Exact}
 use Rattle.epochs.proofs.Laws.{dealt-keeps, all-run, run-on, run-ended}
 use Rattle.epochs.proofs.run.Statement.{statement}
 use Rattle.epochs.proofs.run.Tie as tie

@@ -10,7 +10,7 @@ use Rattle.training.specs.Data.{Data}
 use Rattle.training.specs.Epochs.{Settings, ran, begun, trained}
 use Rattle.training.proofs.Orders.{order-first}
 use Rattle.prediction.specs.Tables.{modelOf, dataOf}
-use Rattle.updates.specs.Updating.{ruleOf}
+use Rattle.parameters.specs.Trainers.{ruleOf}
 use Rattle.begin_and_end.specs.Ending.{Finished}
 use Rattle.learning.proofs.train.Statement.{statement}
 use Rattle.learning.proofs.train.Tie as tie

@@ -1,5 +1,5 @@
 -- `trainers::arow` keeps its promise. Assumes nothing.
-use mathlib.Core.Path.{_≡_, refl}
+use mathlib.Core.Path.{_≡_}
 use borrow.Author.Needs.{needs}
 use Rattle.feature_gen.specs.Lent.{modelOf}
 use Rattle.training_check.specs.Lent.{dataOf}
@@ -35,9 +35,12 @@ check-input-requires c κs = search needs
 check-arow-requires : tie.Need-check-arow-requires
 check-arow-requires c κs = search needs
 
+arow-trainer-requires : tie.Need-arow-trainer-requires
+arow-trainer-requires c κs = search needs
+
 train-checked-requires : tie.Need-train-checked-requires
 train-checked-requires c κs = λ h.
-    let k = c .before .before .before .before .before in
+    let k = c .before .before .before .before .before .before in
     ready (adaptive (start k .args .parameters)) (given (start k)) (lent (start k)) (checked-so k) h
 
 same-length : tie.Need-same-length
@@ -57,8 +60,8 @@ same-length-5 c = c .before .before .before .before .before .before .before .bef
 
 returns : tie.Need-returns
 returns c =
-    let k = c .before .before .before .before .before .before .before .before .before .before .before .before .before .before .before .before in
-    kept-promised (adaptive (start k .args .parameters)) (given (start k)) (lent (start k)) (checked-so k) refl (c .before .before .before .before .before .before .before .before .before .before .train-checked .ensures)
+    let k = c .before .before .before .before .before .before .before .before .before .before .before .before .before .before .before .before .before in
+    kept-promised (adaptive (start k .args .parameters)) (given (start k)) (lent (start k)) (checked-so k) (c .before .before .before .before .before .before .before .before .before .before .before .before .before .before .before .before .arow-trainer .ensures) (c .before .before .before .before .before .before .before .before .before .before .train-checked .ensures)
 
 pub arow-spec : {M : Type 1} → statement M
 arow-spec =
@@ -66,6 +69,7 @@ arow-spec =
     (tie.spec
     check-input-requires
     check-arow-requires
+    arow-trainer-requires
     train-checked-requires
     same-length
     same-length-2

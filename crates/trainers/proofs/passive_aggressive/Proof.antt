@@ -4,7 +4,7 @@ use borrow.Author.Needs.{needs}
 use Rattle.feature_gen.specs.Lent.{modelOf}
 use Rattle.training_check.specs.Lent.{dataOf}
 use Rattle.trainers.specs.Promise.{passiveAggressive, Given, Buffers, checkedOf}
-use Rattle.trainers.proofs.Keeping.{switched, checked-is, ready, kept-promised}
+use Rattle.trainers.proofs.Keeping.{checked-is, ready, kept-promised}
 use Rattle.trainers.proofs.passive_aggressive.Statement.{statement}
 use Rattle.trainers.proofs.passive_aggressive.Tie as tie
 
@@ -35,15 +35,12 @@ check-input-requires c κs = search needs
 check-passive-requires : tie.Need-check-passive-requires
 check-passive-requires c κs = search needs
 
-is-on-requires : tie.Need-is-on-requires
-is-on-requires c κs = search needs
-
-is-on-requires-2 : tie.Need-is-on-requires-2
-is-on-requires-2 c κs = search needs
+passive-trainer-requires : tie.Need-passive-trainer-requires
+passive-trainer-requires c κs = search needs
 
 train-checked-requires : tie.Need-train-checked-requires
 train-checked-requires c κs = λ h.
-    let k = c .before .before .before .before .before .before .before in
+    let k = c .before .before .before .before .before .before in
     ready (passiveAggressive (start k .args .parameters)) (given (start k)) (lent (start k)) (checked-so k) h
 
 same-length : tie.Need-same-length
@@ -63,8 +60,8 @@ same-length-5 c = c .before .before .before .before .before .before .before .bef
 
 returns : tie.Need-returns
 returns c =
-    let k = c .before .before .before .before .before .before .before .before .before .before .before .before .before .before .before .before .before .before in
-    kept-promised (passiveAggressive (start k .args .parameters)) (given (start k)) (lent (start k)) (checked-so k) (switched (start k .args .parameters) (c .before .before .before .before .before .before .before .before .before .before .before .before .before .before .before .before .before .is-on .ensures) (c .before .before .before .before .before .before .before .before .before .before .before .before .before .before .before .before .is-on2 .ensures)) (c .before .before .before .before .before .before .before .before .before .before .train-checked .ensures)
+    let k = c .before .before .before .before .before .before .before .before .before .before .before .before .before .before .before .before .before in
+    kept-promised (passiveAggressive (start k .args .parameters)) (given (start k)) (lent (start k)) (checked-so k) (c .before .before .before .before .before .before .before .before .before .before .before .before .before .before .before .before .passive-trainer .ensures) (c .before .before .before .before .before .before .before .before .before .before .train-checked .ensures)
 
 pub passive-aggressive-spec : {M : Type 1} → statement M
 passive-aggressive-spec =
@@ -72,8 +69,7 @@ passive-aggressive-spec =
     (tie.spec
     check-input-requires
     check-passive-requires
-    is-on-requires
-    is-on-requires-2
+    passive-trainer-requires
     train-checked-requires
     same-length
     same-length-2

@@ -13,7 +13,8 @@ use Rattle.lines.specs.Tables.{Model}
 use Rattle.training.specs.Data.{Data}
 use Rattle.training.specs.Visits.{State}
 use Rattle.prediction.specs.Tables.{modelOf, dataOf, SoundLine}
-use Rattle.updates.specs.Updating.{ruleOf, stateOf}
+use Rattle.parameters.specs.Trainers.{ruleOf}
+use Rattle.updates.specs.Updating.{stateOf}
 use Rattle.updates.proofs.Laws.{refused-counted, unchanged-counted}
 use Rattle.visits.proofs.Laws.{some-words, few-words, all-words, line-sound, unscored, same, other, front-again}
 use Rattle.visits.proofs.visit.Statement.{statement}
