@@ -12,12 +12,12 @@ ghost use Rattle.training.specs.Rules.{Learned, besideAtFirst, averagedAt, aver
 ghost use Rattle.training.specs.Epochs.{Settings, Run, Result, finished};
 ghost use Rattle.parameters.specs.Trainers.{ruleOf};
 ghost use Rattle.begin_and_end.specs.Ending.{whyOf, Begun, Swept, AveragedAs, Finished};
+use parameters::Trainer;
 use refusals::Refusal;
 use training::Step;
 use training::Trained;
 use training::Training;
 use training::Visit;
-use parameters::Trainer;
 
 // What a run of epochs comes to: the last step, and how many epochs were run.
 pub struct Ran {

@@ -16,10 +16,10 @@ ghost use Rattle.updates.specs.Updating.{stateOf, Agreed, Exact};
 ghost use Rattle.begin_and_end.specs.Ending.{Finished};
 ghost use Rattle.epochs.specs.Running.{CountedIn, firstStep};
 use begin_and_end::Ran;
+use parameters::Trainer;
 use prediction::Sizes;
 use training::Step;
 use training::Visit;
-use parameters::Trainer;
 
 // An epoch's visits: the first that is refused ends it.
 fn epoch(

@@ -9,9 +9,9 @@ ghost use Rattle.prediction.specs.Tables.{modelOf, dataOf};
 ghost use Rattle.parameters.specs.Trainers.{ruleOf};
 ghost use Rattle.updates.specs.Updating.{Exact};
 ghost use Rattle.begin_and_end.specs.Ending.{Swept};
+use parameters::Trainer;
 use prediction::Sizes;
 use training::Training;
-use parameters::Trainer;
 
 // Training, from the tables as they are lent to the result.
 pub fn train(

@@ -11,12 +11,12 @@ use feature_gen::Counts;
 use parameters::Arow;
 use parameters::Passive;
 use parameters::Perceptron;
+use parameters::Trainer;
 use prediction::Sizes;
 use refusals::Checked;
 use training::Training;
 use training_check::Lent;
 use training_check::Totals;
-use parameters::Trainer;
 
 // Training on what is accepted, in the fronts of the buffers.
 fn train_fronts(

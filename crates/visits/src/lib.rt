@@ -13,9 +13,9 @@ ghost use Rattle.prediction.specs.Tables.{modelOf, wordsIn, dataOf, SoundLine};
 ghost use Rattle.parameters.specs.Trainers.{ruleOf};
 ghost use Rattle.updates.specs.Updating.{stateOf, Agreed, Counted, settled, Exact};
 use judging::Prediction;
+use parameters::Trainer;
 use prediction::Sizes;
 use training::Step;
-use parameters::Trainer;
 
 // The labels differ: the true counts, the predicted counts, then the update.
 fn correct(
