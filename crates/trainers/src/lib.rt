@@ -18,8 +18,9 @@ use training::Training;
 use training_check::Lent;
 use training_check::Totals;
 
-// Training on what is accepted, in the fronts of the buffers.
-fn train_fronts(
+// Training in the fronts of the buffers, unless the checks refuse.
+fn train_checked(
+    checked: Checked,
     trainer: Trainer,
     allowed: u32,
     epsilon: f64,
@@ -46,9 +47,12 @@ fn train_fronts(
     predicted: &mut [f64],
     order: &mut [u32],
 ) -> Training
-    requires { ⌜ Ready (record { model = modelOf labels counts (now kinds) (now destinations) (now sources) (now «attribute_starts») (now «attribute_entries») (now «label_starts») (now «label_entries»); corpus = dataOf totals (now lines) (now begins) (now ids) (now values) (now references) (now shares) }) (record { weights = now weights; beside = now beside; truly = now truly; predicted = now predicted; order = now order }) allowed ⌝ }
-    ensures { λ r. ⌜ Kept Accepted (ruleOf trainer) (record { epochs = allowed; epsilon = epsilon; seed = seed }) (record { model = modelOf labels counts (now (kinds .entry)) (now (destinations .entry)) (now (sources .entry)) (now («attribute_starts» .entry)) (now («attribute_entries» .entry)) (now («label_starts» .entry)) (now («label_entries» .entry)); corpus = dataOf totals (now (lines .entry)) (now (begins .entry)) (now (ids .entry)) (now (values .entry)) (now (references .entry)) (now (shares .entry)) }) (record { weights = now (weights .entry); beside = now (beside .entry); truly = now (truly .entry); predicted = now (predicted .entry); order = now (order .entry) }) (record { answer = r; after = record { weights = now (weights .exit); beside = now (beside .exit); truly = now (truly .exit); predicted = now (predicted .exit); order = now (order .exit) } }) ⌝ }
+    requires { ⌜ (checked ≡ Accepted → Ready (record { model = modelOf labels counts (now kinds) (now destinations) (now sources) (now «attribute_starts») (now «attribute_entries») (now «label_starts») (now «label_entries»); corpus = dataOf totals (now lines) (now begins) (now ids) (now values) (now references) (now shares) }) (record { weights = now weights; beside = now beside; truly = now truly; predicted = now predicted; order = now order }) allowed) ⌝ }
+    ensures { λ r. ⌜ Kept checked (ruleOf trainer) (record { epochs = allowed; epsilon = epsilon; seed = seed }) (record { model = modelOf labels counts (now (kinds .entry)) (now (destinations .entry)) (now (sources .entry)) (now («attribute_starts» .entry)) (now («attribute_entries» .entry)) (now («label_starts» .entry)) (now («label_entries» .entry)); corpus = dataOf totals (now (lines .entry)) (now (begins .entry)) (now (ids .entry)) (now (values .entry)) (now (references .entry)) (now (shares .entry)) }) (record { weights = now (weights .entry); beside = now (beside .entry); truly = now (truly .entry); predicted = now (predicted .entry); order = now (order .entry) }) (record { answer = r; after = record { weights = now (weights .exit); beside = now (beside .exit); truly = now (truly .exit); predicted = now (predicted .exit); order = now (order .exit) } }) ⌝ }
 {
+    if let Checked::Refused(why) = checked {
+        return Training::Refused(why);
+    }
     let features = counts.features as usize;
     let instances = totals.instances as usize;
     let sizes = Sizes {
@@ -86,70 +90,6 @@ fn train_fronts(
         &mut beside[..features],
         &mut truly[..features],
         &mut predicted[..features],
-    )
-}
-
-// Training, unless the checks refuse.
-fn train_checked(
-    checked: Checked,
-    trainer: Trainer,
-    allowed: u32,
-    epsilon: f64,
-    seed: u64,
-    labels: u32,
-    counts: Counts,
-    kinds: &[u8],
-    destinations: &[u32],
-    sources: &[u32],
-    attribute_starts: &[u32],
-    attribute_entries: &[u32],
-    label_starts: &[u32],
-    label_entries: &[u32],
-    totals: Totals,
-    lines: &[u32],
-    begins: &[u32],
-    ids: &[u32],
-    values: &[f64],
-    references: &[u32],
-    shares: &[f64],
-    weights: &mut [f64],
-    beside: &mut [f64],
-    truly: &mut [f64],
-    predicted: &mut [f64],
-    order: &mut [u32],
-) -> Training
-    requires { ⌜ (checked ≡ Accepted → Ready (record { model = modelOf labels counts (now kinds) (now destinations) (now sources) (now «attribute_starts») (now «attribute_entries») (now «label_starts») (now «label_entries»); corpus = dataOf totals (now lines) (now begins) (now ids) (now values) (now references) (now shares) }) (record { weights = now weights; beside = now beside; truly = now truly; predicted = now predicted; order = now order }) allowed) ⌝ }
-    ensures { λ r. ⌜ Kept checked (ruleOf trainer) (record { epochs = allowed; epsilon = epsilon; seed = seed }) (record { model = modelOf labels counts (now (kinds .entry)) (now (destinations .entry)) (now (sources .entry)) (now («attribute_starts» .entry)) (now («attribute_entries» .entry)) (now («label_starts» .entry)) (now («label_entries» .entry)); corpus = dataOf totals (now (lines .entry)) (now (begins .entry)) (now (ids .entry)) (now (values .entry)) (now (references .entry)) (now (shares .entry)) }) (record { weights = now (weights .entry); beside = now (beside .entry); truly = now (truly .entry); predicted = now (predicted .entry); order = now (order .entry) }) (record { answer = r; after = record { weights = now (weights .exit); beside = now (beside .exit); truly = now (truly .exit); predicted = now (predicted .exit); order = now (order .exit) } }) ⌝ }
-{
-    if let Checked::Refused(why) = checked {
-        return Training::Refused(why);
-    }
-    train_fronts(
-        trainer,
-        allowed,
-        epsilon,
-        seed,
-        labels,
-        counts,
-        kinds,
-        destinations,
-        sources,
-        attribute_starts,
-        attribute_entries,
-        label_starts,
-        label_entries,
-        totals,
-        lines,
-        begins,
-        ids,
-        values,
-        references,
-        shares,
-        weights,
-        beside,
-        truly,
-        predicted,
-        order,
     )
 }
 
