@@ -8,10 +8,11 @@ use Rattle.refusals.specs.declared.Checked.{Checked}
 use Rattle.refusals.specs.declared.Checked.the-variants.{Accepted, Refused as refusedBy}
 use Rattle.refusals.specs.Refusals.{refuse}
 use Rattle.refusals.specs.Tables.{outside}
+use Rattle.refusal_rows.specs.Said.{saidOf}
 use Rattle.generator.specs.Draw.{number, next}
 use Rattle.shuffle.specs.Shuffle.{Deal, shuffled}
-use Rattle.exports.specs.declared.draws.Refused.{Refused}
-use Rattle.exports.specs.Numbers.{numbers}
+use Rattle.answers.specs.declared.checks.Refused.{Refused}
+use Rattle.answers.specs.Numbers.{numbers}
 
 -- a draw from a state: the number that is drawn, and the state after it
 pub record Drew (state drawn after : ℕ) : Type 0 where
@@ -35,5 +36,5 @@ dealt (refusedBy why) n d = d
 
 -- the promise: of the state and the order at entry, and the outcome
 pub record Shuffling (state : ℕ) (order : List ℕ) (o : Shuffled) : Type 0 where
-  pub answers : o .answer ≡ numbers (check (length order))
+  pub answers : o .answer ≡ numbers (saidOf (check (length order)))
   pub deals : _≡_ {A = Deal} (record { state = o .state; order = o .order }) (dealt (check (length order)) (length order) (record { state = state; order = order }))

@@ -1,68 +1,7 @@
 // Decoding a line, and the score of a path.
-ghost use mathlib.Core.Path.{_≡_};
-ghost use Rattle.viterbi.specs.Promise.{said};
-ghost use Rattle.sequence_score.specs.Promise.{said as scoreSaid};
-ghost use Rattle.exports.specs.Decoding.{decodedNumbers, Decodes, scoredNumbers, Scores};
-use sequence_score::PathScore;
-use viterbi::Decoding;
-use viterbi_end::Found;
-use viterbi_end::Lead;
-
-// The answer of a decoded line: `has_lead` is 0 where there is no lead.
-#[repr(C)]
-pub struct Decoded {
-    pub number: u32,
-    pub has_lead: u32,
-    pub place: u64,
-    pub sum: f64,
-    pub lead: f64,
-}
-
-// The answer of a scored path.
-#[repr(C)]
-pub struct Scored {
-    pub number: u32,
-    pub place: u64,
-    pub score: f64,
-}
-
-fn numbers_of_found(found: Found) -> Decoded
-    ensures { λ r. ⌜ r ≡ decodedNumbers (said (Decoding.Decoded found)) ⌝ }
-{
-    let lead = found.lead;
-    match lead {
-        Lead::NoLead => Decoded {
-            number: 0,
-            has_lead: 0,
-            place: 0,
-            sum: found.sum,
-            lead: 0.0,
-        },
-        Lead::By(x) => Decoded {
-            number: 0,
-            has_lead: 1,
-            place: 0,
-            sum: found.sum,
-            lead: x,
-        },
-    }
-}
-
-// The numbers of a decoded line, also for the calls of scoring_exports.
-pub fn numbers_of_decoding(answer: Decoding) -> Decoded
-    ensures { λ r. ⌜ r ≡ decodedNumbers (said answer) ⌝ }
-{
-    match answer {
-        Decoding::Decoded(found) => numbers_of_found(found),
-        Decoding::Refused(why) => Decoded {
-            number: why.number,
-            has_lead: 0,
-            place: why.place,
-            sum: 0.0,
-            lead: 0.0,
-        },
-    }
-}
+ghost use Rattle.exports.specs.Decoding.{Decodes, Scores};
+use answers::decoding::Decoded;
+use answers::decoding::Scored;
 
 // The best path over the score tables of a line, with its sum and lead.
 #[no_mangle]
@@ -76,24 +15,7 @@ pub extern "C" fn bodkinbloom_viterbi_decode(
     ensures { λ r. ⌜ Decodes (record { labels = labels; words = words; transitions = now (transitions .entry); states = now (states .entry) }) (now (path .entry)) (record { answer = r; path = now (path .exit) }) ⌝ }
 {
     let answer = viterbi::viterbi_decode(labels, words, transitions, states, path);
-    numbers_of_decoding(answer)
-}
-
-fn numbers_of_score(answer: PathScore) -> Scored
-    ensures { λ r. ⌜ r ≡ scoredNumbers (scoreSaid answer) ⌝ }
-{
-    match answer {
-        PathScore::Scored(score) => Scored {
-            number: 0,
-            place: 0,
-            score: score,
-        },
-        PathScore::Refused(why) => Scored {
-            number: why.number,
-            place: why.place,
-            score: 0.0,
-        },
-    }
+    answers::decoding::numbers_of_decoding(answer)
 }
 
 // The score of the first `count` labels of a path over the score tables of a line.
@@ -109,5 +31,5 @@ pub extern "C" fn bodkinbloom_sequence_score(
     ensures { λ r. ⌜ Scores (record { labels = labels; words = words; transitions = now (transitions .entry); states = now (states .entry); path = now (path .entry); count = count }) r ⌝ }
 {
     let answer = sequence_score::sequence_score(labels, words, transitions, states, path, count);
-    numbers_of_score(answer)
+    answers::decoding::numbers_of_score(answer)
 }

@@ -1,13 +1,7 @@
 // A draw, and the shuffle of an order.
 ghost use mathlib.Core.Path.{_≡_};
 ghost use Rattle.exports.specs.Draws.{Drew, Shuffled, Shuffling};
-
-// A refusal of document 01; the number 0 says that nothing was refused.
-#[repr(C)]
-pub struct Refused {
-    pub number: u32,
-    pub place: u64,
-}
+use answers::checks::Refused;
 
 // One draw of SplitMix64: the number is the answer, and the state is advanced.
 #[no_mangle]

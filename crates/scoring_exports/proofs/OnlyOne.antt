@@ -7,8 +7,8 @@ use Rattle.feature_gen.specs.CheckModel as model
 use Rattle.feature_gen.specs.SetWeights.{Setting}
 use Rattle.scoring.specs.Promise as scores
 use Rattle.counting.specs.Promise as counts
-use Rattle.exports.specs.declared.draws.Refused.{Refused}
-use Rattle.exports.specs.Decoding.{Outcome}
+use Rattle.answers.specs.declared.checks.Refused.{Refused}
+use Rattle.answers.specs.Numbers.{DecodedLine}
 use Rattle.scoring_exports.specs.Model as weights
 use Rattle.scoring_exports.specs.Model.{Checks, Sets}
 use Rattle.scoring_exports.specs.Line.{Scored, Scores, Amounts, Counted, Labels}
@@ -35,7 +35,7 @@ one-counted given before a b p q =
     let n : a .amounts ≡ b .amounts = p .amounts ∙ sym (q .amounts) in
     λ i. record { answer = e i; amounts = n i }
 
-pub one-labelled : (given : scores.Given) (before : List ℕ) (a b : Outcome) → Labels given before a → Labels given before b → a ≡ b
+pub one-labelled : (given : scores.Given) (before : List ℕ) (a b : DecodedLine) → Labels given before a → Labels given before b → a ≡ b
 one-labelled given before a b p q =
     let e : a .answer ≡ b .answer = p .answers ∙ sym (q .answers) in
     let d : a .path ≡ b .path = p .path ∙ sym (q .path) in

@@ -3,17 +3,11 @@ use mathlib.Core.Path.{_≡_}
 use mathlib.Core.List.{List}
 use Prim.Native.Nat.{ℕ}
 use lib.Ieee.{Float}
-use Rattle.finished.specs.Said.{Said, done, refused}
 use Rattle.scoring.specs.Promise as scores
 use Rattle.counting.specs.Promise as counts
 use Rattle.label_line.specs.Promise as labels
-use Rattle.exports.specs.declared.draws.Refused.{Refused}
-use Rattle.exports.specs.Decoding.{decodedNumbers, Outcome}
-
--- document 01's number and place; the number 0 where nothing is refused
-abbrev pub lineNumbers : Said → Refused
-lineNumbers done = record { number = 0; place = 0 }
-lineNumbers (refused number place) = record { number = number; place = place }
+use Rattle.answers.specs.declared.checks.Refused.{Refused}
+use Rattle.answers.specs.Numbers.{numbers, decodedNumbers, DecodedLine}
 
 -- the answer, and what the lent buffers hold afterwards
 pub record Scored : Type 0 where
@@ -23,7 +17,7 @@ pub record Scored : Type 0 where
 
 -- the promise of a scored line
 pub record Scores (given : scores.Given) (before : scores.Buffers) (outcome : Scored) : Type 0 where
-  pub answers : outcome .answer ≡ lineNumbers (scores.answerTo given before)
+  pub answers : outcome .answer ≡ numbers (scores.answerTo given before)
   pub states : outcome .states ≡ scores.statesAfter given before
   pub transitions : outcome .transitions ≡ scores.transitionsAfter given before
 
@@ -34,10 +28,10 @@ pub record Amounts : Type 0 where
 
 -- the promise of a counted line
 pub record Counted (given : counts.Given) (before : List Float) (outcome : Amounts) : Type 0 where
-  pub answers : outcome .answer ≡ lineNumbers (counts.answerTo given before)
+  pub answers : outcome .answer ≡ numbers (counts.answerTo given before)
   pub amounts : outcome .amounts ≡ counts.amountsAfter given before
 
 -- the promise of a labelled line: its answer has the numbers of a decoded one
-pub record Labels (given : scores.Given) (before : List ℕ) (outcome : Outcome) : Type 0 where
+pub record Labels (given : scores.Given) (before : List ℕ) (outcome : DecodedLine) : Type 0 where
   pub answers : outcome .answer ≡ decodedNumbers (labels.answerTo given before)
   pub path : outcome .path ≡ labels.pathAfter given before

@@ -1,26 +1,8 @@
 // The feature counts of a line.
-ghost use mathlib.Core.Path.{_≡_};
 ghost use Rattle.feature_gen.specs.Lent.{modelOf};
-ghost use Rattle.counting.specs.Promise.{said};
-ghost use Rattle.scoring_exports.specs.Line.{lineNumbers, Counted};
-use counting::LineCounts;
-use exports::draws::Refused;
+ghost use Rattle.scoring_exports.specs.Line.{Counted};
+use answers::checks::Refused;
 use feature_gen::Counts;
-
-fn numbers_of_counts(answer: LineCounts) -> Refused
-    ensures { λ r. ⌜ r ≡ lineNumbers (said answer) ⌝ }
-{
-    match answer {
-        LineCounts::Counted => Refused {
-            number: 0,
-            place: 0,
-        },
-        LineCounts::Refused(why) => Refused {
-            number: why.number,
-            place: why.place,
-        },
-    }
-}
 
 // The feature counts of a line under the labels of `path`, in the front of `amounts`.
 #[no_mangle]
@@ -62,5 +44,5 @@ pub extern "C" fn bodkinbloom_extract_features(
         path,
         amounts,
     );
-    numbers_of_counts(answer)
+    answers::checks::numbers_of_check(answer)
 }

@@ -1,7 +1,7 @@
 // Score, then decode: the labels of a line.
 ghost use Rattle.feature_gen.specs.Lent.{modelOf};
 ghost use Rattle.scoring_exports.specs.Line.{Labels};
-use exports::decoding::Decoded;
+use answers::decoding::Decoded;
 use feature_gen::Counts;
 
 // The labels of a line, in the front of `path`, with their sum and lead.
@@ -44,5 +44,5 @@ pub extern "C" fn bodkinbloom_label_line(
         values,
         path,
     );
-    exports::decoding::numbers_of_decoding(answer)
+    answers::decoding::numbers_of_decoding(answer)
 }

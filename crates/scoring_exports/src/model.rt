@@ -1,27 +1,8 @@
 // The check of a model, and its weights.
-ghost use mathlib.Core.Path.{_≡_};
 ghost use Rattle.feature_gen.specs.Lent.{modelOf};
-ghost use Rattle.feature_gen.specs.CheckModel.{said};
-ghost use Rattle.scoring_exports.specs.Model.{checkNumbers, Checks, Sets};
-use exports::draws::Refused;
+ghost use Rattle.scoring_exports.specs.Model.{Checks, Sets};
+use answers::checks::Refused;
 use feature_gen::Counts;
-use refusals::Checked;
-
-// The numbers of an answer that only says whether something is refused.
-pub fn numbers_of_check(answer: Checked) -> Refused
-    ensures { λ r. ⌜ r ≡ checkNumbers (said answer) ⌝ }
-{
-    match answer {
-        Checked::Accepted => Refused {
-            number: 0,
-            place: 0,
-        },
-        Checked::Refused(why) => Refused {
-            number: why.number,
-            place: why.place,
-        },
-    }
-}
 
 // Whether a model is one that document 01 accepts.
 #[no_mangle]
@@ -51,7 +32,7 @@ pub extern "C" fn bodkinbloom_check_model(
         label_starts,
         label_entries,
     );
-    numbers_of_check(answer)
+    answers::checks::numbers_of_check(answer)
 }
 
 // Every feature gets a new weight, in the front of `weights`.
@@ -64,5 +45,5 @@ pub extern "C" fn bodkinbloom_set_weights(
     ensures { λ r. ⌜ Sets (record { features = features; new = now (new .entry) }) (now (weights .entry)) (record { answer = r; weights = now (weights .exit) }) ⌝ }
 {
     let answer = feature_gen::set_weights(features, new, weights);
-    numbers_of_check(answer)
+    answers::checks::numbers_of_check(answer)
 }

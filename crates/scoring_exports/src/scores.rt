@@ -1,26 +1,8 @@
 // The scores of a line.
-ghost use mathlib.Core.Path.{_≡_};
 ghost use Rattle.feature_gen.specs.Lent.{modelOf};
-ghost use Rattle.scoring.specs.Promise.{said};
-ghost use Rattle.scoring_exports.specs.Line.{lineNumbers, Scores};
-use exports::draws::Refused;
+ghost use Rattle.scoring_exports.specs.Line.{Scores};
+use answers::checks::Refused;
 use feature_gen::Counts;
-use scoring::LineScores;
-
-fn numbers_of_scores(answer: LineScores) -> Refused
-    ensures { λ r. ⌜ r ≡ lineNumbers (said answer) ⌝ }
-{
-    match answer {
-        LineScores::Scored => Refused {
-            number: 0,
-            place: 0,
-        },
-        LineScores::Refused(why) => Refused {
-            number: why.number,
-            place: why.place,
-        },
-    }
-}
 
 // The state and transition scores of a line, in the fronts of `states` and `transitions`.
 #[no_mangle]
@@ -64,5 +46,5 @@ pub extern "C" fn bodkinbloom_compute_scores(
         states,
         transitions,
     );
-    numbers_of_scores(answer)
+    answers::checks::numbers_of_check(answer)
 }

@@ -15,6 +15,7 @@ use Rattle.training.specs.declared.Training.{Training}
 use Rattle.training.specs.Data.{Data}
 use Rattle.training.specs.Rules.{Rule, perceptron, passive, arow}
 use Rattle.training.specs.Epochs.{Settings, Result, trained}
+pub use Rattle.training.specs.Said.{Said, accepted, refused, said}
 use Rattle.parameters.specs.declared.Perceptron.{Perceptron}
 use Rattle.parameters.specs.declared.Passive.{Passive}
 use Rattle.parameters.specs.declared.Arow.{Arow}
@@ -44,15 +45,6 @@ pub record Buffers : Type 0 where
 pub record Outcome : Type 0 where
   pub answer : Training
   pub after : Buffers
-
--- document 01's number and values for each case of the answer: "epochs run, visits and updates"
-pub data Said : Type 0 where
-  accepted : (epochs visits updates : ℕ) → Said
-  refused : (number place : ℕ) → Said
-
-abbrev pub said : Training → Said
-said (Training.Accepted t) = accepted (t .epochs) (t .visits) (t .updates)
-said (Training.Refused why) = refused (why .number) (why .place)
 
 -- "two switches, error-sensitive and averaging; where one comes as a number, 0 is off and all else on"
 abbrev pub on : ℕ → Bool

@@ -1,6 +1,6 @@
 -- `exports::decoding::bodkinbloom_sequence_score` meets its contract: what `sequence_score` promises, as numbers. Assumes nothing.
 use mathlib.Core.Path.{ap, _∙_}
-use Rattle.exports.specs.Decoding.{scoredNumbers}
+use Rattle.answers.specs.Numbers.{scoredNumbers}
 use borrow.Author.Needs.{needs}
 use Rattle.exports.proofs.decoding.bodkinbloom_sequence_score.Statement.{statement}
 use Rattle.exports.proofs.decoding.bodkinbloom_sequence_score.Tie as tie

@@ -1,6 +1,6 @@
 -- `exports::decoding::bodkinbloom_viterbi_decode` meets its contract: what `viterbi_decode` promises, as numbers. Assumes nothing.
 use mathlib.Core.Path.{ap, _∙_}
-use Rattle.exports.specs.Decoding.{decodedNumbers}
+use Rattle.answers.specs.Numbers.{decodedNumbers}
 use borrow.Author.Needs.{needs}
 use Rattle.exports.proofs.decoding.bodkinbloom_viterbi_decode.Statement.{statement}
 use Rattle.exports.proofs.decoding.bodkinbloom_viterbi_decode.Tie as tie

@@ -1,7 +1,7 @@
 -- `scoring_exports::labels::bodkinbloom_label_line` meets its contract: what `label_line` promises, as numbers. Assumes nothing.
 use mathlib.Core.Path.{ap, _∙_}
 use borrow.Author.Needs.{needs}
-use Rattle.exports.specs.Decoding.{decodedNumbers}
+use Rattle.answers.specs.Numbers.{decodedNumbers}
 use Rattle.scoring_exports.proofs.labels.bodkinbloom_label_line.Statement.{statement}
 use Rattle.scoring_exports.proofs.labels.bodkinbloom_label_line.Tie as tie
 

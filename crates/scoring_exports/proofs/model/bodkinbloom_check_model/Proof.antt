@@ -1,7 +1,7 @@
 -- `scoring_exports::model::bodkinbloom_check_model` meets its contract: what `check_model` promises, as numbers. Assumes nothing.
 use mathlib.Core.Path.{ap, _∙_}
 use borrow.Author.Needs.{needs}
-use Rattle.scoring_exports.specs.Model.{checkNumbers}
+use Rattle.answers.specs.Numbers.{numbers}
 use Rattle.scoring_exports.proofs.model.bodkinbloom_check_model.Statement.{statement}
 use Rattle.scoring_exports.proofs.model.bodkinbloom_check_model.Tie as tie
 
@@ -12,7 +12,7 @@ numbers-of-check-requires : tie.Need-numbers-of-check-requires
 numbers-of-check-requires c κs = search needs
 
 returns : tie.Need-returns
-returns c = record { answers = c .numbers-of-check .ensures ∙ ap checkNumbers (c .before .check-model .ensures .answers) }
+returns c = record { answers = c .numbers-of-check .ensures ∙ ap numbers (c .before .check-model .ensures .answers) }
 
 pub bodkinbloom-check-model-spec : {M : Type 1} → statement M
 bodkinbloom-check-model-spec =

@@ -1,7 +1,7 @@
 -- `scoring_exports::model::bodkinbloom_set_weights` meets its contract: what `set_weights` promises, as numbers. Assumes nothing.
 use mathlib.Core.Path.{ap, _∙_}
 use borrow.Author.Needs.{needs}
-use Rattle.scoring_exports.specs.Model.{checkNumbers}
+use Rattle.answers.specs.Numbers.{numbers}
 use Rattle.scoring_exports.proofs.model.bodkinbloom_set_weights.Statement.{statement}
 use Rattle.scoring_exports.proofs.model.bodkinbloom_set_weights.Tie as tie
 
@@ -18,7 +18,7 @@ returns : tie.Need-returns
 returns c =
     let s = c .before .before .before in
     record {
-      answers = c .numbers-of-check .ensures ∙ ap checkNumbers (s .set-weights .ensures .answers);
+      answers = c .numbers-of-check .ensures ∙ ap numbers (s .set-weights .ensures .answers);
       weights = s .set-weights .ensures .weights;
     }
 

@@ -1,15 +1,15 @@
 -- `scoring_exports::scores::bodkinbloom_compute_scores` meets its contract: what `compute_scores` promises, as numbers. Assumes nothing.
 use mathlib.Core.Path.{ap, _∙_}
 use borrow.Author.Needs.{needs}
-use Rattle.scoring_exports.specs.Line.{lineNumbers}
+use Rattle.answers.specs.Numbers.{numbers}
 use Rattle.scoring_exports.proofs.scores.bodkinbloom_compute_scores.Statement.{statement}
 use Rattle.scoring_exports.proofs.scores.bodkinbloom_compute_scores.Tie as tie
 
 compute-scores-requires : tie.Need-compute-scores-requires
 compute-scores-requires c κs = search needs
 
-numbers-of-scores-requires : tie.Need-numbers-of-scores-requires
-numbers-of-scores-requires c κs = search needs
+numbers-of-check-requires : tie.Need-numbers-of-check-requires
+numbers-of-check-requires c κs = search needs
 
 same-length : tie.Need-same-length
 same-length c = search needs
@@ -21,11 +21,11 @@ returns : tie.Need-returns
 returns c =
     let s = c .before .before .before .before .before in
     record {
-      answers = c .numbers-of-scores .ensures ∙ ap lineNumbers (s .compute-scores .ensures .answers);
+      answers = c .numbers-of-check .ensures ∙ ap numbers (s .compute-scores .ensures .answers);
       states = s .compute-scores .ensures .states;
       transitions = s .compute-scores .ensures .transitions;
     }
 
 pub bodkinbloom-compute-scores-spec : {M : Type 1} → statement M
 bodkinbloom-compute-scores-spec =
-    tie.close (tie.spec compute-scores-requires numbers-of-scores-requires same-length same-length-2 returns)
+    tie.close (tie.spec compute-scores-requires numbers-of-check-requires same-length same-length-2 returns)

@@ -1,8 +1,8 @@
--- `exports::decoding::numbers_of_score` meets its contract, by the two cases of an answer. Assumes nothing.
+-- `answers::decoding::numbers_of_score` meets its contract, by the two cases of an answer. Assumes nothing.
 use lib.Ieee.{ofBits}
 use borrow.Author.Needs.{needs}
-use Rattle.exports.proofs.decoding.numbers_of_score.Statement.{statement}
-use Rattle.exports.proofs.decoding.numbers_of_score.Tie as tie
+use Rattle.answers.proofs.decoding.numbers_of_score.Statement.{statement}
+use Rattle.answers.proofs.decoding.numbers_of_score.Tie as tie
 
 enum-known-answer : tie.Need-enum-known-answer
 enum-known-answer c = search needs

@@ -6,7 +6,7 @@ use native.Mathlib.Omega.{arith}
 use Rattle.refusals.specs.declared.Checked.{Checked}
 use Rattle.refusals.specs.declared.Checked.the-variants.{Accepted, Refused}
 use Rattle.refusals.specs.Refusals.{refusedAt}
-use Rattle.finished.specs.Said.{done, refused, saidOf}
+use Rattle.refusal_rows.specs.Said.{done, refused, saidOf}
 
 pub refused-said : (check : Checked) (number place : ℕ) → saidOf check ≡ refused number place ↔ check ≡ refusedAt number place
 refused-said check number place = (told check, ap saidOf)
@@ -24,3 +24,10 @@ done-said check = (told check, ap saidOf)
     told : (check : Checked) → saidOf check ≡ done → check ≡ Accepted
     told Accepted h = refl
     told (Refused why) h = let z : _≡_ {A = ℕ} 0 1 = cc in absurd (omega arith)
+
+-- an answer says its number and place, and nothing else
+pub said-once : (a b : Checked) → saidOf a ≡ saidOf b → a ≡ b
+said-once Accepted Accepted h = refl
+said-once Accepted (Refused why) h = let z : _≡_ {A = ℕ} 0 1 = cc in absurd (omega arith)
+said-once (Refused why) Accepted h = let z : _≡_ {A = ℕ} 0 1 = cc in absurd (omega arith)
+said-once (Refused v) (Refused w) h = let n : v .number ≡ w .number = cc in let p : v .place ≡ w .place = cc in rw (n, p)

@@ -1,7 +1,7 @@
--- `training_exports::numbers_of_training` meets its contract, by the two cases of an answer. Assumes nothing.
+-- `answers::trainings::numbers_of_training` meets its contract, by the two cases of an answer. Assumes nothing.
 use borrow.Author.Needs.{needs}
-use Rattle.training_exports.proofs.numbers_of_training.Statement.{statement}
-use Rattle.training_exports.proofs.numbers_of_training.Tie as tie
+use Rattle.answers.proofs.trainings.numbers_of_training.Statement.{statement}
+use Rattle.answers.proofs.trainings.numbers_of_training.Tie as tie
 
 enum-known-answer : tie.Need-enum-known-answer
 enum-known-answer c = search needs

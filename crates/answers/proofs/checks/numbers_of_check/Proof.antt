@@ -1,7 +1,7 @@
--- `scoring_exports::model::numbers_of_check` meets its contract, by the two cases of an answer. Assumes nothing.
+-- `answers::checks::numbers_of_check` meets its contract, by the two cases of an answer. Assumes nothing.
 use borrow.Author.Needs.{needs}
-use Rattle.scoring_exports.proofs.model.numbers_of_check.Statement.{statement}
-use Rattle.scoring_exports.proofs.model.numbers_of_check.Tie as tie
+use Rattle.answers.proofs.checks.numbers_of_check.Statement.{statement}
+use Rattle.answers.proofs.checks.numbers_of_check.Tie as tie
 
 enum-told : tie.Need-enum-told
 enum-told c = search needs

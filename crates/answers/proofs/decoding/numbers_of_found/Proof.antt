@@ -1,8 +1,8 @@
--- `exports::decoding::numbers_of_found` meets its contract, by the two cases of a lead. Assumes nothing.
+-- `answers::decoding::numbers_of_found` meets its contract, by the two cases of a lead. Assumes nothing.
 use lib.Ieee.{ofBits}
 use borrow.Author.Needs.{needs}
-use Rattle.exports.proofs.decoding.numbers_of_found.Statement.{statement}
-use Rattle.exports.proofs.decoding.numbers_of_found.Tie as tie
+use Rattle.answers.proofs.decoding.numbers_of_found.Statement.{statement}
+use Rattle.answers.proofs.decoding.numbers_of_found.Tie as tie
 
 enum-told : tie.Need-enum-told
 enum-told c = search needs
