@@ -3,24 +3,10 @@ use mathlib.Core.Path.{_≡_, sym, _∙_}
 use mathlib.Core.List.{List}
 use Prim.Native.Nat.{ℕ}
 use lib.Ieee.{Float}
-use Rattle.feature_gen.specs.CheckModel as model
-use Rattle.feature_gen.specs.SetWeights.{Setting}
 use Rattle.scoring.specs.Promise as scores
 use Rattle.counting.specs.Promise as counts
-use Rattle.answers.specs.declared.checks.Refused.{Refused}
 use Rattle.answers.specs.Numbers.{DecodedLine}
-use Rattle.scoring_exports.specs.Model as weights
-use Rattle.scoring_exports.specs.Model.{Checks, Sets}
 use Rattle.scoring_exports.specs.Line.{Scored, Scores, Amounts, Counted, Labels}
-
-pub one-check : (given : model.Given) (a b : Refused) → Checks given a → Checks given b → a ≡ b
-one-check given a b p q = p .answers ∙ sym (q .answers)
-
-pub one-setting : (given : Setting) (before : List Float) (a b : weights.Outcome) → Sets given before a → Sets given before b → a ≡ b
-one-setting given before a b p q =
-    let e : a .answer ≡ b .answer = p .answers ∙ sym (q .answers) in
-    let w : a .weights ≡ b .weights = p .weights ∙ sym (q .weights) in
-    λ i. record { answer = e i; weights = w i }
 
 pub one-scored : (given : scores.Given) (before : scores.Buffers) (a b : Scored) → Scores given before a → Scores given before b → a ≡ b
 one-scored given before a b p q =

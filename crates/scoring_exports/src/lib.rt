@@ -1,6 +1,5 @@
-// The calls on a model and on one line of words that programs in C and Rust link. Each is thin, as those of the crate
-// exports are: one call of a crate below, an enum handed over as a struct of numbers, and no demand on the caller.
+// The calls on one line of words, for programs in C and Rust. Each is thin: one call of a crate below, and its answer as
+// numbers.
 pub mod counts;
 pub mod labels;
-pub mod model;
 pub mod scores;

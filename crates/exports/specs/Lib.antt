@@ -1,2 +1,0 @@
-pub mod Draws
-pub mod Decoding
