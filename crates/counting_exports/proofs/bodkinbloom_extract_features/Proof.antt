@@ -1,9 +1,9 @@
--- `scoring_exports::counts::bodkinbloom_extract_features` meets its contract: what `extract_features` promises, as numbers. Assumes nothing.
+-- `counting_exports::bodkinbloom_extract_features` meets its contract: what `extract_features` promises, as numbers. Assumes nothing.
 use mathlib.Core.Path.{ap, _∙_}
 use borrow.Author.Needs.{needs}
 use Rattle.answers.specs.Numbers.{numbers}
-use Rattle.scoring_exports.proofs.counts.bodkinbloom_extract_features.Statement.{statement}
-use Rattle.scoring_exports.proofs.counts.bodkinbloom_extract_features.Tie as tie
+use Rattle.counting_exports.proofs.bodkinbloom_extract_features.Statement.{statement}
+use Rattle.counting_exports.proofs.bodkinbloom_extract_features.Tie as tie
 
 extract-features-requires : tie.Need-extract-features-requires
 extract-features-requires c κs = search needs

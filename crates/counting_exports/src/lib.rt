@@ -1,6 +1,6 @@
-// The feature counts of a line.
+// The feature counts of a line, for programs in C and Rust: one call of the crate counting, and its answer as numbers.
 ghost use Rattle.feature_gen.specs.Lent.{modelOf};
-ghost use Rattle.scoring_exports.specs.Line.{Counted};
+ghost use Rattle.counting_exports.specs.Counts.{Counted};
 use answers::checks::Refused;
 use feature_gen::Counts;
 

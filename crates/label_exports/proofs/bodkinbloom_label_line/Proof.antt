@@ -1,9 +1,9 @@
--- `scoring_exports::labels::bodkinbloom_label_line` meets its contract: what `label_line` promises, as numbers. Assumes nothing.
+-- `label_exports::bodkinbloom_label_line` meets its contract: what `label_line` promises, as numbers. Assumes nothing.
 use mathlib.Core.Path.{ap, _∙_}
 use borrow.Author.Needs.{needs}
 use Rattle.answers.specs.Numbers.{decodedNumbers}
-use Rattle.scoring_exports.proofs.labels.bodkinbloom_label_line.Statement.{statement}
-use Rattle.scoring_exports.proofs.labels.bodkinbloom_label_line.Tie as tie
+use Rattle.label_exports.proofs.bodkinbloom_label_line.Statement.{statement}
+use Rattle.label_exports.proofs.bodkinbloom_label_line.Tie as tie
 
 label-line-requires : tie.Need-label-line-requires
 label-line-requires c κs = search needs

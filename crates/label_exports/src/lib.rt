@@ -1,6 +1,7 @@
-// Score, then decode: the labels of a line.
+// Score, then decode: the labels of a line, for programs in C and Rust. One call of the crate label_line, and its answer as
+// numbers.
 ghost use Rattle.feature_gen.specs.Lent.{modelOf};
-ghost use Rattle.scoring_exports.specs.Line.{Labels};
+ghost use Rattle.label_exports.specs.Labels.{Labels};
 use answers::decoding::Decoded;
 use feature_gen::Counts;
 

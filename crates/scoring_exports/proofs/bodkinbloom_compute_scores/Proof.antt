@@ -1,9 +1,9 @@
--- `scoring_exports::scores::bodkinbloom_compute_scores` meets its contract: what `compute_scores` promises, as numbers. Assumes nothing.
+-- `scoring_exports::bodkinbloom_compute_scores` meets its contract: what `compute_scores` promises, as numbers. Assumes nothing.
 use mathlib.Core.Path.{ap, _∙_}
 use borrow.Author.Needs.{needs}
 use Rattle.answers.specs.Numbers.{numbers}
-use Rattle.scoring_exports.proofs.scores.bodkinbloom_compute_scores.Statement.{statement}
-use Rattle.scoring_exports.proofs.scores.bodkinbloom_compute_scores.Tie as tie
+use Rattle.scoring_exports.proofs.bodkinbloom_compute_scores.Statement.{statement}
+use Rattle.scoring_exports.proofs.bodkinbloom_compute_scores.Tie as tie
 
 compute-scores-requires : tie.Need-compute-scores-requires
 compute-scores-requires c κs = search needs
