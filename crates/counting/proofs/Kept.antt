@@ -10,29 +10,26 @@ use Rattle.refusals.specs.Refusals.{orNext}
 use Rattle.lines.proofs.Fronts.{length-counts}
 use Rattle.finished.specs.Rows.{finishedChecked}
 use Rattle.finished.specs.After.{clearedWhere}
-use Rattle.finished.specs.Said.{saidOf}
 use Rattle.finished.proofs.Laws.{front-checked, contents-kept}
-use Rattle.counting.specs.declared.LineCounts.{LineCounts}
-use Rattle.counting.specs.Promise.{Given, needed, countsOfLine, checkedOf, finishedOf, said, answerTo, amountsAfter, Promised}
+use Rattle.counting.specs.Promise.{Given, needed, countsOfLine, checkedOf, finishedOf, answerTo, amountsAfter, Promised}
 
 -- a refusal beforehand leaves the buffer
-pub refused-kept : (given : Given) (before : List Float) (why : Refusal) → checkedOf given before ≡ Refused why → Promised given before (record { answer = LineCounts.Refused why; amounts = before })
+pub refused-kept : (given : Given) (before : List Float) (why : Refusal) → checkedOf given before ≡ Refused why → Promised given before (record { answer = Refused why; amounts = before })
 unfolding answerTo amountsAfter orNext
 refused-kept given before why h = record { answers = rw h; amounts = rw h }
 
 -- the counts were made, and cleared where 8 is given
 module _ (given : Given) (before : List Float) (accepted : checkedOf given before ≡ Accepted) where
-  pub made-kept : {amounts after : List Float} {r : Checked} (answer : LineCounts) →
+  pub made-kept : {amounts after : List Float} {r : Checked} →
       amounts ≡ countsOfLine given ++ drop (needed given) before →
       r ≡ finishedChecked amounts (needed given) →
       after ≡ clearedWhere r (needed given) amounts →
-      said answer ≡ saidOf r →
-      Promised given before (record { answer = answer; amounts = after })
+      Promised given before (record { answer = r; amounts = after })
   unfolding answerTo amountsAfter orNext
-  made-kept {r = r} answer p f s a =
+  made-kept {r = r} p f s =
       let long = length-counts (given .model) (given .line) 0 (given .words) (given .path) in
       let e : r ≡ finishedOf given = f ∙ rw p (front-checked (countsOfLine given) _ (needed given) long) in
       record {
-        answers = rw (accepted, ← e) a;
+        answers = rw (accepted, ← e);
         amounts = rw (accepted, ← e, contents-kept r (needed given) before (countsOfLine given) long p s);
       }

@@ -2,7 +2,7 @@
 use Rattle.refusals.specs.declared.Checked.{Checked}
 use Rattle.refusals.specs.Refusals.{orNext}
 use Rattle.line_check.proofs.Meant.{counting-means}
-use Rattle.finished.proofs.Said.{refused-said, done-said}
+use Rattle.refusal_rows.proofs.Said.{refused-said, done-said}
 use Rattle.finished.proofs.Meant.{counts-mean, eight-is-last, not-eight}
 use Rattle.counting.specs.Promise.{needed, countsOfLine, countingOf, checkedOf, finishedOf, answerTo}
 use Rattle.counting.specs.Meaning.{CountingMeans}

@@ -12,7 +12,7 @@ use Rattle.refusal_rows.specs.Limits.{AllWithin}
 use Rattle.refusal_rows.specs.Tests.{AllGood}
 use Rattle.feature_gen.specs.Rows.{idTests}
 use Rattle.line_check.specs.Rows.{countingLimits, lineStarts, labelTests, valueTests}
-use Rattle.finished.specs.Said.{done, refused}
+use Rattle.refusal_rows.specs.Said.{done, refused}
 use Rattle.counting.specs.Promise.{Given, needed, countsOfLine, countingOf, checkedOf, answerTo}
 
 -- nothing of 1, 4, 2, 3, 5 and 6 applies

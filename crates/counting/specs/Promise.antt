@@ -9,11 +9,10 @@ use Rattle.refusals.specs.Refusals.{orNext}
 use Rattle.lines.specs.Passes.{nought}
 use Rattle.lines.specs.Tables.{Model, Words}
 use Rattle.lines.specs.Counted.{countsOf}
+use Rattle.refusal_rows.specs.Said.{Said, saidOf}
 use Rattle.line_check.specs.Rows.{Counting, countingChecked}
 use Rattle.finished.specs.Rows.{finishedChecked}
 use Rattle.finished.specs.After.{contents}
-use Rattle.finished.specs.Said.{Said, done, refused, saidOf}
-use Rattle.counting.specs.declared.LineCounts.{LineCounts}
 
 -- what the call is given: a model, T, the line's attributes by words, and a label for each word; "Feature counts .. are lent no weight table"
 pub record Given : Type 0 where
@@ -24,7 +23,7 @@ pub record Given : Type 0 where
 
 -- the answer, and what the buffer for the counts holds afterwards
 pub record Outcome : Type 0 where
-  pub answer : LineCounts
+  pub answer : Checked
   pub amounts : List Float
 
 -- a count for each feature
@@ -52,11 +51,6 @@ checkedOf given before = countingChecked (countingOf given before)
 abbrev pub finishedOf : Given → Checked
 finishedOf given = finishedChecked (countsOfLine given) (needed given)
 
--- document 01's number and place for each case of the answer
-abbrev pub said : LineCounts → Said
-said LineCounts.Counted = done
-said (LineCounts.Refused why) = refused (why .number) (why .place)
-
 -- what document 01 says: "The lowest number wins", so 8 comes last
 unfoldable pub answerTo : Given → List Float → Said
 answerTo given before = saidOf (orNext (checkedOf given before) (finishedOf given))
@@ -66,7 +60,7 @@ amountsAfter given before = contents (checkedOf given before) (finishedOf given)
 
 -- the promise
 pub record Promised (given : Given) (before : List Float) (outcome : Outcome) : Type 0 where
-  pub answers : said (outcome .answer) ≡ answerTo given before
+  pub answers : saidOf (outcome .answer) ≡ answerTo given before
   pub amounts : outcome .amounts ≡ amountsAfter given before
 
 -- no two different outcomes satisfy one promise; proved in proofs/Unique

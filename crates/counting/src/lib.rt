@@ -5,12 +5,6 @@ ghost use Rattle.feature_gen.specs.Lent.{modelOf};
 ghost use Rattle.counting.specs.Promise.{Promised};
 use feature_gen::Counts;
 use refusals::Checked;
-use refusals::Refusal;
-
-pub enum LineCounts {
-    Counted,
-    Refused(Refusal),
-}
 
 // The feature counts of a line under the labels of `path`, in the front of `amounts`; or the refusal.
 pub fn extract_features(
@@ -30,7 +24,7 @@ pub fn extract_features(
     values: &[f64],
     path: &[u32],
     amounts: &mut [f64],
-) -> LineCounts
+) -> Checked
     ensures { λ r. ⌜ Promised (record { model = modelOf labels counts (now (kinds .entry)) (now (destinations .entry)) (now (sources .entry)) (now («attribute_starts» .entry)) (now («attribute_entries» .entry)) (now («label_starts» .entry)) (now («label_entries» .entry)); words = words; line = record { starts = now (begins .entry); size = attributes; ids = now (ids .entry); values = now (values .entry) }; path = now (path .entry) }) (now (amounts .entry)) (record { answer = r; amounts = now (amounts .exit) }) ⌝ }
 {
     let features = counts.features as usize;
@@ -53,7 +47,7 @@ pub fn extract_features(
         amounts.len(),
     );
     if let Checked::Refused(why) = checked {
-        return LineCounts::Refused(why);
+        return Checked::Refused(why);
     }
     extract_features::count_line(
         features,
@@ -75,8 +69,5 @@ pub fn extract_features(
         amounts,
     );
     let finished = finished::finish_counts(features, amounts);
-    if let Checked::Refused(late) = finished {
-        return LineCounts::Refused(late);
-    }
-    LineCounts::Counted
+    finished
 }

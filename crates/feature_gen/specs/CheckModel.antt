@@ -1,10 +1,9 @@
 -- What the check of a model promises: document 01's answer to what it is given. It is lent nothing to change, so the outcome is the answer. Assumes nothing.
 use mathlib.Core.Path.{_≡_}
 use mathlib.Core.List.{List}
-use Prim.Native.Nat.{ℕ}
 use lib.Ieee.{Float}
 use Rattle.refusals.specs.declared.Checked.{Checked}
-use Rattle.refusals.specs.declared.Checked.the-variants.{Accepted, Refused}
+use Rattle.refusal_rows.specs.Said.{Said, saidOf}
 use Rattle.lines.specs.Tables.{Model}
 use Rattle.feature_gen.specs.Rows.{modelChecked}
 
@@ -12,22 +11,13 @@ pub record Given : Type 0 where
   pub model : Model
   pub weights : List Float
 
--- document 01's number and place for each case of the answer
-pub data Said : Type 0 where
-  accepted : Said
-  refused : (number place : ℕ) → Said
-
-abbrev pub said : Checked → Said
-said Accepted = accepted
-said (Refused why) = refused (why .number) (why .place)
-
 -- what document 01 says: refused by the first row that applies
 unfoldable pub answerTo : Given → Said
-answerTo given = said (modelChecked (given .model) (given .weights))
+answerTo given = saidOf (modelChecked (given .model) (given .weights))
 
 -- the promise
 pub record ModelChecked (given : Given) (outcome : Checked) : Type 0 where
-  pub answers : said outcome ≡ answerTo given
+  pub answers : saidOf outcome ≡ answerTo given
 
 -- no two different outcomes satisfy one promise; proved in proofs/Unique
 abbrev pub OnlyOne : Type 0

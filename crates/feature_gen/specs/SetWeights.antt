@@ -9,8 +9,8 @@ use Rattle.refusals.specs.declared.Checked.the-variants.{Accepted, Refused}
 use Rattle.refusals.specs.Refusals.{first}
 use Rattle.refusal_rows.specs.Limits.{Limit, atMost, room, two}
 use Rattle.refusal_rows.specs.Tests.{Test, numbersFinite, checks}
+use Rattle.refusal_rows.specs.Said.{Said, saidOf}
 use Rattle.feature_gen.specs.Rows.{mostFeatures}
-use Rattle.feature_gen.specs.CheckModel.{Said, said}
 
 -- F, and the new weights
 pub record Setting : Type 0 where
@@ -44,14 +44,14 @@ tableAfter (Refused why) given before = before
 tableAfter Accepted given before = take (given .features) (given .new) ++ drop (given .features) before
 
 unfoldable pub answerTo : Setting → List Float → Said
-answerTo given before = said (newChecked given (length before))
+answerTo given before = saidOf (newChecked given (length before))
 
 unfoldable pub weightsAfter : Setting → List Float → List Float
 weightsAfter given before = tableAfter (newChecked given (length before)) given before
 
 -- the promise
 pub record WeightsSet (given : Setting) (before : List Float) (outcome : Outcome) : Type 0 where
-  pub answers : said (outcome .answer) ≡ answerTo given before
+  pub answers : saidOf (outcome .answer) ≡ answerTo given before
   pub weights : outcome .weights ≡ weightsAfter given before
 
 -- no two different outcomes satisfy one promise; proved in proofs/Unique

@@ -1,4 +1,3 @@
 pub mod Laws
 pub mod Meant
-pub mod Said
 mod Halves

@@ -1,4 +1,3 @@
 pub mod Rows
 pub mod After
-pub mod Said
 pub mod Meaning

@@ -13,10 +13,8 @@ use Rattle.lines.proofs.Fronts.{length-states, length-transitions}
 use Rattle.line_check.specs.Sound.{SoundScoring}
 use Rattle.finished.specs.Rows.{scoresFinished}
 use Rattle.finished.specs.After.{clearedWhere}
-use Rattle.finished.specs.Said.{saidOf}
 use Rattle.finished.proofs.Laws.{scores-front, contents-kept}
-use Rattle.scoring.specs.declared.LineScores.{LineScores}
-use Rattle.scoring.specs.Promise.{Given, Buffers, stateEntries, transitionEntries, statesOfLine, transitionsOfLine, scoringOf, checkedOf, finishedOf, said, answerTo, statesAfter, transitionsAfter, Promised}
+use Rattle.scoring.specs.Promise.{Given, Buffers, stateEntries, transitionEntries, statesOfLine, transitionsOfLine, scoringOf, checkedOf, finishedOf, answerTo, statesAfter, transitionsAfter, Promised}
 
 -- tables that are as long as an accepted call's buffers have room
 pub sized : (given : Given) (before : Buffers) → SoundScoring (scoringOf given before) → (states transitions : List Float) → length states ≡ length (before .states) → length transitions ≡ length (before .transitions) → Sized (given .model .labels) (given .words) transitions states
@@ -40,25 +38,24 @@ finished-is given before p q =
     (length-transitions (given .model) (given .weights)))
 
 -- a refusal beforehand leaves the buffers
-pub refused-kept : (given : Given) (before : Buffers) (why : Refusal) → checkedOf given before ≡ Refused why → Promised given before (record { answer = LineScores.Refused why; states = before .states; transitions = before .transitions })
+pub refused-kept : (given : Given) (before : Buffers) (why : Refusal) → checkedOf given before ≡ Refused why → Promised given before (record { answer = Refused why; states = before .states; transitions = before .transitions })
 unfolding answerTo statesAfter transitionsAfter orNext
 refused-kept given before why h = record { answers = rw h; states = rw h; transitions = rw h }
 
 -- the scores were made, and cleared where 8 is given
 module _ (given : Given) (before : Buffers) (accepted : checkedOf given before ≡ Accepted) where
-  pub made-kept : {states transitions after after' : List Float} {r : Checked} (answer : LineScores) →
+  pub made-kept : {states transitions after after' : List Float} {r : Checked} →
       states ≡ statesOfLine given ++ drop (stateEntries given) (before .states) →
       transitions ≡ transitionsOfLine given ++ drop (transitionEntries given) (before .transitions) →
       r ≡ scoresFinished (given .model .labels) (given .words) states transitions →
       after ≡ clearedWhere r (stateEntries given) states →
       after' ≡ clearedWhere r (transitionEntries given) transitions →
-      said answer ≡ saidOf r →
-      Promised given before (record { answer = answer; states = after; transitions = after' })
+      Promised given before (record { answer = r; states = after; transitions = after' })
   unfolding answerTo statesAfter transitionsAfter orNext
-  made-kept {r = r} answer p q f s t a =
+  made-kept {r = r} p q f s t =
       let e : r ≡ finishedOf given = f ∙ finished-is given before p q in
       record {
-        answers = rw (accepted, ← e) a;
+        answers = rw (accepted, ← e);
         states = rw (accepted, ← e, contents-kept r (stateEntries given) (before .states) (statesOfLine given) (length-states (given .model) (given .weights) (given .line) 0 (given .words)) p s);
         transitions = rw (accepted, ← e, contents-kept r (transitionEntries given) (before .transitions) (transitionsOfLine given) (length-transitions (given .model) (given .weights)) q t);
       }

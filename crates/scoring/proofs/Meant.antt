@@ -2,7 +2,7 @@
 use Rattle.refusals.specs.declared.Checked.{Checked}
 use Rattle.refusals.specs.Refusals.{orNext}
 use Rattle.line_check.proofs.Meant.{scoring-means}
-use Rattle.finished.proofs.Said.{refused-said, done-said}
+use Rattle.refusal_rows.proofs.Said.{refused-said, done-said}
 use Rattle.finished.proofs.Meant.{scores-mean, eight-is-last, not-eight}
 use Rattle.scoring.specs.Promise.{statesOfLine, transitionsOfLine, scoringOf, checkedOf, finishedOf, answerTo}
 use Rattle.scoring.specs.Meaning.{ScoringMeans}

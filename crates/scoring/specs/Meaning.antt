@@ -10,7 +10,7 @@ use Rattle.refusal_rows.specs.Limits.{AllWithin}
 use Rattle.refusal_rows.specs.Tests.{AllGood}
 use Rattle.feature_gen.specs.Rows.{idTests, weightTests}
 use Rattle.line_check.specs.Rows.{scoringLimits, lineStarts, valueTests}
-use Rattle.finished.specs.Said.{done, refused}
+use Rattle.refusal_rows.specs.Said.{done, refused}
 use Rattle.finished.specs.Meaning.{EightAt}
 use Rattle.scoring.specs.Promise.{Given, Buffers, stateEntries, transitionEntries, statesOfLine, transitionsOfLine, scoringOf, checkedOf, answerTo}
 

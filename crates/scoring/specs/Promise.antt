@@ -9,11 +9,10 @@ use Rattle.refusals.specs.Refusals.{orNext}
 use Rattle.lines.specs.Passes.{nought}
 use Rattle.lines.specs.Tables.{Model, Words}
 use Rattle.lines.specs.Scored.{statesOf, transitionsOf}
+use Rattle.refusal_rows.specs.Said.{Said, saidOf}
 use Rattle.line_check.specs.Rows.{Scoring, scoringChecked}
 use Rattle.finished.specs.Rows.{scoresFinished}
 use Rattle.finished.specs.After.{contents}
-use Rattle.finished.specs.Said.{Said, done, refused, saidOf}
-use Rattle.scoring.specs.declared.LineScores.{LineScores}
 
 -- what the call is given: a model with its weights, T, and the line's attributes by words
 pub record Given : Type 0 where
@@ -29,7 +28,7 @@ pub record Buffers : Type 0 where
 
 -- the answer, and what the buffers hold afterwards
 pub record Outcome : Type 0 where
-  pub answer : LineScores
+  pub answer : Checked
   pub states : List Float
   pub transitions : List Float
 
@@ -65,11 +64,6 @@ checkedOf given before = scoringChecked (scoringOf given before)
 abbrev pub finishedOf : Given → Checked
 finishedOf given = scoresFinished (given .model .labels) (given .words) (statesOfLine given) (transitionsOfLine given)
 
--- document 01's number and place for each case of the answer
-abbrev pub said : LineScores → Said
-said LineScores.Scored = done
-said (LineScores.Refused why) = refused (why .number) (why .place)
-
 -- what document 01 says: "The lowest number wins", so 8 comes last
 unfoldable pub answerTo : Given → Buffers → Said
 answerTo given before = saidOf (orNext (checkedOf given before) (finishedOf given))
@@ -83,7 +77,7 @@ transitionsAfter given before =
 
 -- the promise
 pub record Promised (given : Given) (before : Buffers) (outcome : Outcome) : Type 0 where
-  pub answers : said (outcome .answer) ≡ answerTo given before
+  pub answers : saidOf (outcome .answer) ≡ answerTo given before
   pub states : outcome .states ≡ statesAfter given before
   pub transitions : outcome .transitions ≡ transitionsAfter given before
 

@@ -9,12 +9,6 @@ ghost use Rattle.line_check.specs.Sound.{SoundScoring};
 ghost use Rattle.scoring.specs.Promise.{statesOfLine, transitionsOfLine, Promised};
 use feature_gen::Counts;
 use refusals::Checked;
-use refusals::Refusal;
-
-pub enum LineScores {
-    Scored,
-    Refused(Refusal),
-}
 
 // The scores of a line that is accepted, in the fronts of the buffers.
 pub fn fill_scores(
@@ -91,7 +85,7 @@ pub fn compute_scores(
     values: &[f64],
     states: &mut [f64],
     transitions: &mut [f64],
-) -> LineScores
+) -> Checked
     ensures { λ r. ⌜ Promised (record { model = modelOf labels counts (now (kinds .entry)) (now (destinations .entry)) (now (sources .entry)) (now («attribute_starts» .entry)) (now («attribute_entries» .entry)) (now («label_starts» .entry)) (now («label_entries» .entry)); weights = now (weights .entry); words = words; line = record { starts = now (begins .entry); size = attributes; ids = now (ids .entry); values = now (values .entry) } }) (record { states = now (states .entry); transitions = now (transitions .entry) }) (record { answer = r; states = now (states .exit); transitions = now (transitions .exit) }) ⌝ }
 {
     let checked = line_check::check_scoring(
@@ -114,7 +108,7 @@ pub fn compute_scores(
         transitions.len(),
     );
     if let Checked::Refused(why) = checked {
-        return LineScores::Refused(why);
+        return Checked::Refused(why);
     }
     fill_scores(
         labels,
@@ -136,8 +130,5 @@ pub fn compute_scores(
         transitions,
     );
     let finished = finished::finish_scores(labels, words, states, transitions);
-    if let Checked::Refused(late) = finished {
-        return LineScores::Refused(late);
-    }
-    LineScores::Scored
+    finished
 }

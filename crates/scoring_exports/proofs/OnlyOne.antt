@@ -1,42 +1,11 @@
 -- No two different outcomes satisfy one promise. Assumes nothing.
 use mathlib.Core.Path.{_≡_, sym, _∙_}
-use mathlib.Core.List.{List}
-use Prim.Native.Nat.{ℕ}
-use lib.Ieee.{Float}
-use Rattle.feature_gen.specs.CheckModel as model
-use Rattle.feature_gen.specs.SetWeights.{Setting}
-use Rattle.scoring.specs.Promise as scores
-use Rattle.counting.specs.Promise as counts
-use Rattle.exports.specs.declared.draws.Refused.{Refused}
-use Rattle.exports.specs.Decoding.{Outcome}
-use Rattle.scoring_exports.specs.Model as weights
-use Rattle.scoring_exports.specs.Model.{Checks, Sets}
-use Rattle.scoring_exports.specs.Line.{Scored, Scores, Amounts, Counted, Labels}
+use Rattle.scoring.specs.Promise.{Given, Buffers}
+use Rattle.scoring_exports.specs.Scores.{Outcome, Scores}
 
-pub one-check : (given : model.Given) (a b : Refused) → Checks given a → Checks given b → a ≡ b
-one-check given a b p q = p .answers ∙ sym (q .answers)
-
-pub one-setting : (given : Setting) (before : List Float) (a b : weights.Outcome) → Sets given before a → Sets given before b → a ≡ b
-one-setting given before a b p q =
-    let e : a .answer ≡ b .answer = p .answers ∙ sym (q .answers) in
-    let w : a .weights ≡ b .weights = p .weights ∙ sym (q .weights) in
-    λ i. record { answer = e i; weights = w i }
-
-pub one-scored : (given : scores.Given) (before : scores.Buffers) (a b : Scored) → Scores given before a → Scores given before b → a ≡ b
+pub one-scored : (given : Given) (before : Buffers) (a b : Outcome) → Scores given before a → Scores given before b → a ≡ b
 one-scored given before a b p q =
     let e : a .answer ≡ b .answer = p .answers ∙ sym (q .answers) in
     let s : a .states ≡ b .states = p .states ∙ sym (q .states) in
     let t : a .transitions ≡ b .transitions = p .transitions ∙ sym (q .transitions) in
     λ i. record { answer = e i; states = s i; transitions = t i }
-
-pub one-counted : (given : counts.Given) (before : List Float) (a b : Amounts) → Counted given before a → Counted given before b → a ≡ b
-one-counted given before a b p q =
-    let e : a .answer ≡ b .answer = p .answers ∙ sym (q .answers) in
-    let n : a .amounts ≡ b .amounts = p .amounts ∙ sym (q .amounts) in
-    λ i. record { answer = e i; amounts = n i }
-
-pub one-labelled : (given : scores.Given) (before : List ℕ) (a b : Outcome) → Labels given before a → Labels given before b → a ≡ b
-one-labelled given before a b p q =
-    let e : a .answer ≡ b .answer = p .answers ∙ sym (q .answers) in
-    let d : a .path ≡ b .path = p .path ∙ sym (q .path) in
-    λ i. record { answer = e i; path = d i }

@@ -1,6 +1,50 @@
-// The calls on a model and on one line of words that programs in C and Rust link. Each is thin, as those of the crate
-// exports are: one call of a crate below, an enum handed over as a struct of numbers, and no demand on the caller.
-pub mod counts;
-pub mod labels;
-pub mod model;
-pub mod scores;
+// The scores of a line, for programs in C and Rust: one call of the crate scoring, and its answer as numbers.
+ghost use Rattle.feature_gen.specs.Lent.{modelOf};
+ghost use Rattle.scoring_exports.specs.Scores.{Scores};
+use answers::checks::Refused;
+use feature_gen::Counts;
+
+// The state and transition scores of a line, in the fronts of `states` and `transitions`.
+#[no_mangle]
+pub extern "C" fn bodkinbloom_compute_scores(
+    labels: u32,
+    counts: Counts,
+    kinds: &[u8],
+    destinations: &[u32],
+    sources: &[u32],
+    weights: &[f64],
+    attribute_starts: &[u32],
+    attribute_entries: &[u32],
+    label_starts: &[u32],
+    label_entries: &[u32],
+    words: u32,
+    attributes: u32,
+    begins: &[u32],
+    ids: &[u32],
+    values: &[f64],
+    states: &mut [f64],
+    transitions: &mut [f64],
+) -> Refused
+    ensures { λ r. ⌜ Scores (record { model = modelOf labels counts (now (kinds .entry)) (now (destinations .entry)) (now (sources .entry)) (now («attribute_starts» .entry)) (now («attribute_entries» .entry)) (now («label_starts» .entry)) (now («label_entries» .entry)); weights = now (weights .entry); words = words; line = record { starts = now (begins .entry); size = attributes; ids = now (ids .entry); values = now (values .entry) } }) (record { states = now (states .entry); transitions = now (transitions .entry) }) (record { answer = r; states = now (states .exit); transitions = now (transitions .exit) }) ⌝ }
+{
+    let answer = scoring::compute_scores(
+        labels,
+        words,
+        counts,
+        kinds,
+        destinations,
+        sources,
+        weights,
+        attribute_starts,
+        attribute_entries,
+        label_starts,
+        label_entries,
+        attributes,
+        begins,
+        ids,
+        values,
+        states,
+        transitions,
+    );
+    answers::checks::numbers_of_check(answer)
+}

@@ -13,6 +13,7 @@ use Rattle.training.specs.declared.Training.{Training}
 use Rattle.training.specs.Data.{Data}
 use Rattle.training.specs.Rules.{Rule, perceptron, passive, arow}
 use Rattle.training.specs.Epochs.{Settings, Result, trained}
+pub use Rattle.training.specs.Said.{Said, accepted, refused, said}
 use Rattle.parameters.specs.declared.Perceptron.{Perceptron}
 use Rattle.parameters.specs.declared.Passive.{Passive}
 use Rattle.parameters.specs.declared.Arow.{Arow}
@@ -43,15 +44,6 @@ pub record Buffers : Type 0 where
 pub record Outcome : Type 0 where
   pub answer : Training
   pub after : Buffers
-
--- document 01's number and values for each case of the answer: "epochs run, visits and updates"
-pub data Said : Type 0 where
-  accepted : (epochs visits updates : ℕ) → Said
-  refused : (number place : ℕ) → Said
-
-abbrev pub said : Training → Said
-said (Training.Accepted t) = accepted (t .epochs) (t .visits) (t .updates)
-said (Training.Refused why) = refused (why .number) (why .place)
 
 -- the update and the stop test
 abbrev pub ruleFor : Call → Rule

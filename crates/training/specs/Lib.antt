@@ -2,6 +2,7 @@ pub mod Data
 pub mod Rules
 pub mod Visits
 pub mod Epochs
+pub mod Said
 pub mod Orders
 pub mod Counter
 pub mod OneVisit

@@ -1,46 +1,14 @@
 // The three trainers, for programs in C and Rust. Each is thin: one call of the crate trainers, and its answer as numbers.
-ghost use mathlib.Core.Path.{_≡_};
 ghost use Rattle.feature_gen.specs.Lent.{modelOf};
 ghost use Rattle.training_check.specs.Lent.{dataOf};
-ghost use Rattle.trainers.specs.Promise.{said, averagedPerceptron, passiveAggressive, adaptive};
-ghost use Rattle.training_exports.specs.Trains.{trainedNumbers, Trains};
+ghost use Rattle.trainers.specs.Promise.{averagedPerceptron, passiveAggressive, adaptive};
+ghost use Rattle.training_exports.specs.Trains.{Trains};
+use answers::trainings::Trained;
 use feature_gen::Counts;
 use parameters::Arow;
 use parameters::Passive;
 use parameters::Perceptron;
-use training::Training;
 use training_check::Totals;
-
-// What training answers: the refusal's number and place, or epochs run, visits and updates; what has no value is 0.
-#[repr(C)]
-pub struct Trained {
-    pub number: u32,
-    pub place: u64,
-    pub epochs: u64,
-    pub visits: u64,
-    pub updates: u64,
-}
-
-fn numbers_of_training(answer: Training) -> Trained
-    ensures { λ r. ⌜ r ≡ trainedNumbers (said answer) ⌝ }
-{
-    match answer {
-        Training::Accepted(trained) => Trained {
-            number: 0,
-            place: 0,
-            epochs: trained.epochs,
-            visits: trained.visits,
-            updates: trained.updates,
-        },
-        Training::Refused(why) => Trained {
-            number: why.number,
-            place: why.place,
-            epochs: 0,
-            visits: 0,
-            updates: 0,
-        },
-    }
-}
 
 // The averaged perceptron.
 #[no_mangle]
@@ -94,7 +62,7 @@ pub extern "C" fn bodkinbloom_averaged_perceptron(
         predicted,
         order,
     );
-    numbers_of_training(answer)
+    answers::trainings::numbers_of_training(answer)
 }
 
 // Passive-aggressive, of the variant and with the switches of its parameters.
@@ -149,7 +117,7 @@ pub extern "C" fn bodkinbloom_passive_aggressive(
         predicted,
         order,
     );
-    numbers_of_training(answer)
+    answers::trainings::numbers_of_training(answer)
 }
 
 // AROW, adaptive regularization of weights.
@@ -204,5 +172,5 @@ pub extern "C" fn bodkinbloom_arow(
         predicted,
         order,
     );
-    numbers_of_training(answer)
+    answers::trainings::numbers_of_training(answer)
 }

@@ -1,12 +1,11 @@
 -- `counting::extract_features` keeps its promise. Assumes nothing.
-use mathlib.Core.Path.{_≡_, sym, _∙_, ap}
+use mathlib.Core.Path.{_≡_, sym, _∙_}
 use native.Mathlib.Omega.{arith}
 use borrow.Author.Needs.{needs}
 use Rattle.refusals.specs.declared.Checked.the-variants.{Accepted}
 use Rattle.feature_gen.specs.Lent.{modelOf}
 use Rattle.line_check.specs.Sound.{SoundCounting}
 use Rattle.line_check.proofs.Meant.{counting-sound}
-use Rattle.finished.specs.Said.{saidOf}
 use Rattle.finished.proofs.Laws.{from-first}
 use Rattle.counting.specs.Promise.{Given, countingOf, checkedOf}
 use Rattle.counting.proofs.Kept.{refused-kept, made-kept}
@@ -64,35 +63,16 @@ finish-counts-requires c κs =
     let f = c .before .before .before in
     omega (arith, f .count-line .kept .1 .1 .1 .1 .1 .1 .1 .1 .1 .1 .1 .1 .1 .1 .1 .1 .0, sound (f .before .before .before .before) .fits .features)
 
-enum-known-finished : tie.Need-enum-known-finished
-enum-known-finished c = search needs
-
 same-length : tie.Need-same-length
 same-length c = search needs
 
 returns-2 : tie.Need-returns-2
 returns-2 c =
-    let e = c .before .before .before .before .before in
+    let e = c .before .before in
     let f = e .before .before .before .before in
     let t = f .before .before .before .before in
     let g = given (start t) in
-    made-kept g (start t .args .amounts .now) (accepted t) _ (f .count-line .ensures (g .model) (g .line .size)) (e .finish-counts .ensures .0) (e .finish-counts .ensures .1)
-    (ap saidOf (sym (c .before .finished .given .1)))
-
-enum-told-2 : tie.Need-enum-told-2
-enum-told-2 c = search needs
-
-same-length-2 : tie.Need-same-length-2
-same-length-2 c = search needs
-
-returns-3 : tie.Need-returns-3
-returns-3 c =
-    let e = c .before .before .before .before in
-    let f = e .before .before .before .before in
-    let t = f .before .before .before .before in
-    let g = given (start t) in
-    made-kept g (start t .args .amounts .now) (accepted t) _ (f .count-line .ensures (g .model) (g .line .size)) (e .finish-counts .ensures .0) (e .finish-counts .ensures .1)
-    (ap saidOf (sym (c .enum-told2 .given .1)))
+    made-kept g (start t .args .amounts .now) (accepted t) (f .count-line .ensures (g .model) (g .line .size)) (e .finish-counts .ensures .0) (e .finish-counts .ensures .1)
 
 pub extract-features-spec : {M : Type 1} → statement M
 extract-features-spec =
@@ -107,9 +87,5 @@ extract-features-spec =
     cast-count-line-2
     count-line-requires
     finish-counts-requires
-    enum-known-finished
     same-length
-    returns-2
-    enum-told-2
-    same-length-2
-    returns-3)
+    returns-2)

@@ -1,7 +1,8 @@
 -- `feature_gen::check_model` meets its contract: where the sizes are accepted, every table has room for its test. Assumes nothing.
 use mathlib.Core.Path.{_≡_, sym, _∙_, ap}
 use borrow.Author.Needs.{needs}
-use Rattle.feature_gen.specs.CheckModel.{said, answerTo}
+use Rattle.refusal_rows.specs.Said.{saidOf}
+use Rattle.feature_gen.specs.CheckModel.{answerTo}
 use Rattle.feature_gen.proofs.Laws.{stopped, roomy, answered}
 use Rattle.feature_gen.proofs.check_model.Statement.{statement}
 use Rattle.feature_gen.proofs.check_model.Tie as tie
@@ -14,7 +15,7 @@ enum-known-sizes c = search needs
 
 returns : tie.Need-returns
 unfolding answerTo
-returns c = record { answers = ap said (stopped _ _ _ (sym (c .before .before .before .check-sizes .ensures) ∙ c .before .sizes .given .1)) }
+returns c = record { answers = ap saidOf (stopped _ _ _ (sym (c .before .before .before .check-sizes .ensures) ∙ c .before .sizes .given .1)) }
 
 enum-told : tie.Need-enum-told
 enum-told c = search needs
@@ -49,7 +50,7 @@ unfolding answerTo
 returns-2 c =
     let e = c .before .before in
     let s = e .before .before in
-    record { answers = ap said (answered _ _ (s .before .before .before .check-sizes .ensures) (s .check-starts .ensures) (e .before .check-features .ensures) (e .check-entries .ensures) (c .check-numbers .ensures)) }
+    record { answers = ap saidOf (answered _ _ (s .before .before .before .check-sizes .ensures) (s .check-starts .ensures) (e .before .check-features .ensures) (e .check-entries .ensures) (c .check-numbers .ensures)) }
 
 pub check-model-spec : {M : Type 1} → statement M
 check-model-spec =

@@ -1,10 +1,9 @@
 -- `scoring::compute_scores` keeps its promise. Assumes nothing.
-use mathlib.Core.Path.{_≡_, sym, _∙_, ap}
+use mathlib.Core.Path.{_≡_, sym, _∙_}
 use borrow.Author.Needs.{needs}
 use Rattle.refusals.specs.declared.Checked.the-variants.{Accepted}
 use Rattle.feature_gen.specs.Lent.{modelOf}
 use Rattle.line_check.proofs.Meant.{scoring-sound}
-use Rattle.finished.specs.Said.{saidOf}
 use Rattle.scoring.specs.Promise.{Given, Buffers, scoringOf, checkedOf}
 use Rattle.scoring.proofs.Kept.{sized, refused-kept, made-kept}
 use Rattle.scoring.proofs.compute_scores.Statement.{statement}
@@ -53,9 +52,6 @@ finish-scores-requires c κs =
     (f .fill-scores .kept .1 .1 .1 .1 .1 .1 .1 .1 .1 .1 .1 .1 .1 .1 .1 .0)
     (f .fill-scores .kept .1 .1 .1 .1 .1 .1 .1 .1 .1 .1 .1 .1 .1 .1 .1 .1 .0)
 
-enum-known-finished : tie.Need-enum-known-finished
-enum-known-finished c = search needs
-
 same-length : tie.Need-same-length
 same-length c = search needs
 
@@ -64,28 +60,10 @@ same-length-2 c = search needs
 
 returns-2 : tie.Need-returns-2
 returns-2 c =
-    let e = c .before .before .before .before .before .before .before in
+    let e = c .before .before .before .before in
     let f = e .before .before .before .before .before .before .before in
     let t = f .before .before .before in
-    made-kept (given (start t)) (lent (start t)) (accepted t) _ (f .fill-scores .ensures .0) (f .fill-scores .ensures .1) (e .finish-scores .ensures .0) (e .finish-scores .ensures .1 .0) (e .finish-scores .ensures .1 .1)
-    (ap saidOf (sym (c .before .finished .given .1)))
-
-enum-told-2 : tie.Need-enum-told-2
-enum-told-2 c = search needs
-
-same-length-3 : tie.Need-same-length-3
-same-length-3 c = search needs
-
-same-length-4 : tie.Need-same-length-4
-same-length-4 c = search needs
-
-returns-3 : tie.Need-returns-3
-returns-3 c =
-    let e = c .before .before .before .before .before .before in
-    let f = e .before .before .before .before .before .before .before in
-    let t = f .before .before .before in
-    made-kept (given (start t)) (lent (start t)) (accepted t) _ (f .fill-scores .ensures .0) (f .fill-scores .ensures .1) (e .finish-scores .ensures .0) (e .finish-scores .ensures .1 .0) (e .finish-scores .ensures .1 .1)
-    (ap saidOf (sym (c .enum-told2 .given .1)))
+    made-kept (given (start t)) (lent (start t)) (accepted t) (f .fill-scores .ensures .0) (f .fill-scores .ensures .1) (e .finish-scores .ensures .0) (e .finish-scores .ensures .1 .0) (e .finish-scores .ensures .1 .1)
 
 pub compute-scores-spec : {M : Type 1} → statement M
 compute-scores-spec =
@@ -97,11 +75,6 @@ compute-scores-spec =
     enum-told
     fill-scores-requires
     finish-scores-requires
-    enum-known-finished
     same-length
     same-length-2
-    returns-2
-    enum-told-2
-    same-length-3
-    same-length-4
-    returns-3)
+    returns-2)

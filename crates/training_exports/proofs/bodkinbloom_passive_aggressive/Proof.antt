@@ -1,7 +1,7 @@
 -- `training_exports::bodkinbloom_passive_aggressive` meets its contract: what `passive_aggressive` promises, as numbers. Assumes nothing.
 use mathlib.Core.Path.{ap, _∙_}
 use borrow.Author.Needs.{needs}
-use Rattle.training_exports.specs.Trains.{trainedNumbers}
+use Rattle.answers.specs.Numbers.{trainedNumbers}
 use Rattle.training_exports.proofs.bodkinbloom_passive_aggressive.Statement.{statement}
 use Rattle.training_exports.proofs.bodkinbloom_passive_aggressive.Tie as tie
 

@@ -1,0 +1,48 @@
+// The feature counts of a line, for programs in C and Rust: one call of the crate counting, and its answer as numbers.
+ghost use Rattle.feature_gen.specs.Lent.{modelOf};
+ghost use Rattle.counting_exports.specs.Counts.{Counted};
+use answers::checks::Refused;
+use feature_gen::Counts;
+
+// The feature counts of a line under the labels of `path`, in the front of `amounts`.
+#[no_mangle]
+pub extern "C" fn bodkinbloom_extract_features(
+    labels: u32,
+    counts: Counts,
+    kinds: &[u8],
+    destinations: &[u32],
+    sources: &[u32],
+    attribute_starts: &[u32],
+    attribute_entries: &[u32],
+    label_starts: &[u32],
+    label_entries: &[u32],
+    words: u32,
+    attributes: u32,
+    begins: &[u32],
+    ids: &[u32],
+    values: &[f64],
+    path: &[u32],
+    amounts: &mut [f64],
+) -> Refused
+    ensures { λ r. ⌜ Counted (record { model = modelOf labels counts (now (kinds .entry)) (now (destinations .entry)) (now (sources .entry)) (now («attribute_starts» .entry)) (now («attribute_entries» .entry)) (now («label_starts» .entry)) (now («label_entries» .entry)); words = words; line = record { starts = now (begins .entry); size = attributes; ids = now (ids .entry); values = now (values .entry) }; path = now (path .entry) }) (now (amounts .entry)) (record { answer = r; amounts = now (amounts .exit) }) ⌝ }
+{
+    let answer = counting::extract_features(
+        labels,
+        words,
+        counts,
+        kinds,
+        destinations,
+        sources,
+        attribute_starts,
+        attribute_entries,
+        label_starts,
+        label_entries,
+        attributes,
+        begins,
+        ids,
+        values,
+        path,
+        amounts,
+    );
+    answers::checks::numbers_of_check(answer)
+}

@@ -1,0 +1,49 @@
+// Score, then decode: the labels of a line, for programs in C and Rust. One call of the crate label_line, and its answer as
+// numbers.
+ghost use Rattle.feature_gen.specs.Lent.{modelOf};
+ghost use Rattle.label_exports.specs.Labels.{Labels};
+use answers::decoding::Decoded;
+use feature_gen::Counts;
+
+// The labels of a line, in the front of `path`, with their sum and lead.
+#[no_mangle]
+pub extern "C" fn bodkinbloom_label_line(
+    labels: u32,
+    counts: Counts,
+    kinds: &[u8],
+    destinations: &[u32],
+    sources: &[u32],
+    weights: &[f64],
+    attribute_starts: &[u32],
+    attribute_entries: &[u32],
+    label_starts: &[u32],
+    label_entries: &[u32],
+    words: u32,
+    attributes: u32,
+    begins: &[u32],
+    ids: &[u32],
+    values: &[f64],
+    path: &mut [u32],
+) -> Decoded
+    ensures { λ r. ⌜ Labels (record { model = modelOf labels counts (now (kinds .entry)) (now (destinations .entry)) (now (sources .entry)) (now («attribute_starts» .entry)) (now («attribute_entries» .entry)) (now («label_starts» .entry)) (now («label_entries» .entry)); weights = now (weights .entry); words = words; line = record { starts = now (begins .entry); size = attributes; ids = now (ids .entry); values = now (values .entry) } }) (now (path .entry)) (record { answer = r; path = now (path .exit) }) ⌝ }
+{
+    let answer = label_line::label_line(
+        labels,
+        words,
+        counts,
+        kinds,
+        destinations,
+        sources,
+        weights,
+        attribute_starts,
+        attribute_entries,
+        label_starts,
+        label_entries,
+        attributes,
+        begins,
+        ids,
+        values,
+        path,
+    );
+    answers::decoding::numbers_of_decoding(answer)
+}
