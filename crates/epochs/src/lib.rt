@@ -87,7 +87,7 @@ fn epoch(
             predicted,
         );
         let v = step.visit;
-        if updates::is_refused(v) {
+        if steps::is_refused(v) {
             return step;
         }
         j += 1;
@@ -162,7 +162,7 @@ pub fn run(
             predicted,
         );
         e += 1;
-        if updates::ends(trainer, epsilon, n, step) {
+        if steps::ends(trainer, epsilon, n, step) {
             return Ran {
                 step: step,
                 epochs: e,

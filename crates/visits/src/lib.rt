@@ -159,10 +159,10 @@ pub fn visit(
         &mut path[..words],
     );
     if !p.finite {
-        return updates::refuse(8, s);
+        return steps::refuse(8, s);
     }
     if p.wrong == 0 {
-        return updates::unchanged(s);
+        return steps::unchanged(s);
     }
     correct(
         trainer,

@@ -19,7 +19,7 @@ use Rattle.epochs.proofs.epoch.Statement.{statement}
 use Rattle.epochs.proofs.epoch.Tie as tie
 use Rattle.epochs.proofs.epoch.Reads as reads
 use Rattle.epochs.proofs.epoch.Lts as lts
-use Rattle.updates.proofs.is_refused.Reads as is-refused-reads
+use Rattle.steps.proofs.is_refused.Reads as is-refused-reads
 use Rattle.lines.proofs.at.Reads as at-reads
 use Rattle.visits.proofs.visit.Reads as visit-reads
 

@@ -21,7 +21,7 @@ use Rattle.epochs.proofs.run.Statement.{statement}
 use Rattle.epochs.proofs.run.Tie as tie
 use Rattle.epochs.proofs.run.Reads as reads
 use Rattle.epochs.proofs.run.Lts as lts
-use Rattle.updates.proofs.ends.Reads as ends-reads
+use Rattle.steps.proofs.ends.Reads as ends-reads
 use Rattle.epochs.proofs.epoch.Reads as epoch-reads
 use Rattle.shuffle.proofs.shuffle.Reads as shuffle-reads
 

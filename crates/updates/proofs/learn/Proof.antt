@@ -12,7 +12,7 @@ use Rattle.updates.proofs.learn.Reads as reads
 use Rattle.updates.proofs.learn.Lts as lts
 use Rattle.binary64.proofs.is_finite.Reads as is-finite-reads
 use Rattle.training_tables.proofs.both_finite.Reads as both-finite-reads
-use Rattle.updates.proofs.refuse.Reads as refuse-reads
+use Rattle.steps.proofs.refuse.Reads as refuse-reads
 use Rattle.updates.proofs.update.Reads as update-reads
 
 add-visits : tie.Need-add-visits

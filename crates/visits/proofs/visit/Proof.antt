@@ -24,8 +24,8 @@ use Rattle.visits.proofs.visit.Lts as lts
 use Rattle.lines.proofs.at.Reads as at-reads
 use Rattle.prediction.proofs.predict.Reads as predict-reads
 use Rattle.visits.proofs.correct.Reads as correct-reads
-use Rattle.updates.proofs.refuse.Reads as refuse-reads
-use Rattle.updates.proofs.unchanged.Reads as unchanged-reads
+use Rattle.steps.proofs.refuse.Reads as refuse-reads
+use Rattle.steps.proofs.unchanged.Reads as unchanged-reads
 
 -- the model, the data and the state that the arguments make
 abbrev model : tie.Start → Model
