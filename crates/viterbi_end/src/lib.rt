@@ -28,8 +28,8 @@ fn last_largest(row: &[f64; 32], n: usize) -> usize
     let mut label: usize = 1;
     while label < n {
         let next = row[label];
-        last = viterbi_steps::whence(score, next, last, label as u64);
-        score = viterbi_steps::better(score, next);
+        last = best_step::whence(score, next, last, label as u64);
+        score = best_step::better(score, next);
         label += 1;
     }
     last as usize
@@ -53,7 +53,7 @@ fn rival(row: &[f64; 32], n: usize, last: usize) -> f64
     let mut k: usize = 1;
     while k + 1 < n {
         let label = other_label(last, k);
-        score = viterbi_steps::better(score, row[label]);
+        score = best_step::better(score, row[label]);
         k += 1;
     }
     score

@@ -7,7 +7,7 @@ use lib.Ieee.{Float}
 use Rattle.best_path.specs.Decoded.{lastLargest}
 use Rattle.best_path.specs.Lead.{other}
 use Rattle.best_path.proofs.Laws.{largest-first, other-within}
-use Rattle.viterbi_steps.proofs.Laws.{score-more}
+use Rattle.best_step.proofs.Laws.{score-more}
 use Rattle.viterbi_end.specs.Ends.{scoreAt}
 use borrow.Author.Needs.{needs}
 use Rattle.viterbi_end.proofs.rival.Statement.{statement}
