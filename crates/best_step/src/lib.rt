@@ -1,7 +1,7 @@
 // The best candidate for one label of a word, and the tie rule: the inner loop of the decoder for few labels.
 ghost use mathlib.Core.Path.{_≡_};
 ghost use mathlib.Core.Bool.{cond};
-ghost use Prim.Native.Nat.{_+_, _*_, _≤_, _<_};
+ghost use Prim.Native.Nat.{_*_, _≤_, _<_};
 ghost use lib.ListN.{length};
 ghost use lib.Ieee.{le};
 ghost use Rattle.best_step.specs.Chosen.{candidate, chosen};

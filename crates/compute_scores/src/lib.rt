@@ -1,7 +1,7 @@
 // The state and transition scores of a line: `compute_scores` of crf_context.rs, over flat tables and into lent buffers.
 ghost use mathlib.Core.Path.{_≡_};
 ghost use mathlib.Core.List.{[], _++_};
-ghost use Prim.Native.Nat.{ℕ, _+_, _-_, _*_, _≤_, _<_};
+ghost use Prim.Native.Nat.{ℕ, _+_, _-_, _*_, _≤_};
 ghost use lib.ListN.{length, drop};
 ghost use Rattle.lines.specs.Passes.{through};
 ghost use Rattle.lines.specs.Tables.{Model};

@@ -1,7 +1,7 @@
 // The Transitions of a line under its labels, counted: the second part of counting.
 ghost use mathlib.Core.Path.{_≡_};
 ghost use mathlib.Core.List.{[]};
-ghost use Prim.Native.Nat.{_+_, _-_, _≤_, _<_};
+ghost use Prim.Native.Nat.{_-_, _≤_, _<_};
 ghost use lib.ListN.{length, getD};
 ghost use Rattle.lines.specs.Passes.{through};
 ghost use Rattle.lines.specs.Spans.{throughSpan, SoundSpan};

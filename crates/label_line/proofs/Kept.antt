@@ -1,7 +1,7 @@
 -- What an accepted line gives its decoding, and how labelling it keeps its promise. Assumes nothing.
-use mathlib.Core.Path.{_≡_, sym, _∙_}
+use mathlib.Core.Path.{_≡_}
 use mathlib.Core.List.{List, _++_}
-use Prim.Native.Nat.{ℕ, _*_}
+use Prim.Native.Nat.{ℕ}
 use lib.ListN.{take, drop}
 use lib.Seq.{take-at}
 use lib.Ieee.{Float}
@@ -10,7 +10,7 @@ use Rattle.refusals.specs.declared.Checked.the-variants.{Accepted, Refused}
 use Rattle.refusals.specs.Refusals.{orNext}
 use Rattle.lines.proofs.Fronts.{length-states, length-transitions}
 use Rattle.viterbi.specs.declared.Decoding.{Decoding}
-use Rattle.scoring.specs.Promise.{Given, Buffers, stateEntries, transitionEntries, statesOfLine, transitionsOfLine, finishedOf}
+use Rattle.scoring.specs.Promise.{Given, Buffers, stateEntries, transitionEntries, statesOfLine, transitionsOfLine}
 use Rattle.scoring.proofs.Kept.{finished-is}
 use Rattle.decode_scores.specs.Finished.{Finished}
 use Rattle.label_line.specs.Promise.{checkedOf, answerTo, pathAfter, Labelled, Promised}

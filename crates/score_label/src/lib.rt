@@ -1,7 +1,7 @@
 // The Transition entries of one label's list, added to the transition scores.
 ghost use mathlib.Core.Path.{_≡_};
 ghost use mathlib.Core.List.{[]};
-ghost use Prim.Native.Nat.{_+_, _*_, _≤_, _<_};
+ghost use Prim.Native.Nat.{_*_, _≤_, _<_};
 ghost use lib.ListN.{length, getD};
 ghost use Rattle.lines.specs.Spans.{throughSpan, SoundSpan};
 ghost use Rattle.lines.specs.Sound.{SoundTransitions};

@@ -1,7 +1,7 @@
 // The decoder's inner loops: from the best scores of one word to those of the next, with the steps back. The crate
 // viterbi calls `first_row`, then `next_row` once a word.
 ghost use mathlib.Core.Path.{_≡_};
-ghost use Prim.Native.Nat.{ℕ, _+_, _*_, _≤_, _<_};
+ghost use Prim.Native.Nat.{ℕ, _+_, _≤_, _<_};
 ghost use lib.ListN.{length, getD};
 ghost use Rattle.viterbi_steps.specs.Written.{written};
 ghost use Rattle.viterbi_steps.specs.Rows.{firstRow, Before, After, onward, scoreTried, markTried};
