@@ -1,11 +1,11 @@
--- `sheet::check_sizes` meets its contract. Assumes nothing.
+-- `sheet_check::check_sizes` meets its contract. Assumes nothing.
 use Prim.Native.Nat.{_+_, _≤_}
 use borrow.Author.Needs.{needs}
 use mathlib.Core.Path.{sym, _∙_}
 use native.Mathlib.Omega.{arith}
-use Rattle.sheet.proofs.Rows.{head-refused, head-passed, head-long, small-sizes}
-use Rattle.sheet.proofs.check_sizes.Statement.{statement}
-use Rattle.sheet.proofs.check_sizes.Tie as tie
+use Rattle.sheet_check.proofs.Rows.{head-refused, head-passed, head-long, small-sizes}
+use Rattle.sheet_check.proofs.check_sizes.Statement.{statement}
+use Rattle.sheet_check.proofs.check_sizes.Tie as tie
 
 -- the two tables' sizes, whatever the bytes say
 fit : (c : tie.After-entries2) → c .before .entries .result + c .entries2 .result ≤ 16842240

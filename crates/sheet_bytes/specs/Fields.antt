@@ -3,7 +3,6 @@ use mathlib.Core.List.{List, [], _∷_}
 use Prim.Native.Nat.{ℕ, zero, suc, _+_, _*_}
 use lib.ListN.{getD, take, drop}
 use lib.Ieee.{Float, binary64, ofBits}
-use Rattle.sheet.specs.File.{Sheet}
 
 -- "little-endian": the number that bytes stand for, the lowest first
 unfoldable pub valueOf : List ℕ → ℕ
@@ -38,12 +37,3 @@ transitionsIn bytes = numbersIn (labelsIn bytes * labelsIn bytes) (drop 8 bytes)
 
 unfoldable pub statesIn : List ℕ → List Float
 statesIn bytes = numbersIn (wordsIn bytes * labelsIn bytes) (drop (statesFrom bytes) bytes)
-
--- the sheet that bytes say
-abbrev pub sheetIn : List ℕ → Sheet
-sheetIn bytes = record {
-  labels = labelsIn bytes;
-  words = wordsIn bytes;
-  transitions = transitionsIn bytes;
-  states = statesIn bytes;
-}

@@ -1,12 +1,12 @@
--- `sheet::check_sheet` meets its contract. Assumes nothing.
+-- `sheet_check::check_sheet` meets its contract. Assumes nothing.
 use Prim.Native.Nat.{_*_}
 use mathlib.Core.Path.{_≡_, sym, _∙_}
 use native.Mathlib.Omega.{arith}
 use borrow.Author.Needs.{needs}
-use Rattle.sheet.specs.Fields.{labelsIn, wordsIn, transitionsIn, statesIn}
-use Rattle.sheet.proofs.Rows.{Sizes, sizes, sizes-refused, sizes-passed}
-use Rattle.sheet.proofs.check_sheet.Statement.{statement}
-use Rattle.sheet.proofs.check_sheet.Tie as tie
+use Rattle.sheet_bytes.specs.Fields.{labelsIn, wordsIn, transitionsIn, statesIn}
+use Rattle.sheet_check.proofs.Rows.{Sizes, sizes, sizes-refused, sizes-passed}
+use Rattle.sheet_check.proofs.check_sheet.Statement.{statement}
+use Rattle.sheet_check.proofs.check_sheet.Tie as tie
 
 -- what the accepted sizes give
 told : (c : tie.After-enum-told) → let a = c .before .before .before .before .before .before .args in Sizes (a .bytes .now) (record { transitions = a .transitions .now; states = a .states .now })

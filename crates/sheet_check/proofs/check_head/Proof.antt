@@ -1,9 +1,9 @@
--- `sheet::check_head` meets its contract. Assumes nothing.
+-- `sheet_check::check_head` meets its contract. Assumes nothing.
 use borrow.Author.Needs.{needs}
 use mathlib.Core.Path.{_∙_}
-use Rattle.sheet.proofs.Rows.{short-head, whole-head}
-use Rattle.sheet.proofs.check_head.Statement.{statement}
-use Rattle.sheet.proofs.check_head.Tie as tie
+use Rattle.sheet_check.proofs.Rows.{short-head, whole-head}
+use Rattle.sheet_check.proofs.check_head.Statement.{statement}
+use Rattle.sheet_check.proofs.check_head.Tie as tie
 
 refused-requires : tie.Need-refused-requires
 refused-requires c κs = search needs

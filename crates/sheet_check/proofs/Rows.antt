@@ -17,11 +17,8 @@ use Rattle.refusals.proofs.Laws.{settled, both, all-accepted, neither, passes}
 use Rattle.score_tables.specs.Rows.{one, four, two, sixes, boundsChecked}
 use Rattle.score_tables.specs.Sound.{Sized}
 use Rattle.score_tables.proofs.Laws.{sized}
-use Rattle.sheet.specs.Fields.{versionIn, labelsIn, wordsIn, wholeLength, transitionsIn, statesIn}
-use Rattle.sheet.specs.Steps.{headChecked, sizesChecked, filled}
-use Rattle.sheet.specs.Promise.{Lent, Outcome, said, read, wrongHead, wrongLength, sheetChecked, answerTo, transitionsAfter, statesAfter, Promised}
-use Rattle.sheet.specs.declared.Reading.{Reading}
-use Rattle.sheet.proofs.Laws.{length-numbers, filled-all}
+use Rattle.sheet_bytes.specs.Fields.{versionIn, labelsIn, wordsIn, wholeLength, transitionsIn, statesIn}
+use Rattle.sheet_check.specs.Rows.{Lent, wrongHead, wrongLength, sheetChecked, headChecked, sizesChecked}
 
 -- the answer so far, then two checks that were put together
 pub together : (answer check next : Checked) → orNext answer (orNext check next) ≡ orNext (orNext answer check) next
@@ -113,22 +110,3 @@ module _ (bytes : List ℕ) (before : Lent) where
       let b = both _ _ (sizes-passed ∙ h) in
       let a = both _ _ (b .0) in
       record { sizes-in = sizes (a .0); transitions-in = a .1; states-in = b .1 }
-
-  -- the promise, by the two answers
-  pub promised-refused : (why : Refusal) → sheetChecked (record { bytes = bytes }) before ≡ Refused why → Promised (record { bytes = bytes }) before (record { answer = Reading.Refused why; transitions = before .transitions; states = before .states })
-  unfolding answerTo transitionsAfter statesAfter
-  promised-refused why h = record { answers = rw h; fills-transitions = rw h; fills-states = rw h }
-
-  pub promised-read : (o : Outcome) →
-      sheetChecked (record { bytes = bytes }) before ≡ Accepted →
-      said (o .answer) ≡ read (labelsIn bytes) (wordsIn bytes) →
-      o .transitions ≡ filled (transitionsIn bytes) (labelsIn bytes * labelsIn bytes) (before .transitions) →
-      o .states ≡ filled (statesIn bytes) (wordsIn bytes * labelsIn bytes) (before .states) →
-      Promised (record { bytes = bytes }) before o
-  unfolding answerTo transitionsAfter statesAfter transitionsIn statesIn
-  promised-read o h a t s =
-      record {
-        answers = rw h a;
-        fills-transitions = rw h (t ∙ filled-all _ _ _ (length-numbers _ _));
-        fills-states = rw h (s ∙ filled-all _ _ _ (length-numbers _ _));
-      }
