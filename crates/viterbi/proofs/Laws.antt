@@ -20,8 +20,10 @@ use Rattle.viterbi_steps.proofs.Written.{written-length, front-inside}
 use Rattle.best_step.proofs.Laws.{row-after}
 use Rattle.viterbi_steps.proofs.Laws.{after-wide, after-holds, after-leads}
 use Rattle.viterbi_end.specs.declared.Found.{Found}
-use Rattle.viterbi_end.specs.Ends.{scoreAt, lastOf, rivalOf, leadOf, Walk, Ended}
-use Rattle.viterbi_end.proofs.Laws.{walked-path, steps-within}
+use Rattle.rival.specs.Rival.{scoreAt, rivalOf}
+use Rattle.walk_back.specs.Walked.{Walk}
+use Rattle.walk_back.proofs.Laws.{walked-path, steps-within}
+use Rattle.viterbi_end.specs.Ends.{lastOf, leadOf, Ended}
 use Rattle.viterbi.specs.Answered.{Ready, Answered}
 
 -- a table that has rows has a first

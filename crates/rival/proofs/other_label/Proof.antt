@@ -2,8 +2,8 @@
 use borrow.Author.Needs.{needs}
 use borrow.Author.Tests.{lt-ltb, le-ltb}
 use native.Mathlib.Numerals.{add-one}
-use Rattle.viterbi_end.proofs.other_label.Statement.{statement}
-use Rattle.viterbi_end.proofs.other_label.Tie as tie
+use Rattle.rival.proofs.other_label.Statement.{statement}
+use Rattle.rival.proofs.other_label.Tie as tie
 
 returns : tie.Need-returns
 returns c = rw (lt-ltb _ _ (c .if1 .taken))
