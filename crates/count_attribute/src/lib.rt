@@ -15,7 +15,7 @@ use lines::Span;
 
 // The entry at a place of the attribute lists is noted: the note stays where the entry's label is the word's, and otherwise the
 // next one takes its place.
-pub fn note(
+fn note(
     destinations: &[u32],
     entries: &[u32],
     label: u32,
@@ -45,7 +45,7 @@ pub fn note(
 }
 
 // A note is added, where its feature is a State.
-pub fn add_note(kinds: &[u8], who: &[usize], what: &[f64], j: usize, counts: &mut [f64])
+fn add_note(kinds: &[u8], who: &[usize], what: &[f64], j: usize, counts: &mut [f64])
     requires { ⌜ j < length (now who) ⌝ }
     requires { ⌜ j < length (now what) ⌝ }
     requires { ⌜ getD (now who) j 0 < length (now kinds) ⌝ }
@@ -80,7 +80,7 @@ pub fn add_notes(
 }
 
 // The entry at a place of the attribute lists: a State of the word's label adds the attribute's value.
-pub fn count_entry(
+fn count_entry(
     features: usize,
     kinds: &[u8],
     destinations: &[u32],

@@ -12,7 +12,7 @@ use lines::Span;
 
 // The entry at a place of the label lists: a Transition adds 1 where its source is the previous label and its destination the
 // label at hand.
-pub fn transition_count(
+fn transition_count(
     features: usize,
     kinds: &[u8],
     destinations: &[u32],
@@ -42,7 +42,7 @@ pub fn transition_count(
 }
 
 // The entries of the previous label's list, at its places.
-pub fn count_label(
+fn count_label(
     features: usize,
     kinds: &[u8],
     destinations: &[u32],

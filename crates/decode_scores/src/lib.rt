@@ -10,7 +10,7 @@ use viterbi::Decoding;
 use viterbi_end::Found;
 
 // The first n labels are 0, and what comes after them stays.
-pub fn clear_path(path: &mut [u32], n: usize)
+fn clear_path(path: &mut [u32], n: usize)
     requires { ⌜ n ≤ length (now path) ⌝ }
     ensures { λ _. ⌜ now (path .exit) ≡ cleared 0 n (now (path .entry)) ⌝ }
 {
@@ -22,7 +22,7 @@ pub fn clear_path(path: &mut [u32], n: usize)
 }
 
 // Decoding over the fronts of two tables.
-pub fn decode_front(
+fn decode_front(
     labels: u32,
     words: u32,
     states: &[f64],

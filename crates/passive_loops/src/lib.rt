@@ -12,7 +12,7 @@ ghost use Rattle.passive_loops.specs.Noted.{differing, settled, Notes};
 const NOTES: usize = 32;
 
 // The differences of counts from one feature up to another, squared and added to a sum.
-pub fn add_up(sum: f64, truly: &[f64], predicted: &[f64], first: usize, last: usize) -> f64
+fn add_up(sum: f64, truly: &[f64], predicted: &[f64], first: usize, last: usize) -> f64
     requires { ⌜ Both last (length (now truly)) (length (now predicted)) ⌝ }
     ensures { λ r. ⌜ r ≡ through (squared (now (truly .entry)) (now (predicted .entry))) first (last - first) sum ⌝ }
 {
@@ -27,7 +27,7 @@ pub fn add_up(sum: f64, truly: &[f64], predicted: &[f64], first: usize, last: us
 }
 
 // The counts of one of the four features from here on differ.
-pub fn differ(truly: &[f64], predicted: &[f64], first: usize) -> bool
+fn differ(truly: &[f64], predicted: &[f64], first: usize) -> bool
     requires { ⌜ Both (first + 4) (length (now truly)) (length (now predicted)) ⌝ }
     ensures { λ r. ⌜ r ≡ through (differing (now (truly .entry)) (now (predicted .entry))) first 4 false ⌝ }
 {
@@ -42,13 +42,7 @@ pub fn differ(truly: &[f64], predicted: &[f64], first: usize) -> bool
 }
 
 // Four features are noted: the note stays where their counts differ, and otherwise the next one takes its place.
-pub fn note(
-    truly: &[f64],
-    predicted: &[f64],
-    first: usize,
-    noted: usize,
-    who: &mut [usize],
-) -> usize
+fn note(truly: &[f64], predicted: &[f64], first: usize, noted: usize, who: &mut [usize]) -> usize
     requires { ⌜ Both (first + 4) (length (now truly)) (length (now predicted)) ⌝ }
     requires { ⌜ noted < length (now who) ⌝ }
     ensures { λ r. ⌜ now (who .exit) ≡ set (now (who .entry)) noted first ⌝ }
@@ -63,7 +57,7 @@ pub fn note(
 }
 
 // The noted fours are added up, in their order.
-pub fn settle(
+fn settle(
     features: usize,
     truly: &[f64],
     predicted: &[f64],

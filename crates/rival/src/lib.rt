@@ -5,7 +5,7 @@ ghost use Rattle.best_path.specs.Lead.{other, positiveZero};
 ghost use Rattle.rival.specs.Rival.{rivalOf};
 
 // The labels other than `last`, in order.
-pub fn other_label(last: usize, k: usize) -> usize
+fn other_label(last: usize, k: usize) -> usize
     requires { ⌜ k < 32 ⌝ }
     ensures { λ r. ⌜ r ≡ other last k ⌝ }
 {

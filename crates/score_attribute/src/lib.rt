@@ -11,7 +11,7 @@ use lines::Attribute;
 use lines::Span;
 
 // The entry at a place of the attribute lists: a State adds weight·value in the word's row, at its destination.
-pub fn state_entry(
+fn state_entry(
     labels: usize,
     features: usize,
     kinds: &[u8],

@@ -10,7 +10,7 @@ ghost use Rattle.lines.specs.Lent.{bare, withTransitions};
 use lines::Span;
 
 // The entry at a place of the label lists: a Transition adds its weight at its own source and destination.
-pub fn transition_entry(
+fn transition_entry(
     labels: usize,
     features: usize,
     kinds: &[u8],

@@ -10,7 +10,7 @@ use refusals::Checked;
 use score_tables::entries;
 
 // 10 on the head, then 1 and 4.
-pub fn check_head(bytes: &[u8]) -> Checked
+fn check_head(bytes: &[u8]) -> Checked
     ensures { λ r. ⌜ r ≡ headChecked (now (bytes .entry)) ⌝ }
 {
     if bytes.len() < 8 {
@@ -29,7 +29,7 @@ pub fn check_head(bytes: &[u8]) -> Checked
 }
 
 // The same, then 2 and 10 on length.
-pub fn check_sizes(bytes: &[u8], transitions: &[f64], states: &[f64]) -> Checked
+fn check_sizes(bytes: &[u8], transitions: &[f64], states: &[f64]) -> Checked
     ensures { λ r. ⌜ r ≡ sizesChecked (now (bytes .entry)) (record { transitions = now (transitions .entry); states = now (states .entry) }) ⌝ }
 {
     let head = check_head(bytes);
@@ -44,7 +44,7 @@ pub fn check_sizes(bytes: &[u8], transitions: &[f64], states: &[f64]) -> Checked
 }
 
 // 6 over the n numbers from a place on.
-pub fn check_part(answer: Checked, bytes: &[u8], at: usize, n: usize) -> Checked
+fn check_part(answer: Checked, bytes: &[u8], at: usize, n: usize) -> Checked
     requires { ⌜ at + 8 * n ≤ length (now bytes) ⌝ }
     ensures { λ r. ⌜ r ≡ orNext answer (numbersChecked (numbersIn n (drop at (now (bytes .entry)))) n) ⌝ }
 {

@@ -6,7 +6,7 @@ ghost use lib.ListN.{length, getD, drop};
 ghost use Rattle.walk_back.specs.Walked.{walked, Walk};
 
 // The step back that stands at a place.
-pub fn step(steps: &[u8], place: usize) -> usize
+fn step(steps: &[u8], place: usize) -> usize
     requires { ⌜ place < length (now steps) ⌝ }
     ensures { λ r. ⌜ r ≡ getD (now (steps .entry)) place 0 ⌝ }
 {
