@@ -1,81 +1,13 @@
 // The state and transition scores of a line: `compute_scores` of crf_context.rs, over flat tables and into lent buffers.
 ghost use mathlib.Core.Path.{_≡_};
-ghost use mathlib.Core.List.{List, [], _++_};
-ghost use Prim.Native.Nat.{ℕ, _+_, _-_, _*_, _≤_, _<_};
-ghost use lib.ListN.{length, getD, drop};
+ghost use mathlib.Core.List.{[], _++_};
+ghost use Prim.Native.Nat.{ℕ, _+_, _-_, _*_, _≤_};
+ghost use lib.ListN.{length, drop};
 ghost use Rattle.lines.specs.Passes.{through};
-ghost use Rattle.lines.specs.Tables.{Model, Words};
-ghost use Rattle.lines.specs.Spans.{throughSpan, SoundSpan};
+ghost use Rattle.lines.specs.Tables.{Model};
 ghost use Rattle.lines.specs.Sound.{SoundLists, SoundWords, SoundStates, SoundTransitions};
-ghost use Rattle.lines.specs.Scored.{stateEntry, scoredAt, statesOf, transitionEntry, transitionsOf};
+ghost use Rattle.lines.specs.Scored.{scoredAt, statesOf, transitionsOf};
 ghost use Rattle.lines.specs.Lent.{bare, withStates, withTransitions};
-use lines::Attribute;
-use lines::Span;
-
-// The entry at a place of the attribute lists: a State adds weight·value in the word's row, at its destination.
-fn state_entry(
-    labels: usize,
-    features: usize,
-    kinds: &[u8],
-    destinations: &[u32],
-    weights: &[f64],
-    entries: &[u32],
-    word: usize,
-    value: f64,
-    e: usize,
-    states: &mut [f64],
-)
-    requires { ⌜ SoundStates labels features (now kinds) (now destinations) (now weights) ⌝ }
-    requires { ⌜ e < length (now entries) ⌝ }
-    requires { ⌜ getD (now entries) e 0 < features ⌝ }
-    requires { ⌜ (word + 1) * labels ≤ length (now states) ⌝ }
-    ensures { λ _. ⌜ now (states .exit) ≡ stateEntry (withStates bare labels features (now (kinds .entry)) (now (destinations .entry)) 0 [] (now (entries .entry))) (now (weights .entry)) word value e (now (states .entry)) ⌝ }
-{
-    let i = lines::at(entries, e);
-    if kinds[i] == 0 {
-        let p = word * labels + lines::at(destinations, i);
-        let weight = weights[i];
-        states[p] = states[p] + weight * value;
-    }
-}
-
-// An attribute of a word, with the places of its list.
-fn score_attribute(
-    labels: usize,
-    features: usize,
-    kinds: &[u8],
-    destinations: &[u32],
-    weights: &[f64],
-    entries: &[u32],
-    word: usize,
-    attribute: Attribute,
-    span: Span,
-    states: &mut [f64],
-)
-    requires { ⌜ SoundStates labels features (now kinds) (now destinations) (now weights) ⌝ }
-    requires { ⌜ SoundSpan span (now entries) features ⌝ }
-    requires { ⌜ (word + 1) * labels ≤ length (now states) ⌝ }
-    ensures { λ _. ⌜ now (states .exit) ≡ throughSpan (stateEntry (withStates bare labels features (now (kinds .entry)) (now (destinations .entry)) 0 [] (now (entries .entry))) (now (weights .entry)) word (attribute .value)) span (now (states .entry)) ⌝ }
-{
-    let value = attribute.value;
-    let last = span.last;
-    let mut e = span.first;
-    while e < last {
-        state_entry(
-            labels,
-            features,
-            kinds,
-            destinations,
-            weights,
-            entries,
-            word,
-            value,
-            e,
-            states,
-        );
-        e += 1;
-    }
-}
 
 // The attributes of a word, in order. The next attribute's list is found before the entries of this one are added, so that no
 // entry waits for the starts.
@@ -109,7 +41,7 @@ fn score_word(
         while a < to {
             let next = lines::attribute_before(ids, values, to, a + 1);
             let ahead = lines::attribute_span(lists, starts, next);
-            score_attribute(
+            score_attribute::score_attribute(
                 labels,
                 features,
                 kinds,
@@ -176,68 +108,6 @@ pub fn score_line(
     }
 }
 
-// The entry at a place of the label lists: a Transition adds its weight at its own source and destination.
-fn transition_entry(
-    labels: usize,
-    features: usize,
-    kinds: &[u8],
-    destinations: &[u32],
-    sources: &[u32],
-    weights: &[f64],
-    entries: &[u32],
-    e: usize,
-    transitions: &mut [f64],
-)
-    requires { ⌜ SoundTransitions labels features (now kinds) (now destinations) (now sources) (now weights) ⌝ }
-    requires { ⌜ e < length (now entries) ⌝ }
-    requires { ⌜ getD (now entries) e 0 < features ⌝ }
-    requires { ⌜ labels * labels ≤ length (now transitions) ⌝ }
-    ensures { λ _. ⌜ now (transitions .exit) ≡ transitionEntry (withTransitions bare labels features (now (kinds .entry)) (now (destinations .entry)) (now (sources .entry)) 0 [] (now (entries .entry))) (now (weights .entry)) e (now (transitions .entry)) ⌝ }
-{
-    let i = lines::at(entries, e);
-    if kinds[i] == 1 {
-        let source = lines::at(sources, i);
-        let destination = lines::at(destinations, i);
-        let p = source * labels + destination;
-        transitions[p] = transitions[p] + weights[i];
-    }
-}
-
-// The entries of a label's list.
-fn score_label(
-    labels: usize,
-    features: usize,
-    kinds: &[u8],
-    destinations: &[u32],
-    sources: &[u32],
-    weights: &[f64],
-    entries: &[u32],
-    span: Span,
-    transitions: &mut [f64],
-)
-    requires { ⌜ SoundTransitions labels features (now kinds) (now destinations) (now sources) (now weights) ⌝ }
-    requires { ⌜ SoundSpan span (now entries) features ⌝ }
-    requires { ⌜ labels * labels ≤ length (now transitions) ⌝ }
-    ensures { λ _. ⌜ now (transitions .exit) ≡ throughSpan (transitionEntry (withTransitions bare labels features (now (kinds .entry)) (now (destinations .entry)) (now (sources .entry)) 0 [] (now (entries .entry))) (now (weights .entry))) span (now (transitions .entry)) ⌝ }
-{
-    let last = span.last;
-    let mut e = span.first;
-    while e < last {
-        transition_entry(
-            labels,
-            features,
-            kinds,
-            destinations,
-            sources,
-            weights,
-            entries,
-            e,
-            transitions,
-        );
-        e += 1;
-    }
-}
-
 // The transition scores, in the front of the buffer: the label lists numbered below both L and their number, rising.
 pub fn score_transitions(
     labels: usize,
@@ -261,7 +131,7 @@ pub fn score_transitions(
     let mut label = 0;
     while label < shared {
         let span = lines::list_span(lists, starts, label);
-        score_label(
+        score_label::score_label(
             labels,
             features,
             kinds,

@@ -15,10 +15,10 @@ use Rattle.refusals.proofs.Laws.{all-accepted, passes}
 use Rattle.score_tables.specs.Rows.{one, four, sixes}
 use Rattle.score_tables.specs.Sound.{Sound}
 use Rattle.sheet.specs.declared.Reading.{Reading}
-use Rattle.sheet.specs.Fields.{labelsIn, wordsIn, transitionsIn, statesIn}
-use Rattle.sheet.specs.Promise.{Lent, wrongHead, wrongLength, sheetChecked}
+use Rattle.sheet_bytes.specs.Fields.{labelsIn, wordsIn, transitionsIn, statesIn}
+use Rattle.sheet_check.specs.Rows.{Lent, wrongHead, wrongLength, sheetChecked}
 use Rattle.sheet.specs.Promise as reader
-use Rattle.sheet.proofs.Rows.{accepts}
+use Rattle.sheet_check.proofs.Rows.{accepts}
 use Rattle.answer_line.specs.Line as line
 use Rattle.decode_sheet.specs.declared.Written.{Written}
 use Rattle.decode_sheet.specs.Answer.{pathLineOf, lineChecked}

@@ -6,7 +6,7 @@ use lib.ListN.{replicate, length-replicate}
 use lib.Ieee.{nan}
 use Rattle.refusals.specs.declared.Checked.the-variants.{Accepted}
 use Rattle.sheet.specs.File.{Sheet, encoded, Sound}
-use Rattle.sheet.specs.Promise.{Lent}
+use Rattle.sheet_check.specs.Rows.{Lent}
 use Rattle.sheet.proofs.Files.{labels-back, words-back, transitions-back, states-back, file-accepted}
 use Rattle.decode_sheet.specs.Answer.{pathLineOf, lineChecked}
 use Rattle.decode_sheet.specs.Program.{printedLine, PrintsThePath}

@@ -17,10 +17,11 @@ use Rattle.refusals.proofs.Laws.{all-accepted}
 use Rattle.score_tables.specs.Rows.{one, four, two, sixes}
 use Rattle.score_tables.specs.Sound.{LabelsIn, WordsIn, Sound}
 use Rattle.score_tables.proofs.Laws.{labels-in, words-in, all-finite}
-use Rattle.sheet.specs.Fields.{labelsIn, wordsIn, transitionsIn, statesIn}
-use Rattle.sheet.specs.Promise.{Lent, read, refused, wrongHead, wrongLength, sheetChecked, answerBy}
-use Rattle.sheet.proofs.Laws.{length-numbers}
-use Rattle.sheet.proofs.Rows.{Accepts}
+use Rattle.sheet_bytes.specs.Fields.{labelsIn, wordsIn, transitionsIn, statesIn}
+use Rattle.sheet_check.specs.Rows.{Lent, wrongHead, wrongLength, sheetChecked}
+use Rattle.sheet.specs.Promise.{read, refused, answerBy}
+use Rattle.sheet_bytes.proofs.Laws.{length-numbers}
+use Rattle.sheet_check.proofs.Rows.{Accepts}
 use Rattle.sheet.proofs.Once.{same-refusal}
 use Rattle.decode_sheet.specs.Answer.{lineChecked}
 

@@ -7,8 +7,8 @@ use Rattle.refusals.specs.Tables.{short}
 use Rattle.best_path.specs.Scores.{Scores, tabled}
 use Rattle.best_path.specs.Decoded.{decodedPath, decodedSum}
 use Rattle.score_tables.specs.Rows.{one, four, sixes}
-use Rattle.sheet.specs.Fields.{labelsIn, wordsIn, transitionsIn, statesIn}
-use Rattle.sheet.specs.Promise.{wrongHead, wrongLength}
+use Rattle.sheet_bytes.specs.Fields.{labelsIn, wordsIn, transitionsIn, statesIn}
+use Rattle.sheet_check.specs.Rows.{wrongHead, wrongLength}
 use Rattle.answer_line.specs.Line.{pathLine}
 
 -- the score tables that the bytes hold

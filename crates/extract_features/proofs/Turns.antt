@@ -1,4 +1,4 @@
--- A turn of a loop over attributes, words or transitions is a step of counting. Assumes nothing.
+-- A turn of a loop over attributes or words is a step of counting. Assumes nothing.
 use mathlib.Core.Path.{_≡_, ap, _∙_}
 use mathlib.Core.List.{List, [], _++_}
 use Prim.Native.Nat.{ℕ, _+_, _-_, _<_}
@@ -13,7 +13,7 @@ use Rattle.lines.specs.Sound.{SoundLists}
 use Rattle.lines.specs.Counted.{stateCount, countedAttribute, countedAt, countedWord, transitionCount, countedTransition, countsOf}
 use Rattle.lines.specs.Lent.{bare, withCounts}
 use Rattle.lines.proofs.Laws.{list-pass}
-use Rattle.lines.proofs.Spans.{span-pass, attribute-turn}
+use Rattle.lines.proofs.Spans.{attribute-turn}
 use Rattle.lines.proofs.Fronts.{counts-front}
 
 pub counted-turn : (m : Model) (d : Words) (label end a : ℕ) {attribute : Attribute} {span : Span} (t : List Float) {u : List Float} →
@@ -28,15 +28,6 @@ pub word-turn : (m : Model) (d : Words) (first : ℕ) (labels : List ℕ) (word 
     u ≡ countedWord m d first labels word t
 unfolding countedWord
 word-turn m d first labels word from to t p q r = list-pass (countedAt m d (getD labels word 0)) (d .starts) (first + word) from to t p q r
-
-pub transition-turn : (m : Model) (labels : List ℕ) (word : ℕ) {span : Span} (t : List Float) {u : List Float} →
-    span ≡ spanOf (m .labelLists .count) (m .labelLists .starts) (getD labels (word - 1) 0) → u ≡ throughSpan (transitionCount m (getD labels (word - 1) 0) (getD labels word 0)) span t →
-    u ≡ countedTransition m labels word t
-unfolding countedTransition
-transition-turn m labels word t q r =
-    r
-    ∙ ap (λ (z : Span). throughSpan (transitionCount m (getD labels (word - 1) 0) (getD labels word 0)) z t) q
-    ∙ span-pass (transitionCount m (getD labels (word - 1) 0) (getD labels word 0)) (m .labelLists .count) (m .labelLists .starts) (getD labels (word - 1) 0) t
 
 -- both loops have ended: they saw of the model and of the line what they were lent, and that is all that counts look at
 pub line-end : (m : Model) (d : Words) (first words : ℕ) (labels : List ℕ) (before : List Float) {cleared states u : List Float} →

@@ -16,7 +16,7 @@ use Rattle.line_check.specs.Rows.{lineStarts, valueTests}
 use Rattle.line_check.proofs.Meant.{meaning}
 use Rattle.finished.proofs.Meant.{scores-mean, eight-is-last, not-eight}
 use Rattle.scoring.specs.Promise.{statesOfLine, transitionsOfLine, finishedOf}
-use Rattle.label_line.specs.Rows.{labelLimits, labelChecked}
+use Rattle.label_check.specs.Rows.{labelLimits, labelChecked}
 use Rattle.label_line.specs.Promise.{checkedOf, answerTo}
 use Rattle.label_line.specs.Meaning.{ChecksMean, LabellingMeans}
 

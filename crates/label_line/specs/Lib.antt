@@ -1,4 +1,3 @@
-pub mod Rows
 pub mod Promise
 pub mod Meaning
 pub mod Demand3

@@ -15,7 +15,7 @@ use Rattle.line_check.specs.Rows.{lineStarts, valueTests}
 use Rattle.line_check.specs.Meaning as line
 use Rattle.finished.specs.Meaning.{EightAt}
 use Rattle.scoring.specs.Promise.{Given, stateEntries, transitionEntries, statesOfLine, transitionsOfLine}
-use Rattle.label_line.specs.Rows.{labelLimits, labelChecked}
+use Rattle.label_check.specs.Rows.{labelLimits, labelChecked}
 use Rattle.label_line.specs.Promise.{checkedOf, decodedOf, answerTo}
 
 -- 1, 4, 2, 3, 5 and 6, each exactly when its row says

@@ -13,7 +13,7 @@ use Rattle.viterbi.specs.declared.Decoding.{Decoding}
 use Rattle.viterbi.specs.Promise.{Said, decoded, said, orRefused}
 use Rattle.finished.specs.After.{contents}
 use Rattle.scoring.specs.Promise.{Given, statesOfLine, transitionsOfLine, finishedOf}
-use Rattle.label_line.specs.Rows.{labelChecked}
+use Rattle.label_check.specs.Rows.{labelChecked}
 
 -- the answer, and what the lent buffer holds afterwards
 pub record Outcome : Type 0 where

@@ -10,9 +10,9 @@ use native.Mathlib.Omega.{arith}
 use lib.ListN.{getD, set, length, length-set, replicate, length-replicate, List·getD-append}
 use lib.Seq.{set-append-left}
 use lib.Ieee.{Float, nan, binary64, add}
-use Rattle.lines.specs.Passes.{through, throughList, nought, raised}
+use Rattle.lines.specs.Passes.{through, nought, raised}
 use Rattle.lines.specs.Tables.{Model, Words, Transition}
-use Rattle.lines.specs.Scored.{scoredWord, statesOf, transitionEntry, transitionsOf}
+use Rattle.lines.specs.Scored.{scoredWord, statesOf, scoredLabel, transitionsOf}
 use Rattle.lines.specs.Counted.{one, countedWord, countedTransition, countsOf}
 use Rattle.lines.specs.Sound.{SoundLists, SoundStates, SoundTransitions}
 use Rattle.lines.proofs.Changes.{Closed, through-all}
@@ -77,7 +77,7 @@ module _ (m : Model) where
   pub length-transitions : (weights : List Float) → length (transitionsOf m weights) ≡ m .labels * m .labels
   unfolding transitionsOf
   length-transitions weights =
-      through-all kept (throughList (transitionEntry m weights) (m .labelLists .starts)) 0 (min (m .labels) (m .labelLists .count)) (λ l h. label-all kept m weights (0 + l) (λ e v _ _. raised-kept _ v)) _
+      through-all kept (scoredLabel m weights) 0 (min (m .labels) (m .labelLists .count)) (λ l h. label-all kept m weights (0 + l) (λ e v _ _. raised-kept _ v)) _
       ∙ length-replicate _ nought
 
   pub length-counts : (d : Words) (first words : ℕ) (labels : List ℕ) → length (countsOf m d first words labels) ≡ m .features .count
@@ -101,10 +101,10 @@ module _ (m : Model) where
   -- transition scores, the front of a row for each label
   pub transitions-front : {weights : List Float} → SoundTransitions (m .labels) (m .features .count) (m .features .kinds) (m .features .destinations) (m .features .sources) weights → SoundLists (m .labelLists .count) (m .labelLists .starts) (m .labelLists .entries) (m .features .count) →
       (tail : List Float) →
-      through (throughList (transitionEntry m weights) (m .labelLists .starts)) 0 (min (m .labels) (m .labelLists .count)) (replicate (m .labels * m .labels) nought ++ tail) ≡ transitionsOf m weights ++ tail
+      through (scoredLabel m weights) 0 (min (m .labels) (m .labelLists .count)) (replicate (m .labels * m .labels) nought ++ tail) ≡ transitionsOf m weights ++ tail
   unfolding transitionsOf
   transitions-front {weights} f l tail =
-      through-all (fronted (m .labels * m .labels)) (throughList (transitionEntry m weights) (m .labelLists .starts)) 0 (min (m .labels) (m .labelLists .count)) (λ p h.
+      through-all (fronted (m .labels * m .labels)) (scoredLabel m weights) 0 (min (m .labels) (m .labelLists .count)) (λ p h.
       label-all (fronted (m .labels * m .labels)) m weights (0 + p) (λ e v k t.
       let i = l .ids (0 + p) e (omega arith) k in
       raised-fronted _ _ v (in-row _ (m .labels) _ (m .labels) (f .leaves _ i t) (f .states .leads _ i))))

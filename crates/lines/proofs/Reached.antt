@@ -12,7 +12,7 @@ use borrow.Author.Tests.{ltb-true, eqb-true}
 use Rattle.lines.specs.declared.Attribute.{Attribute}
 use Rattle.lines.specs.Passes.{through, throughList, start, raised}
 use Rattle.lines.specs.Tables.{Model, Words, attributeAt, State, Transition}
-use Rattle.lines.specs.Scored.{stateEntry, scoredAttribute, scoredAt, scoredWord, transitionEntry}
+use Rattle.lines.specs.Scored.{stateEntry, scoredAttribute, scoredAt, scoredWord, transitionEntry, scoredLabel}
 use Rattle.lines.specs.Counted.{one, stateCount, countedAttribute, countedAt, countedWord, transitionCount, countedTransition}
 use Rattle.lines.proofs.Changes.{Closed, through-all, cond-all, list-all}
 
@@ -39,7 +39,7 @@ module _ {P : (List Float → List Float) → Type 0} (closed : Closed P) (m : M
     -- every Transition entry of a label list adds at its own source and destination
     pub label-all : (label : ℕ) →
         ((e : ℕ) (v : Float) → e < start (m .labelLists .starts) (label + 1) → getD (m .features .kinds) (labelled m e) 0 ≡ Transition → P (λ s. raised s (getD (m .features .sources) (labelled m e) 0 * m .labels + getD (m .features .destinations) (labelled m e) 0) v)) →
-        P (throughList (transitionEntry m weights) (m .labelLists .starts) label)
+        P (scoredLabel m weights label)
     unfolding transitionEntry
     label-all label h =
         list-all closed (transitionEntry m weights) (m .labelLists .starts) label (λ e l.

@@ -44,7 +44,10 @@ module _ (m : Model) (weights : List Float) where
       (raised transitions (getD (m .features .sources) i 0 * m .labels + getD (m .features .destinations) i 0) (getD weights i nan))
       transitions
 
+  -- "list entries are taken in order": those of one label's list
+  abbrev pub scoredLabel : ℕ → List Float → List Float
+  scoredLabel label transitions = throughList transitionEntry (m .labelLists .starts) label transitions
+
   -- "Transitions: label lists numbered below both L and their number, rising"
   unfoldable pub transitionsOf : List Float
-  transitionsOf =
-      through (throughList transitionEntry (m .labelLists .starts)) 0 (min (m .labels) (m .labelLists .count)) (replicate (m .labels * m .labels) nought)
+  transitionsOf = through scoredLabel 0 (min (m .labels) (m .labelLists .count)) (replicate (m .labels * m .labels) nought)

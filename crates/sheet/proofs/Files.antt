@@ -18,13 +18,14 @@ use Rattle.refusals.proofs.Laws.{accepted-all, neither}
 use Rattle.refusals.proofs.Meant.{numbers-mean, numbers-finite}
 use Rattle.score_tables.specs.Rows.{one, four, two, sixes}
 use Rattle.sheet.specs.File.{Sheet, littleEndian, numbers, encoded, Finite64, Sound}
-use Rattle.sheet.specs.Fields.{versionIn, labelsIn, wordsIn, statesFrom, wholeLength, numbersIn, transitionsIn, statesIn, sheetIn}
-use Rattle.sheet.specs.Promise.{Given, Lent, Outcome, said, read, wrongHead, sheetChecked, answerBy, answerTo, transitionsAfter, statesAfter, Promised}
-use Rattle.sheet.specs.Files.{Bytes, RoomFor, ReadFrom, ExactlyTheFiles}
+use Rattle.sheet_bytes.specs.Fields.{versionIn, labelsIn, wordsIn, statesFrom, wholeLength, numbersIn, transitionsIn, statesIn}
+use Rattle.sheet_check.specs.Rows.{Given, Lent, wrongHead, sheetChecked}
+use Rattle.sheet.specs.Promise.{Outcome, said, read, answerBy, answerTo, transitionsAfter, statesAfter, Promised}
+use Rattle.sheet.specs.Files.{sheetIn, Bytes, RoomFor, ReadFrom, ExactlyTheFiles}
 use Rattle.score_tables.proofs.Laws.{true-holds}
-use Rattle.sheet.proofs.Laws.{length-numbers, number-at}
+use Rattle.sheet_bytes.proofs.Laws.{length-numbers, number-at}
 use Rattle.sheet.proofs.Little.{length-bytes, numbers-read, numbers-back, drop-bytes}
-use Rattle.sheet.proofs.Rows.{wrongBytes, Accepts, accepts}
+use Rattle.sheet_check.proofs.Rows.{wrongBytes, Accepts, accepts}
 
 -- ---- the fields of an encoded sheet
 

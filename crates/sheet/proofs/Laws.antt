@@ -1,69 +1,13 @@
--- Laws of little-endian numbers, of tables in bytes and of tables that are filled, over plain lists and numbers. Assumes nothing.
-use mathlib.Core.Path.{_≡_, refl, sym, _∙_, ap}
+-- Laws of tables that are filled. Assumes nothing.
+use mathlib.Core.Path.{_≡_, refl, sym, _∙_}
 use mathlib.Core.List.{List, _++_}
-use Prim.Native.Nat.{ℕ, zero, suc, _+_, _*_, _<_, _≤_}
+use Prim.Native.Nat.{ℕ, suc, _+_, _<_, _≤_}
 use native.Mathlib.Numerals.{add-one}
 use native.Mathlib.Omega.{arith}
 use lib.ListN.{length, getD, set, take, drop, length-append, length-drop}
-use lib.Seq.{drop-cons, drop-drop, take-suc, take-all, length-take-le, set-at, append-snoc}
-use mathlib.Core.Bool.{Bool, not}
-use lib.Ieee.{Float, nan, binary64, ofBits}
-use lib.Ieee.Scale.{finite}
-use Rattle.refusals.specs.Tables.{notFinite}
-use Rattle.sheet.specs.Fields.{valueOf, numbersIn}
+use lib.Seq.{drop-cons, take-suc, take-all, length-take-le, set-at, append-snoc}
+use lib.Ieee.{Float, nan}
 use Rattle.sheet.specs.Steps.{filled}
-
--- ---- little-endian numbers
-
--- the lowest byte, then the rest
-module _ (bytes : List ℕ) where
-  byte : (k at next : ℕ) → at + 1 ≡ next → at < length bytes → valueOf (take (suc k) (drop at bytes)) ≡ getD bytes at 0 + 256 * valueOf (take k (drop next bytes))
-  unfolding valueOf
-  byte k at next e h = rw (← e, drop-cons bytes at 0, add-one)
-
-  -- two bytes
-  abbrev pub half : ℕ → ℕ
-  half at = getD bytes at 0 + 256 * getD bytes (at + 1) 0
-
-  pub four-halves : (at : ℕ) → at + 8 ≤ length bytes → valueOf (take 8 (drop at bytes)) ≡ half at + 65536 * (half (at + 2) + 65536 * (half (at + 4) + 65536 * half (at + 6)))
-  unfolding valueOf
-  four-halves at h =
-      rw (
-        byte 7 at (at + 1) refl (omega arith),
-        byte 6 (at + 1) (at + 2) (omega arith) (omega arith),
-        byte 5 (at + 2) (at + 2 + 1) refl (omega arith),
-        byte 4 (at + 2 + 1) (at + 4) (omega arith) (omega arith),
-        byte 3 (at + 4) (at + 4 + 1) refl (omega arith),
-        byte 2 (at + 4 + 1) (at + 6) (omega arith) (omega arith),
-        byte 1 (at + 6) (at + 6 + 1) refl (omega arith),
-        byte 0 (at + 6 + 1) (at + 8) (omega arith) (omega arith),
-      )
-      (omega arith)
-
--- ---- a table in bytes
-
-pub length-numbers : (n : ℕ) (bytes : List ℕ) → length (numbersIn n bytes) ≡ n
-unfolding numbersIn
-length-numbers zero bytes = refl
-length-numbers (suc n) bytes = ap suc (length-numbers n (drop 8 bytes))
-
-number-in : (n : ℕ) (bytes : List ℕ) (i : ℕ) → i < n → getD (numbersIn n bytes) i nan ≡ ofBits binary64 (valueOf (take 8 (drop (8 * i) bytes)))
-unfolding numbersIn
-number-in zero bytes i h = absurd (omega arith)
-number-in (suc n) bytes zero h = refl
-number-in (suc n) bytes (suc i) h =
-    let e : 8 * suc i ≡ 8 + 8 * i = omega arith in
-    number-in n (drop 8 bytes) i (omega arith) ∙ rw (e, drop-drop (8 * i) 8 bytes)
-
--- number i of the table that starts at a place
-pub number-at : (bytes : List ℕ) (at n i : ℕ) → i < n → getD (numbersIn n (drop at bytes)) i nan ≡ ofBits binary64 (valueOf (take 8 (drop (at + 8 * i) bytes)))
-number-at bytes at n i h = number-in n (drop at bytes) i h ∙ rw (drop-drop (8 * i) at bytes)
-
--- the finite test of its pattern
-pub tested : {w : ℕ} {r : Bool} (bytes : List ℕ) (at n i : ℕ) → i < n → w ≡ valueOf (take 8 (drop (at + 8 * i) bytes)) → r ≡ finite (ofBits binary64 w) → notFinite (numbersIn n (drop at bytes)) i ≡ not r
-tested bytes at n i h e f = rw (number-at bytes at n i h, ← e, f)
-
--- ---- a table that is filled
 
 module _ (table before : List Float) where
   pub filled-none : before ≡ filled table 0 before

@@ -1,6 +1,6 @@
 pub mod Pattern
 pub mod Laws
-pub mod Rows
+pub mod Kept
 pub mod Once
 pub mod Little
 pub mod Files

@@ -4,8 +4,19 @@ use mathlib.Core.List.{List, _++_}
 use Prim.Native.Nat.{ℕ, _<_}
 use lib.ListN.{length, getD, drop}
 use Rattle.score_tables.specs.Sound.{Room}
+use Rattle.sheet_bytes.specs.Fields.{labelsIn, wordsIn, transitionsIn, statesIn}
+use Rattle.sheet_check.specs.Rows.{Given, Lent}
 use Rattle.sheet.specs.File.{Sheet, encoded, Sound}
-use Rattle.sheet.specs.Promise.{Given, Lent, Outcome, said, read, Promised}
+use Rattle.sheet.specs.Promise.{Outcome, said, read, Promised}
+
+-- the sheet that bytes say
+abbrev pub sheetIn : List ℕ → Sheet
+sheetIn bytes = record {
+  labels = labelsIn bytes;
+  words = wordsIn bytes;
+  transitions = transitionsIn bytes;
+  states = statesIn bytes;
+}
 
 -- each is below 256
 pub record Bytes (bytes : List ℕ) : Type 0 where

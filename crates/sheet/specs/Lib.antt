@@ -1,5 +1,4 @@
 pub mod File
-pub mod Fields
 pub mod Promise
 pub mod Files
 pub mod Steps

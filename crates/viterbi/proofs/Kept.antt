@@ -4,25 +4,17 @@ use mathlib.Core.List.{List, _∷_}
 use Prim.Native.Nat.{ℕ}
 use borrow.Author.Tests.{ltb-false}
 use lib.ListN.{length}
-use lib.Ieee.{Float}
 use Rattle.refusals.specs.declared.Refusal.{Refusal}
-use Rattle.refusals.specs.declared.Checked.{Checked}
 use Rattle.refusals.specs.declared.Checked.the-variants.{Accepted, Refused}
-use Rattle.refusals.specs.Refusals.{orNext}
-use Rattle.refusals.proofs.Laws.{both, all-accepted, passes}
+use Rattle.refusals.proofs.Laws.{all-accepted, passes}
 use Rattle.best_path.specs.Scores.{AllFinite}
 use Rattle.score_tables.specs.Rows.{one, four, two, sixes}
-use Rattle.score_tables.specs.Sound.{Room}
 use Rattle.score_tables.proofs.Laws as tables
 use Rattle.viterbi_end.specs.declared.Found.{Found}
 use Rattle.viterbi.specs.declared.Decoding.{Decoding}
-use Rattle.viterbi.specs.Rows.{pathShort, decodeChecked}
+use Rattle.decode_check.specs.Rows.{pathShort, decodeChecked}
 use Rattle.viterbi.specs.Answered.{Ready, Answered}
 use Rattle.viterbi.specs.Promise.{Given, scoresOf, checkedOf, answerTo, pathAfter, Promised}
-
--- 2 accepts: the tables have room, whatever was tested around it
-pub room : (bounds last : Checked) (labels words : ℕ) (transitions states : List Float) → orNext (orNext bounds (two labels words transitions states)) last ≡ Accepted → Room labels words transitions states
-room bounds last labels words transitions states h = tables.room (both bounds (two labels words transitions states) (both (orNext bounds (two labels words transitions states)) last h .0) .1)
 
 module _ (given : Given) (before : List ℕ) (accepted : checkedOf given before ≡ Accepted) where
   -- an accepted call meets what decoding relies on

@@ -17,10 +17,13 @@ use Rattle.best_path.proofs.Laws.{best-first, last-label-within, row-last, row-
 use Rattle.viterbi_steps.specs.declared.Row.{Row}
 use Rattle.viterbi_steps.specs.Rows.{Holds, StepsTo, Before, After, firstRow}
 use Rattle.viterbi_steps.proofs.Written.{written-length, front-inside}
-use Rattle.viterbi_steps.proofs.Laws.{row-after, after-wide, after-holds, after-leads}
+use Rattle.best_step.proofs.Laws.{row-after}
+use Rattle.viterbi_steps.proofs.Laws.{after-wide, after-holds, after-leads}
 use Rattle.viterbi_end.specs.declared.Found.{Found}
-use Rattle.viterbi_end.specs.Ends.{scoreAt, lastOf, rivalOf, leadOf, Walk, Ended}
-use Rattle.viterbi_end.proofs.Laws.{walked-path, steps-within}
+use Rattle.rival.specs.Rival.{scoreAt, rivalOf}
+use Rattle.walk_back.specs.Walked.{Walk}
+use Rattle.walk_back.proofs.Laws.{walked-path, steps-within}
+use Rattle.viterbi_end.specs.Ends.{lastOf, leadOf, Ended}
 use Rattle.viterbi.specs.Answered.{Ready, Answered}
 
 -- a table that has rows has a first

@@ -1,4 +1,3 @@
-pub mod Rows
 pub mod Answered
 pub mod Promise
 pub mod Demand3

@@ -1,41 +1,27 @@
--- Laws that the inner loops lean on: places in flat tables, the tie rule over a running choice, and from the row of one word to that of the next. Assumes nothing.
+-- From the row of one word to that of the next: the laws that the inner loops lean on. Assumes nothing.
 use mathlib.Core.Path.{_≡_, sym, _∙_}
-use mathlib.Core.Bool.{cond}
 use mathlib.Core.List.{List}
 use Prim.Native.Nat.{ℕ, _+_, _-_, _*_, _≤_, _<_}
-use native.Mathlib.Nat.{mul-le-mul, mul-le-mul-right, suc-mul, zero-mul}
-use native.Mathlib.Numerals.{add-one, add-one-le}
+use native.Mathlib.Nat.{mul-le-mul-right, zero-mul}
+use native.Mathlib.Numerals.{add-one-le}
 use native.Mathlib.Omega.{arith}
 use borrow.Author.Count.{below-more}
 use lib.Arith.{digits-lt}
 use lib.ListN.{length, getD}
-use lib.Ieee.{Float, nan, le}
+use lib.Ieee.{Float, nan}
 use Rattle.best_path.specs.Scores.{tabled, extended}
 use Rattle.best_path.specs.Decoded.{lastLargest, best, back}
-use Rattle.best_path.proofs.Laws.{largest-within, largest-first, largest-turn, value-turn, row-back, row-best}
-use Rattle.viterbi_steps.specs.declared.Choice.{Choice}
+use Rattle.best_path.proofs.Laws.{largest-within, largest-first, row-back, row-best}
+use Rattle.best_step.specs.declared.Choice.{Choice}
+use Rattle.best_step.specs.Chosen.{candidate, chosen}
+use Rattle.best_step.proofs.Laws.{row-after, score-more, from-more}
 use Rattle.viterbi_steps.specs.Written.{written}
-use Rattle.viterbi_steps.specs.Rows.{Holds, StepsTo, Before, After, candidate, chosen, onward, scoreTried, markTried}
+use Rattle.viterbi_steps.specs.Rows.{Holds, StepsTo, Before, After, onward, scoreTried, markTried}
 use Rattle.viterbi_steps.proofs.Written.{written-length, written-outside, written-inside, front-inside, written-same, written-over}
 
--- a table of at most 32 rows and columns
-pub square-small : (n : ℕ) → n ≤ 32 → n * n ≤ 1024
-square-small n h = mul-le-mul h h
-
--- the row after row k starts where that ends
-pub row-after : (k n : ℕ) → (k + 1) * n ≡ k * n + n
-row-after k n = rw (add-one k) (suc-mul k n)
-
+-- a row ends in its table
 pub row-inside : (k n : ℕ) → k < n → k * n + n ≤ n * n
 row-inside k n h = rw row-after at (mul-le-mul-right n (add-one-le h))
-
--- one candidate more, under the tie rule: the score and where it comes from stay those of the last of the largest
-module _ (g : ℕ → Float) (count : ℕ) (any : 0 < count) (score new : Float) (from : ℕ) (known : score ≡ g (lastLargest g (count - 1))) (at : new ≡ g count) where
-  pub score-more : cond (le score new) new score ≡ g (lastLargest g (count + 1 - 1))
-  score-more = rw (known, at) (sym (value-turn g count any))
-
-  pub from-more : from ≡ lastLargest g (count - 1) → cond (le score new) count from ≡ lastLargest g (count + 1 - 1)
-  from-more e = rw (known, at, e) (sym (largest-turn g count any))
 
 -- a choice of n candidates is one of them
 pub choice-within : (g : ℕ → Float) (n : ℕ) (choice : Choice) → 0 < n → choice ≡ chosen g n → choice .previous < n

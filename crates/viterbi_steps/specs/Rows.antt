@@ -2,13 +2,12 @@
 use mathlib.Core.Path.{_≡_}
 use mathlib.Core.Bool.{cond}
 use mathlib.Core.List.{List}
-use Prim.Native.Nat.{ℕ, _+_, _-_, _*_, _≤_, _<_}
+use Prim.Native.Nat.{ℕ, _+_, _*_, _≤_, _<_}
 use lib.ListN.{length, getD, replicate}
 use lib.Ieee.{Float, nan, ofBits, binary64, add, le}
 use Rattle.best_path.specs.Scores.{Scores, tabled}
-use Rattle.best_path.specs.Decoded.{lastLargest, best, back}
+use Rattle.best_path.specs.Decoded.{best, back}
 use Rattle.viterbi_steps.specs.declared.Row.{Row}
-use Rattle.viterbi_steps.specs.declared.Choice.{Choice}
 use Rattle.viterbi_steps.specs.Written.{written}
 
 -- "one row of best scores": at each label, the best sum over the words 0 to `word`
@@ -39,15 +38,6 @@ pub record Before (n word : ℕ) (transitions states row next : List Float) (ste
 pub record After (n word : ℕ) (transitions states next : List Float) (steps : List ℕ) (row : List Float) (longer : List ℕ) : Type 0 where
   pub scores : row ≡ written 0 (best (tabled n transitions states) (word + 1)) n next
   pub leads : longer ≡ written ((word + 1) * n) (back (tabled n transitions states) word) n steps
-
--- "A later candidate is (best of previous + transition) + state": for one label, by the label of the word before
-abbrev pub candidate : ℕ → List Float → List Float → ℕ → Float → ℕ → Float
-candidate n transitions row label state previous =
-    add binary64 (add binary64 (getD row previous nan) (getD transitions (previous * n + label) nan)) state
-
--- "each later best is the largest of its candidates": the one chosen of n, and where it comes from
-abbrev pub chosen : (ℕ → Float) → ℕ → Choice
-chosen candidates n = record { score = candidates (lastLargest candidates (n - 1)); previous = lastLargest candidates (n - 1) }
 
 -- the candidates from one label, by the label that they lead to: its transitions begin at `base`, the word's states at `at`
 abbrev pub onward : Float → List Float → ℕ → List Float → ℕ → ℕ → Float

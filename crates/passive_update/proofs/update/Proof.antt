@@ -1,6 +1,6 @@
 -- `passive_update::update` meets its contract. Assumes nothing.
 use borrow.Author.Needs.{needs}
-use Rattle.passive_update.proofs.Steps.{by-passive}
+use Rattle.passive_update.proofs.Parts.{by-passive}
 use Rattle.passive_update.proofs.update.Statement.{statement}
 use Rattle.passive_update.proofs.update.Tie as tie
 

@@ -3,8 +3,9 @@ use Prim.Native.Nat.{_*_}
 use mathlib.Core.Path.{_≡_, sym, _∙_}
 use native.Mathlib.Omega.{arith}
 use borrow.Author.Needs.{needs}
-use Rattle.sheet.specs.Fields.{labelsIn, wordsIn, transitionsIn, statesIn}
-use Rattle.sheet.proofs.Rows.{Accepts, accepts, promised-refused, promised-read}
+use Rattle.sheet_bytes.specs.Fields.{labelsIn, wordsIn, transitionsIn, statesIn}
+use Rattle.sheet_check.proofs.Rows.{Accepts, accepts}
+use Rattle.sheet.proofs.Kept.{promised-refused, promised-read}
 use Rattle.sheet.proofs.read_sheet.Statement.{statement}
 use Rattle.sheet.proofs.read_sheet.Tie as tie
 
