@@ -18,7 +18,7 @@ const SHAPES: [(u32, Shape); 3] = [
     (300, Shape { labels: 32, words: 100, features: 65_535, attributes: 8, entries: 16 }),
 ];
 const EPOCHS: u32 = 5;
-const PASSES: usize = 3;
+const PASSES: usize = 7;
 
 const TRAINERS: [(&str, Rule); 3] = [
     ("averaged perceptron", Rule::Perceptron),
