@@ -1,99 +1,23 @@
-// An epoch's visits in the order of the shuffle, and epochs until training ends.
-ghost use mathlib.Core.Path.{_≡_};
-ghost use mathlib.Core.Bool.{true, false};
-ghost use Prim.Native.Nat.{ℕ, _+_, _≤_, _<_, _^_};
-ghost use lib.ListN.{length, getD};
-ghost use Rattle.lines.specs.Passes.{through, nought};
+// Epochs until training ends.
+ghost use mathlib.Core.Bool.{false};
+ghost use Prim.Native.Nat.{_≤_};
+ghost use Rattle.lines.specs.Passes.{through};
 ghost use Rattle.training.specs.Rules.{stops};
 ghost use Rattle.training.specs.Visits.{visited};
-ghost use Rattle.training.specs.Epochs.{epochOver, epochUnlessOver};
+ghost use Rattle.training.specs.Epochs.{epochUnlessOver};
 ghost use Rattle.training.specs.Orders.{OrderOf};
 ghost use Rattle.feature_gen.specs.Sound.{Sound};
 ghost use Rattle.training_check.specs.Sound.{SoundData};
 ghost use Rattle.prediction.specs.Tables.{modelOf, dataOf};
 ghost use Rattle.parameters.specs.Trainers.{ruleOf};
-ghost use Rattle.updates.specs.Updating.{stateOf, Agreed, Exact};
+ghost use Rattle.updates.specs.Updating.{stateOf, Exact};
 ghost use Rattle.begin_and_end.specs.Ending.{Finished};
-ghost use Rattle.epochs.specs.Running.{CountedIn, firstStep};
+ghost use Rattle.epochs.specs.Running.{firstStep};
 use begin_and_end::Ran;
 use parameters::Trainer;
 use prediction::Sizes;
 use training::Step;
 use training::Visit;
-
-// An epoch's visits: the first that is refused ends it.
-fn epoch(
-    trainer: Trainer,
-    sizes: Sizes,
-    kinds: &[u8],
-    destinations: &[u32],
-    sources: &[u32],
-    starts: &[u32],
-    entries: &[u32],
-    label_starts: &[u32],
-    label_entries: &[u32],
-    lines: &[u32],
-    begins: &[u32],
-    ids: &[u32],
-    values: &[f64],
-    references: &[u32],
-    shares: &[f64],
-    order: &[u32],
-    s: Step,
-    weights: &mut [f64],
-    beside: &mut [f64],
-    truly: &mut [f64],
-    predicted: &mut [f64],
-) -> Step
-    requires { ⌜ Sound (modelOf sizes (now kinds) (now destinations) (now sources) (now starts) (now entries) (now «label_starts») (now «label_entries»)) ⌝ }
-    requires { ⌜ SoundData (sizes .labels) (dataOf sizes (now lines) (now begins) (now ids) (now values) (now references) (now shares)) ⌝ }
-    requires { ⌜ Exact (sizes .features) (now weights) (now beside) (now truly) (now predicted) ⌝ }
-    requires { ⌜ (sizes .instances ≤ length (now order)) × ((j : ℕ) → j < sizes .instances → getD (now order) j 0 < sizes .instances) ⌝ }
-    requires { ⌜ (s .visits + sizes .instances ≤ 2 ^ 53) × (s .updates ≤ s .visits) ⌝ }
-    ensures { λ r. ⌜ Agreed (stateOf r (now (weights .exit)) (now (beside .exit))) (epochOver (visited (ruleOf trainer) (modelOf sizes (now (kinds .entry)) (now (destinations .entry)) (now (sources .entry)) (now (starts .entry)) (now (entries .entry)) (now («label_starts» .entry)) (now («label_entries» .entry))) (dataOf sizes (now (lines .entry)) (now (begins .entry)) (now (ids .entry)) (now (values .entry)) (now (references .entry)) (now (shares .entry)))) (now (order .entry)) (sizes .instances) (stateOf s (now (weights .entry)) (now (beside .entry)))) ⌝ }
-    ensures { λ r. ⌜ CountedIn (sizes .instances) s r ⌝ }
-{
-    let n = sizes.instances;
-    let mut step = Step {
-        visit: Visit::Unchanged,
-        visits: s.visits,
-        updates: s.updates,
-        loss: 0.0,
-    };
-    let mut j = 0usize;
-    while j < n {
-        let i = lines::at(order, j);
-        step = visits::visit(
-            trainer,
-            sizes,
-            kinds,
-            destinations,
-            sources,
-            starts,
-            entries,
-            label_starts,
-            label_entries,
-            lines,
-            begins,
-            ids,
-            values,
-            references,
-            shares,
-            i,
-            step,
-            weights,
-            beside,
-            truly,
-            predicted,
-        );
-        let v = step.visit;
-        if steps::is_refused(v) {
-            return step;
-        }
-        j += 1;
-    }
-    step
-}
 
 // Epochs, each with the order shuffled anew, until training ends or none is left.
 pub fn run(
@@ -138,7 +62,7 @@ pub fn run(
     let mut e = 0u64;
     while e < allowed {
         g = shuffle::shuffle(g, n, order);
-        step = epoch(
+        step = one_epoch::epoch(
             trainer,
             sizes,
             kinds,

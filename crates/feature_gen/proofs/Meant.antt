@@ -1,5 +1,5 @@
--- The check of a model and that of new weights mean what `Meaning` says. Assumes nothing.
-use mathlib.Core.Path.{_≡_, refl}
+-- The check of a model means what `Meaning` says. Assumes nothing.
+use mathlib.Core.Path.{refl}
 use mathlib.Core.List.{List, [], _∷_, _++_}
 use lib.Ieee.{Float}
 use Rattle.score_tables.proofs.Meant.{one-means}
@@ -7,8 +7,7 @@ use Rattle.refusal_rows.proofs.Means.{two-means, within-parts}
 use Rattle.refusal_rows.proofs.Groups.{Group, single, tested, given-first, given-after, accepted-when, given-only}
 use Rattle.lines.specs.Tables.{Model}
 use Rattle.feature_gen.specs.Rows.{modelLimits, weightLimits, startTests, idTests, weightTests, modelChecked}
-use Rattle.feature_gen.specs.SetWeights.{newLimits, newTests, newChecked}
-use Rattle.feature_gen.specs.Meaning.{Meaning, ModelsMean, NewMeaning, NewWeightsMean}
+use Rattle.feature_gen.specs.Meaning.{Meaning, ModelsMean}
 use Rattle.feature_gen.proofs.Laws.{sized}
 use Rattle.feature_gen.proofs.Sound.{sound, weighted}
 
@@ -46,15 +45,3 @@ module _ (m : Model) (weights : List Float) where
 
 pub models-mean : ModelsMean
 models-mean = meant
-
-pub new-weights-mean : NewWeightsMean
-unfolding newChecked
-new-weights-mean given have =
-    let twos = single (two-means (newLimits given have)) in
-    let sixes = tested 6 (newTests given) (refl, tt) in
-    record {
-      two = λ place. given-first place twos (sixes ∷ []) tt;
-      six = λ place. given-after place (twos ∷ []) sixes [] tt tt;
-      only = λ why. given-only why (twos ∷ sixes ∷ []);
-      accepted = accepted-when (twos ∷ sixes ∷ []);
-    }

@@ -1,6 +1,5 @@
 pub mod Lent
 pub mod Rows
 pub mod CheckModel
-pub mod SetWeights
 pub mod Sound
 pub mod Meaning

@@ -1,4 +1,4 @@
--- What the check of a model and `set_weights` refuse, in plain terms: each number exactly when document 01 gives it, and with which place. The proofs are in proofs/Meant.
+-- What the check of a model refuses, in plain terms: each number exactly when document 01 gives it, and with which place. The proofs are in proofs/Meant.
 use mathlib.Core.Path.{_≡_}
 use mathlib.Core.List.{List, [], _∷_, _++_}
 use mathlib.Core.Logic.{_↔_}
@@ -13,7 +13,6 @@ use Rattle.refusal_rows.specs.Tests.{AllGood, FirstBadOf}
 use Rattle.refusal_rows.specs.Given.{AtZero, OneOf}
 use Rattle.lines.specs.Tables.{Model}
 use Rattle.feature_gen.specs.Rows.{modelLimits, weightLimits, startTests, idTests, weightTests, modelChecked}
-use Rattle.feature_gen.specs.SetWeights.{Setting, newLimits, newTests, newChecked}
 use Rattle.feature_gen.specs.Sound.{Weighted}
 
 -- every count is within its bound, and every table has room
@@ -32,13 +31,3 @@ pub record Meaning (m : Model) (weights : List Float) : Type 0 where
 
 abbrev pub ModelsMean : Type 0
 ModelsMean = (m : Model) (weights : List Float) → Meaning m weights
-
--- what `set_weights` refuses, for a table that has so many places
-pub record NewMeaning (given : Setting) (have : ℕ) : Type 0 where
-  pub two : (place : ℕ) → newChecked given have ≡ refusedAt 2 place ↔ AtZero (AllWithin (newLimits given have)) place
-  pub six : (place : ℕ) → newChecked given have ≡ refusedAt 6 place ↔ AllWithin (newLimits given have) × FirstBadOf (newTests given) place
-  pub only : (why : Refusal) → newChecked given have ≡ Refused why → OneOf (2 ∷ 6 ∷ []) (why .number)
-  pub accepted : newChecked given have ≡ Accepted ↔ AllWithin (newLimits given have) × AllGood (newTests given)
-
-abbrev pub NewWeightsMean : Type 0
-NewWeightsMean = (given : Setting) (have : ℕ) → NewMeaning given have

@@ -1,5 +1,5 @@
-// Features and the model that holds them, after `feature_gen.rs`: kinds State 0 and Transition 1, the check of a model's
-// tables, and `set_weights`. What a line or a trainer tests of the same tables is said here once.
+// Features and the model that holds them, after `feature_gen.rs`: kinds State 0 and Transition 1, and the check of a model's
+// tables. What a line or a trainer tests of the same tables is said here once.
 ghost use mathlib.Core.Path.{_≡_};
 ghost use mathlib.Core.List.{[], _∷_, _++_};
 ghost use Prim.Native.Nat.{_<_, _≤_};
@@ -10,7 +10,6 @@ ghost use Rattle.refusal_rows.specs.Tests.{startsRise, idsBelow, checks};
 ghost use Rattle.feature_gen.specs.Rows.{limits, featureTests, modelSized};
 ghost use Rattle.feature_gen.specs.Lent.{featuresOf, attributeListsOf, labelListsOf, modelOf};
 ghost use Rattle.feature_gen.specs.CheckModel.{ModelChecked};
-ghost use Rattle.feature_gen.specs.SetWeights.{newChecked, WeightsSet};
 use refusals::Checked;
 
 pub const STATE: u8 = 0;
@@ -75,13 +74,13 @@ pub fn check_starts(
 {
     let attributes = counts.attribute_lists as usize;
     let labels = counts.label_lists as usize;
-    let a = refusals::check_starts(
+    let a = table_checks::check_starts(
         answer,
         attribute_starts,
         attributes,
         counts.attribute_entries,
     );
-    refusals::check_starts(a, label_starts, labels, counts.label_entries)
+    table_checks::check_starts(a, label_starts, labels, counts.label_entries)
 }
 
 // 5 for the features: kinds, then destinations, then sources.
@@ -99,9 +98,9 @@ pub fn check_features(
     ensures { λ r. ⌜ r ≡ firstFrom answer (checks (featureTests labels (featuresOf counts (now (kinds .entry)) (now (destinations .entry)) (now (sources .entry))))) ⌝ }
 {
     let n = counts.features as usize;
-    let a = refusals::check_kinds(answer, kinds, n);
-    let b = refusals::check_ids(a, destinations, n, labels);
-    refusals::check_sources(b, kinds, sources, n, labels)
+    let a = table_checks::check_kinds(answer, kinds, n);
+    let b = table_checks::check_ids(a, destinations, n, labels);
+    table_checks::check_sources(b, kinds, sources, n, labels)
 }
 
 // 5 for the lists: entries of attribute lists, then of label lists.
@@ -117,8 +116,8 @@ pub fn check_entries(
 {
     let attributes = counts.attribute_entries as usize;
     let labels = counts.label_entries as usize;
-    let a = refusals::check_ids(answer, attribute_entries, attributes, counts.features);
-    refusals::check_ids(a, label_entries, labels, counts.features)
+    let a = table_checks::check_ids(answer, attribute_entries, attributes, counts.features);
+    table_checks::check_ids(a, label_entries, labels, counts.features)
 }
 
 // 1 and 2: what can be said before any table is read.
@@ -189,43 +188,5 @@ pub fn check_model(
     let three = check_starts(sizes, counts, attribute_starts, label_starts);
     let features = check_features(three, labels, counts, kinds, destinations, sources);
     let five = check_entries(features, counts, attribute_entries, label_entries);
-    refusals::check_numbers(five, weights, counts.features as usize)
-}
-
-// The first n of a table become those of another.
-fn copy_front(n: usize, new: &[f64], weights: &mut [f64])
-    requires { ⌜ n ≤ length (now new) ⌝ }
-    requires { ⌜ n ≤ length (now weights) ⌝ }
-    ensures { λ _. ⌜ now (weights .exit) ≡ take n (now (new .entry)) ++ drop n (now (weights .entry)) ⌝ }
-{
-    let mut i = 0usize;
-    while i < n {
-        weights[i] = new[i];
-        i += 1;
-    }
-}
-
-// 2, then 6, of new weights for a table of this length.
-fn check_new(features: u32, new: &[f64], have: usize) -> Checked
-    ensures { λ r. ⌜ r ≡ newChecked (record { features = features; new = now (new .entry) }) have ⌝ }
-{
-    let n = features as usize;
-    let outside = (MOST_FEATURES < features) | (new.len() < n) | (have < n);
-    let two = refusals::refuse_if(Checked::Accepted, 2, 0, outside);
-    if let Checked::Refused(why) = two {
-        return Checked::Refused(why);
-    }
-    refusals::check_numbers(two, new, n)
-}
-
-// Every feature gets a new weight. A call that is refused changes nothing.
-pub fn set_weights(features: u32, new: &[f64], weights: &mut [f64]) -> Checked
-    ensures { λ r. ⌜ WeightsSet (record { features = features; new = now (new .entry) }) (now (weights .entry)) (record { answer = r; weights = now (weights .exit) }) ⌝ }
-{
-    let answer = check_new(features, new, weights.len());
-    if let Checked::Refused(why) = answer {
-        return Checked::Refused(why);
-    }
-    copy_front(features as usize, new, weights);
-    Checked::Accepted
+    table_checks::check_numbers(five, weights, counts.features as usize)
 }

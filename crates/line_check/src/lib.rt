@@ -63,7 +63,7 @@ fn check_lists(
     ensures { λ r. ⌜ r ≡ firstFrom answer (checks (listTests (modelOf labels counts (now (kinds .entry)) (now (destinations .entry)) (now (sources .entry)) (now («attribute_starts» .entry)) (now («attribute_entries» .entry)) (now («label_starts» .entry)) (now («label_entries» .entry))) words (now (begins .entry)) attributes)) ⌝ }
 {
     let lists = feature_gen::check_starts(answer, counts, attribute_starts, label_starts);
-    let three = refusals::check_starts(lists, begins, words as usize, attributes);
+    let three = table_checks::check_starts(lists, begins, words as usize, attributes);
     let features = feature_gen::check_features(three, labels, counts, kinds, destinations, sources);
     feature_gen::check_entries(features, counts, attribute_entries, label_entries)
 }
@@ -164,8 +164,8 @@ pub fn check_scoring(
         attributes,
         begins,
     );
-    let weighted = refusals::check_numbers(five, weights, counts.features as usize);
-    refusals::check_numbers(weighted, values, attributes as usize)
+    let weighted = table_checks::check_numbers(five, weights, counts.features as usize);
+    table_checks::check_numbers(weighted, values, attributes as usize)
 }
 
 fn counting_sizes(
@@ -260,6 +260,6 @@ pub fn check_counting(
         attributes,
         begins,
     );
-    let five = refusals::check_ids(lists, path, words as usize, labels);
-    refusals::check_numbers(five, values, attributes as usize)
+    let five = table_checks::check_ids(lists, path, words as usize, labels);
+    table_checks::check_numbers(five, values, attributes as usize)
 }

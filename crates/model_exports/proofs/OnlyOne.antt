@@ -3,7 +3,7 @@ use mathlib.Core.Path.{_≡_, sym, _∙_}
 use mathlib.Core.List.{List}
 use lib.Ieee.{Float}
 use Rattle.feature_gen.specs.CheckModel.{Given}
-use Rattle.feature_gen.specs.SetWeights.{Setting}
+use Rattle.set_weights.specs.SetWeights.{Setting}
 use Rattle.answers.specs.declared.checks.Refused.{Refused}
 use Rattle.model_exports.specs.Model.{Outcome, Checks, Sets}
 

@@ -1,10 +1,10 @@
--- What the check of a model and the setting of weights give to C: the answers of the crate feature_gen, as numbers. Assumes nothing.
+-- What the check of a model and the setting of weights give to C: the answers of the crates feature_gen and set_weights, as numbers. Assumes nothing.
 use mathlib.Core.Path.{_≡_}
 use mathlib.Core.List.{List}
 use lib.Ieee.{Float}
 use Rattle.feature_gen.specs.CheckModel as model
-use Rattle.feature_gen.specs.SetWeights as weights
-use Rattle.feature_gen.specs.SetWeights.{Setting}
+use Rattle.set_weights.specs.SetWeights as weights
+use Rattle.set_weights.specs.SetWeights.{Setting}
 use Rattle.answers.specs.declared.checks.Refused.{Refused}
 use Rattle.answers.specs.Numbers.{numbers}
 

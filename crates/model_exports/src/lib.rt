@@ -45,6 +45,6 @@ pub extern "C" fn bodkinbloom_set_weights(
 ) -> Refused
     ensures { λ r. ⌜ Sets (record { features = features; new = now (new .entry) }) (now (weights .entry)) (record { answer = r; weights = now (weights .exit) }) ⌝ }
 {
-    let answer = feature_gen::set_weights(features, new, weights);
+    let answer = set_weights::set_weights(features, new, weights);
     answers::checks::numbers_of_check(answer)
 }

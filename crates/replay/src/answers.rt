@@ -166,7 +166,7 @@ fn quotient(word: u64, divisor: u64) -> u64 {
 
 fn starts(a: u64, b: u64, table: [u64; 12]) {
     let starts = fields(table, 1);
-    checked(refusals::check_starts(
+    checked(table_checks::check_starts(
         Checked::Accepted,
         &starts,
         (a % 12) as usize,
@@ -176,7 +176,7 @@ fn starts(a: u64, b: u64, table: [u64; 12]) {
 
 fn kinds(a: u64, table: [u64; 12]) {
     let kinds = low(table);
-    checked(refusals::check_kinds(Checked::Accepted, &kinds, (a % 13) as usize));
+    checked(table_checks::check_kinds(Checked::Accepted, &kinds, (a % 13) as usize));
 }
 
 // The low byte of a table's words.
@@ -192,7 +192,7 @@ fn low(table: [u64; 12]) -> [u8; 12] {
 
 fn ids(a: u64, b: u64, table: [u64; 12]) {
     let ids = fields(table, 1);
-    checked(refusals::check_ids(
+    checked(table_checks::check_ids(
         Checked::Accepted,
         &ids,
         (a % 13) as usize,
@@ -203,7 +203,7 @@ fn ids(a: u64, b: u64, table: [u64; 12]) {
 fn sources(a: u64, b: u64, table: [u64; 12]) {
     let kinds = low(table);
     let sources = fields(table, 256);
-    checked(refusals::check_sources(
+    checked(table_checks::check_sources(
         Checked::Accepted,
         &kinds,
         &sources,
@@ -219,5 +219,5 @@ fn numbers(a: u64, table: [u64; 12]) {
         numbers[i] = float(table[i]);
         i += 1;
     }
-    checked(refusals::check_numbers(Checked::Accepted, &numbers, (a % 13) as usize));
+    checked(table_checks::check_numbers(Checked::Accepted, &numbers, (a % 13) as usize));
 }

@@ -60,6 +60,6 @@ pub fn check_finite(
     if let Checked::Refused(why) = answer {
         return Checked::Refused(why);
     }
-    let a = refusals::check_numbers(answer, transitions, entries(labels, labels));
-    refusals::check_numbers(a, states, entries(words, labels))
+    let a = table_checks::check_numbers(answer, transitions, entries(labels, labels));
+    table_checks::check_numbers(a, states, entries(words, labels))
 }

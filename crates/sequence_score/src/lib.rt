@@ -92,7 +92,7 @@ fn check_path(
     if let Checked::Refused(why) = sizes {
         return Checked::Refused(why);
     }
-    let five = refusals::check_ids(sizes, path, count as usize, labels);
+    let five = table_checks::check_ids(sizes, path, count as usize, labels);
     let six = score_tables::check_finite(sizes, labels, words, transitions, states);
     refusals::or_next(five, six)
 }

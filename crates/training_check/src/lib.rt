@@ -155,8 +155,8 @@ fn check_starts(
     let n = totals.instances as usize;
     let words = totals.words as usize;
     let lists = feature_gen::check_starts(answer, counts, attribute_starts, label_starts);
-    let opened = refusals::check_starts(lists, lines, n, totals.words);
-    let three = refusals::check_starts(opened, begins, words, totals.attributes);
+    let opened = table_checks::check_starts(lists, lines, n, totals.words);
+    let three = table_checks::check_starts(opened, begins, words, totals.attributes);
     check_lengths(three, lines, n)
 }
 
@@ -216,7 +216,7 @@ pub fn check_input(
     );
     let features = feature_gen::check_features(four, labels, counts, kinds, destinations, sources);
     let lists = feature_gen::check_entries(features, counts, attribute_entries, label_entries);
-    let five = refusals::check_ids(lists, references, words, labels);
-    let valued = refusals::check_numbers(five, values, totals.attributes as usize);
-    refusals::check_numbers(valued, shares, totals.instances as usize)
+    let five = table_checks::check_ids(lists, references, words, labels);
+    let valued = table_checks::check_numbers(five, values, totals.attributes as usize);
+    table_checks::check_numbers(valued, shares, totals.instances as usize)
 }

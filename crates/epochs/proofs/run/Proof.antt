@@ -22,7 +22,7 @@ use Rattle.epochs.proofs.run.Tie as tie
 use Rattle.epochs.proofs.run.Reads as reads
 use Rattle.epochs.proofs.run.Lts as lts
 use Rattle.steps.proofs.ends.Reads as ends-reads
-use Rattle.epochs.proofs.epoch.Reads as epoch-reads
+use Rattle.one_epoch.proofs.epoch.Reads as epoch-reads
 use Rattle.shuffle.proofs.shuffle.Reads as shuffle-reads
 
 abbrev Inv-loop : tie.InvT-loop

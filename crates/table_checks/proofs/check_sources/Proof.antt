@@ -2,10 +2,10 @@
 use Prim.Native.Nat.{_-_}
 use native.Mathlib.Omega.{arith}
 use borrow.Author.Needs.{needs}
 use Rattle.refusals.specs.Tables.{badSource}
 use Rattle.refusals.proofs.Laws.{Passed, begin, step, answered}
-use Rattle.refusals.proofs.check_sources.Statement.{statement}
-use Rattle.refusals.proofs.check_sources.Tie as tie
+use Rattle.table_checks.proofs.check_sources.Statement.{statement}
+use Rattle.table_checks.proofs.check_sources.Tie as tie
 
 abbrev Inv-loop : tie.InvT-loop
 Inv-loop answer kinds sources n labels end i₀ i = Passed 5 (badSource kinds sources labels) end i

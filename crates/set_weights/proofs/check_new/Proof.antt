@@ -1,10 +1,10 @@
--- `feature_gen::check_new` meets its contract. Assumes nothing.
+-- `set_weights::check_new` meets its contract. Assumes nothing.
 use mathlib.Core.Path.{_≡_, sym, _∙_}
 use borrow.Author.Needs.{needs}
-use Rattle.feature_gen.specs.SetWeights.{newChecked}
-use Rattle.feature_gen.proofs.Laws.{new-stopped, long-enough}
-use Rattle.feature_gen.proofs.check_new.Statement.{statement}
-use Rattle.feature_gen.proofs.check_new.Tie as tie
+use Rattle.set_weights.specs.SetWeights.{newChecked}
+use Rattle.set_weights.proofs.Laws.{new-stopped, long-enough}
+use Rattle.set_weights.proofs.check_new.Statement.{statement}
+use Rattle.set_weights.proofs.check_new.Tie as tie
 
 refuse-if-requires : tie.Need-refuse-if-requires
 refuse-if-requires c κs = search needs

@@ -1,8 +1,8 @@
--- `feature_gen::set_weights` meets its contract: refused, the table is as it was; accepted, its front is the new weights. Assumes nothing.
+-- `set_weights::set_weights` meets its contract: refused, the table is as it was; accepted, its front is the new weights. Assumes nothing.
 use borrow.Author.Needs.{needs}
-use Rattle.feature_gen.proofs.Laws.{room-for-new, kept, filled}
-use Rattle.feature_gen.proofs.set_weights.Statement.{statement}
-use Rattle.feature_gen.proofs.set_weights.Tie as tie
+use Rattle.set_weights.proofs.Laws.{room-for-new, kept, filled}
+use Rattle.set_weights.proofs.set_weights.Statement.{statement}
+use Rattle.set_weights.proofs.set_weights.Tie as tie
 
 check-new-requires : tie.Need-check-new-requires
 check-new-requires c κs = search needs

@@ -1,9 +1,9 @@
--- `feature_gen::copy_front` meets its contract: what is passed is the new table's, what is left the old one's. Assumes nothing.
+-- `set_weights::copy_front` meets its contract: what is passed is the new table's, what is left the old one's. Assumes nothing.
 use Prim.Native.Nat.{_-_}
 use borrow.Author.Needs.{needs}
-use Rattle.feature_gen.proofs.Laws.{Filled, none-filled, one-more, all-filled}
-use Rattle.feature_gen.proofs.copy_front.Statement.{statement}
-use Rattle.feature_gen.proofs.copy_front.Tie as tie
+use Rattle.set_weights.proofs.Laws.{Filled, none-filled, one-more, all-filled}
+use Rattle.set_weights.proofs.copy_front.Statement.{statement}
+use Rattle.set_weights.proofs.copy_front.Tie as tie
 
 abbrev Inv-loop : tie.InvT-loop
 Inv-loop n new weights₀ i₀ weights i = Filled n new weights₀ weights i

@@ -14,11 +14,11 @@ use Rattle.prediction.specs.Tables.{modelOf, dataOf}
 use Rattle.parameters.specs.Trainers.{ruleOf}
 use Rattle.updates.specs.Updating.{stateOf, Exact}
 use Rattle.updates.proofs.Laws.{exactly}
-use Rattle.epochs.proofs.Laws.{visited-next, visited-cut}
-use Rattle.epochs.proofs.epoch.Statement.{statement}
-use Rattle.epochs.proofs.epoch.Tie as tie
-use Rattle.epochs.proofs.epoch.Reads as reads
-use Rattle.epochs.proofs.epoch.Lts as lts
+use Rattle.one_epoch.proofs.Laws.{visited-next, visited-cut}
+use Rattle.one_epoch.proofs.epoch.Statement.{statement}
+use Rattle.one_epoch.proofs.epoch.Tie as tie
+use Rattle.one_epoch.proofs.epoch.Reads as reads
+use Rattle.one_epoch.proofs.epoch.Lts as lts
 use Rattle.steps.proofs.is_refused.Reads as is-refused-reads
 use Rattle.lines.proofs.at.Reads as at-reads
 use Rattle.visits.proofs.visit.Reads as visit-reads

@@ -4,10 +4,10 @@ use mathlib.Core.Path.{_≡_, refl}
 use native.Mathlib.Numerals.{add-one}
 use native.Mathlib.Omega.{arith}
 use borrow.Author.Needs.{needs}
 use Rattle.refusals.specs.Tables.{badStart, startBefore}
 use Rattle.refusals.proofs.Laws.{Passed, begin, step, answered}
-use Rattle.refusals.proofs.check_starts.Statement.{statement}
-use Rattle.refusals.proofs.check_starts.Tie as tie
+use Rattle.table_checks.proofs.check_starts.Statement.{statement}
+use Rattle.table_checks.proofs.check_starts.Tie as tie
 
 abbrev Inv-loop : tie.InvT-loop
 Inv-loop answer starts n entries end low₀ i₀ low i = Passed 3 (badStart starts n entries) end i × (low ≡ startBefore starts i)

@@ -1,0 +1,2 @@
+pub mod SetWeights
+pub mod Meaning
