@@ -27,7 +27,9 @@ const TRAINERS: [(&str, Rule); 3] = [
 ];
 
 pub fn print() {
-    println!("training, milliseconds a call of {EPOCHS} epochs, medians of {PASSES}; ratio: Rust over library");
+    println!(
+        "training, milliseconds a call of {EPOCHS} epochs, medians of {PASSES}; ratio: Rust over library, pass by pass"
+    );
     for (instances, shape) in SHAPES {
         let Shape { labels, words, features, attributes, entries } = shape;
         let mut rng = Rng::new(u64::from(features) + 1);
@@ -89,12 +91,11 @@ fn row(model: &Model, data: &Data, rule: Rule) -> String {
     }
     // to the bit
     assert!(all_same(&floats[0], &prepared.weights()));
+    // pass by pass, so that a slow spell of the machine falls on both
+    let ratio = median(rust.iter().zip(&library).map(|(rust, library)| rust / library).collect());
     let (library, rust) = (median(library), median(rust));
     format!(
-        "library {library:8.1}, Rust {rust:8.1}; {} epochs, {} updates in {} visits; ratio {:.2}",
-        answer.epochs,
-        answer.updates,
-        answer.visits,
-        rust / library
+        "library {library:8.1}, Rust {rust:8.1}; {} epochs, {} updates in {} visits; ratio {ratio:.2}",
+        answer.epochs, answer.updates, answer.visits,
     )
 }
