@@ -1,9 +1,7 @@
 -- How an answer crosses to C: as numbers, document 01's number first; 0 where nothing is refused. What has no value is 0. Assumes nothing.
-use mathlib.Core.Bool.{false}
 use mathlib.Core.List.{List}
 use Prim.Native.Nat.{ℕ}
-use lib.IntN.{pos}
-use lib.Ieee.{Float, fin}
+use Rattle.lines.specs.Passes.{nought}
 use Rattle.refusal_rows.specs.Said as checks
 use Rattle.best_path.specs.Lead.{none, by}
 use Rattle.viterbi.specs.Promise as decoding
@@ -18,9 +16,6 @@ use Rattle.answers.specs.declared.trainings.Trained.{Trained}
 abbrev pub numbers : checks.Said → Refused
 numbers checks.done = record { number = 0; place = 0 }
 numbers (checks.refused number place) = record { number = number; place = place }
-
-abbrev nought : Float
-nought = fin false 0 (pos 0)
 
 -- a decoded line, "no lead" as a flag of its own
 abbrev pub decodedNumbers : decoding.Said → Decoded

@@ -1,6 +1,6 @@
 -- The bound of a shuffle, by the test that the code makes. Assumes nothing.
-use mathlib.Core.Path.{_≡_, refl}
-use mathlib.Core.Bool.{Bool, true, false, _||_, true≢false}
+use mathlib.Core.Path.{_≡_}
+use mathlib.Core.Bool.{true, false}
 use Prim.Native.Nat.{ℕ, _<_, _≤_}
 use native.Mathlib.Omega.{arith}
 use borrow.Author.Tests.{ltb-false}
@@ -9,6 +9,7 @@ use Rattle.refusals.specs.declared.Checked.{Checked}
 use Rattle.refusals.specs.declared.Checked.the-variants.{Accepted}
 use Rattle.refusals.specs.Refusals.{refuse, refusedAt}
 use Rattle.refusals.specs.Tables.{outside}
+use Rattle.refusals.proofs.Laws.{neither}
 use Rattle.draw_exports.specs.Draws.{check}
 
 pub refused-outside : (n : ℕ) → outside 1 16384 n ≡ true → check n ≡ refusedAt 2 0
@@ -18,10 +19,6 @@ refused-outside n h = rw h
 pub accepted-within : (n : ℕ) → outside 1 16384 n ≡ false → check n ≡ Accepted
 unfolding refuse
 accepted-within n h = rw h
-
-neither : (a b : Bool) → (a || b) ≡ false → (a ≡ false) × (b ≡ false)
-neither true b h = absurd (true≢false h)
-neither false b h = (refl, h)
 
 pub within : (n : ℕ) → outside 1 16384 n ≡ false → (0 < n) × (n ≤ 16384)
 within n h =
