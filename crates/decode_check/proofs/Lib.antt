@@ -1,1 +1,2 @@
 mod Room
+pub mod Meant

@@ -1,1 +1,3 @@
 mod OnlyOne
+mod Meant
+mod Best

@@ -1,3 +1,4 @@
 pub mod Laws
 pub mod Meant
 mod Halves
+pub mod Answers

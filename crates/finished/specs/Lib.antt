@@ -1,3 +1,4 @@
 pub mod Rows
 pub mod After
 pub mod Meaning
+pub mod Answers

@@ -1,37 +1,24 @@
 -- What labelling a line answers is best, as demand 3 says. Assumes nothing.
-use mathlib.Core.Path.{_≡_, refl, sym, _∙_}
-use Prim.Native.Nat.{ℕ}
-use native.Mathlib.Omega.{arith}
+use mathlib.Core.Path.{_≡_, sym, _∙_}
 use lib.ListN.{length, take, drop}
 use lib.Seq.{take-at}
-use lib.Ieee.{Float}
-use Rattle.refusals.specs.declared.Checked.{Checked}
-use Rattle.refusals.specs.declared.Checked.the-variants.{Accepted, Refused}
+use Rattle.refusals.specs.declared.Checked.the-variants.{Accepted}
 use Rattle.refusals.specs.Refusals.{orNext}
 use Rattle.refusals.proofs.Laws.{both}
 use Rattle.best_path.specs.Scores.{AllFinite}
 use Rattle.best_path.specs.Decoded.{decodedPath, decodedSum}
-use Rattle.best_path.specs.Lead.{Lead}
 use Rattle.best_path.proofs.Laws.{decoded-length}
 use Rattle.best_path.proofs.Demand3.{demand-3}
 use Rattle.score_tables.proofs.Laws.{within}
-use Rattle.viterbi.specs.Promise.{Said, decoded, orRefused}
+use Rattle.viterbi.proofs.Said.{accepts, sum-said}
 use Rattle.finished.proofs.Meant.{scores-mean}
 use Rattle.scoring.specs.Promise.{Given, statesOfLine, transitionsOfLine, finishedOf}
 use Rattle.label_line.specs.Promise.{scoresOf, checkedOf, answerTo, pathAfter}
 use Rattle.label_line.specs.Demand3.{AnswersAreBest}
 use Rattle.label_line.proofs.Meant.{checks-mean}
 
--- the answer that is no refusal is that of an accepted call
-accepts : (checked : Checked) (said : Said) (sum : Float) (lead : Lead) → orRefused checked said ≡ decoded sum lead → checked ≡ Accepted
-accepts Accepted said sum lead h = refl
-accepts (Refused why) said sum lead h = let z : _≡_ {A = ℕ} 0 1 = cc in absurd (omega arith)
-
-sum-said : (a b : Float) (k l : Lead) → decoded a k ≡ decoded b l → a ≡ b
-sum-said a b k l h = cc
-
 -- 8 was not given: every score is finite
-all-finite : (given : Given) → finishedOf given ≡ Accepted → AllFinite (scoresOf given) (given .words)
+pub all-finite : (given : Given) → finishedOf given ≡ Accepted → AllFinite (scoresOf given) (given .words)
 all-finite given h =
     let labels = given .model .labels in
     let f = scores-mean labels (given .words) (statesOfLine given) (transitionsOfLine given) .accepted .0 h in

@@ -1,3 +1,4 @@
 pub mod Promise
 pub mod Meaning
 pub mod Demand3
+pub mod Independent

@@ -3,10 +3,10 @@ use mathlib.Core.Path.{_≡_, refl, sym, _∙_, ap}
 use mathlib.Core.Bool.{Bool, true, false, not, _&&_}
 use mathlib.Core.List.{List, [], _∷_, _++_, append-nil, append-assoc}
 use mathlib.Core.Logic.{_↔_, _⊎_, inl, inr, ⊎-elim}
-use Prim.Native.Nat.{ℕ}
+use Prim.Native.Nat.{ℕ, _<_}
 use native.Mathlib.Omega.{arith}
 use borrow.Author.Tests.{eqb-true, eqb-false}
-use lib.Dec.{T, eqb}
+use lib.Dec.{T, eqb, ltb, ltb→lt}
 use Rattle.refusals.specs.declared.Refusal.{Refusal}
 use Rattle.refusals.specs.declared.Checked.{Checked}
 use Rattle.refusals.specs.declared.Checked.the-variants.{Accepted, Refused}
@@ -166,3 +166,13 @@ module _ (refusal : Refusal) where
 
   pub given-only : (groups : List Group) → first (rowsOf groups) ≡ Refused refusal → OneOf (numbersOf groups) (refusal .number)
   given-only groups h = whose groups (first-refused refusal (rowsOf groups) h)
+
+-- none of these numbers is 0: a test that computes
+abbrev pub noZero : List ℕ → Bool
+noZero [] = true
+noZero (number ∷ numbers) = ltb 0 number && noZero numbers
+
+pub above-zero : (numbers : List ℕ) (number : ℕ) → T (noZero numbers) → OneOf numbers number → 0 < number
+above-zero [] number t h = absurd h
+above-zero (this ∷ numbers) number t (inl e) = let a = ltb→lt 0 this (both (ltb 0 this) (noZero numbers) t .0) in omega arith
+above-zero (this ∷ numbers) number t (inr h) = above-zero numbers number (both (ltb 0 this) (noZero numbers) t .1) h

@@ -1,7 +1,7 @@
 -- Laws of products, and what the rows of the score tables give a call that accepts them. Assumes nothing.
 use mathlib.Core.Path.{_≡_}
 use mathlib.Core.Bool.{Bool, true}
-use mathlib.Core.List.{List, _∷_}
+use mathlib.Core.List.{List}
 use Prim.Native.Nat.{ℕ, _+_, _*_, _^_, _<_}
 use native.Mathlib.Nat.{lt-of-le-of-lt, mul-le-mul, mul-le-mul-left, mul-le-mul-right, mul-lt-mul-of-pos-right, le-of-lt}
 use native.Mathlib.Omega.{arith}
@@ -13,11 +13,11 @@ use lib.Ieee.{Float}
 use lib.Ieee.Scale.{finite}
 use Rattle.refusals.specs.declared.Checked.the-variants.{Accepted}
 use Rattle.refusals.specs.Tables.{numbersChecked}
-use Rattle.refusals.proofs.Laws.{all-accepted, neither, passes}
+use Rattle.refusals.proofs.Laws.{neither, passes}
 use Rattle.refusals.proofs.Meant.{numbers-finite}
 use Rattle.best_path.specs.Scores.{AllFinite, tabled}
-use Rattle.score_tables.specs.Rows.{mostLabels, mostWords, one, four, two, sixes, tablesChecked}
-use Rattle.score_tables.specs.Sound.{LabelsIn, WordsIn, Room, Sized, Sound}
+use Rattle.score_tables.specs.Rows.{mostLabels, mostWords, one, four, two}
+use Rattle.score_tables.specs.Sound.{LabelsIn, WordsIn, Room, Sized}
 
 -- the product of two numbers of 32 bits fits 64
 pub product-fits : {a b : ℕ} → a < 2 ^ 32 → b < 2 ^ 32 → a * b < 2 ^ 64
@@ -52,17 +52,18 @@ module _ {labels words : ℕ} {transitions states : List Float} where
         long-states = ltb-false (length states) (words * labels) (o .1);
       }
 
+  -- what is in bounds and has room is small
+  pub sized-of : LabelsIn labels → WordsIn words → Room labels words transitions states → Sized labels words transitions states
+  sized-of l w r = record {
+    labels-in = l;
+    words-in = w;
+    room = r;
+    few-transitions = mul-le-mul (l .high) (l .high);
+    few-states = mul-le-mul (w .high) (l .high);
+  }
+
   pub sized : one labels ≡ Accepted → four words ≡ Accepted → two labels words transitions states ≡ Accepted → Sized labels words transitions states
-  sized h1 h4 h2 =
-      let l = labels-in h1 in
-      let w = words-in h4 in
-      record {
-        labels-in = l;
-        words-in = w;
-        room = room h2;
-        few-transitions = mul-le-mul (l .high) (l .high);
-        few-states = mul-le-mul (w .high) (l .high);
-      }
+  sized h1 h4 h2 = sized-of (labels-in h1) (words-in h4) (room h2)
 
 -- 6 accepts: every entry within is finite
 pub all-finite : (labels words : ℕ) (transitions states : List Float) →
@@ -73,13 +74,3 @@ all-finite labels words transitions states a s = record {
   states = λ word label w l. true-holds (numbers-finite states _ s _ (within words labels word label w l));
   transitions = λ previous label p l. true-holds (numbers-finite transitions _ a _ (within labels labels previous label p l));
 }
-
--- all accept
-pub sound : {labels words : ℕ} {transitions states : List Float} → tablesChecked labels words transitions states ≡ Accepted → Sound labels words transitions states
-unfolding tablesChecked
-sound {labels} {words} {transitions} {states} h =
-    let a = all-accepted Accepted (one labels ∷ four words ∷ two labels words transitions states ∷ sixes labels words transitions states) h .1 in
-    record {
-      sized = sized (a .0) (a .1 .0) (a .1 .1 .0);
-      finite = all-finite labels words transitions states (a .1 .1 .1 .0) (a .1 .1 .1 .1 .0);
-    }

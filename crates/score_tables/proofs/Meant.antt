@@ -1,6 +1,6 @@
 -- The rows of the score tables mean what `Meaning` says. Assumes nothing.
 use mathlib.Core.Path.{_≡_}
-use mathlib.Core.List.{List, [], _∷_}
+use mathlib.Core.List.{List}
 use mathlib.Core.Logic.{_↔_, inl, inr}
 use Prim.Native.Nat.{ℕ, _+_, _*_, _/_, _%_, _<_, _≤_}
 use native.Mathlib.Nat.{div-add-mod', div-lt-iff-lt-mul, mod-lt}
@@ -10,18 +10,15 @@ use lib.Dec.{T}
 use lib.ListN.{length, getD}
 use lib.Ieee.{Float, nan}
 use lib.Ieee.Scale.{finite}
-use Rattle.refusals.specs.declared.Checked.{Checked}
 use Rattle.refusals.specs.declared.Checked.the-variants.{Accepted}
 use Rattle.refusals.specs.Tables.{numbersChecked}
-use Rattle.refusals.specs.Meaning.{AllAccepted, FirstRefused}
-use Rattle.refusals.proofs.Laws.{accepted-all}
+use Rattle.refusals.specs.Meaning.{FirstRefused}
 use Rattle.refusals.proofs.Meant.{numbers-mean, numbers-finite}
 use Rattle.best_path.specs.Scores.{AllFinite, tabled}
-use Rattle.score_tables.specs.Rows.{mostLabels, mostWords, one, four, two, sixes, tablesChecked}
-use Rattle.score_tables.specs.Sound.{LabelsIn, WordsIn, Room, Sized}
-use Rattle.score_tables.specs.Meaning.{Row, OneMeans, FourMeans, TwoMeans, FiniteTo, SixAt, in-transitions, in-states, Meaning, TablesMean}
-use Rattle.score_tables.proofs.Laws.{true-holds, labels-in, words-in, room, sized, sound}
-use Rattle.score_tables.proofs.Order.{row, Never, not-row, not-table, why, given, foremost, of-one}
+use Rattle.score_tables.specs.Rows.{mostLabels, mostWords, sixes}
+use Rattle.score_tables.specs.Meaning.{OneMeans, FourMeans, TwoMeans, FiniteTo, SixAt, in-transitions, in-states}
+use Rattle.score_tables.proofs.Laws.{true-holds, within, labels-in, words-in, room}
+use Rattle.score_tables.proofs.Order.{row, Never, not-table, why}
 
 pub one-means : OneMeans
 one-means labels = row 1 _ labels-in (λ l. rw (le-ltb labels 1 (l .low), le-ltb mostLabels labels (l .high)))
@@ -48,15 +45,6 @@ flat numbers rows width pos f i b =
     rw div-add-mod' at (f (i / width) (i % width) (div-lt-iff-lt-mul pos .1 b) (mod-lt i pos))
 
 module _ (labels words : ℕ) (transitions states : List Float) where
-  abbrev sized-rows : List Checked
-  sized-rows = one labels ∷ four words ∷ two labels words transitions states ∷ []
-
-  pub sized-means : AllAccepted sized-rows ↔ Sized labels words transitions states
-  sized-means = (
-    λ a. sized (a .0) (a .1 .0) (a .1 .1 .0),
-    λ s. (one-means labels .accepted .1 (s .labels-in), (four-means words .accepted .1 (s .words-in), (two-means labels words transitions states .accepted .1 (s .room), tt))),
-  )
-
   pub not-six : (k : ℕ) → (6 ≡ k → ⊥) → Never k (sixes labels words transitions states)
   not-six k d = (not-table (numbers-mean transitions (labels * labels)) d, (not-table (numbers-mean states (words * labels)) d, tt))
 
@@ -72,58 +60,13 @@ module _ (labels words : ℕ) (transitions states : List Float) where
       from (in-transitions f) = inl (numbers-mean transitions _ .refused place .1 f)
       from (in-states t f) = inr (to-finite transitions _ t, inl (numbers-mean states _ .refused place .1 f))
 
-  -- 6 accepts what is finite
-  pub sixes-accept : 1 ≤ labels → AllFinite (tabled labels transitions states) words → AllAccepted (sixes labels words transitions states)
-  sixes-accept l f = (
-    to-finite transitions _ (flat transitions labels labels l (f .transitions)),
-    (to-finite states _ (flat states words labels l (f .states)), tt),
-  )
-
+-- tables whose entries are finite, read as rows of scores, and the other way round
 module _ (labels words : ℕ) (transitions states : List Float) where
-  abbrev r1 : Row (one labels) 1 (LabelsIn labels)
-  r1 = one-means labels
-
-  abbrev r4 : Row (four words) 4 (WordsIn words)
-  r4 = four-means words
-
-  abbrev r2 : Row (two labels words transitions states) 2 (Room labels words transitions states)
-  r2 = two-means labels words transitions states
-
-  abbrev last : List Checked
-  last = sixes labels words transitions states
-
-  meant : Meaning labels words transitions states
-  unfolding tablesChecked
-  meant = record {
-    one =
-        foremost 1 0 (one labels ∷ []) (four words ∷ two labels words transitions states ∷ last)
-        (not-row r4 (λ q. omega arith), (not-row r2 (λ q. omega arith), not-six labels words transitions states 1 (λ q. omega arith)))
-        (of-one r1);
-    four =
-        given 4 0 (one labels ∷ []) (four words ∷ []) (two labels words transitions states ∷ last)
-        (not-row r1 (λ q. omega arith), tt)
-        (not-row r2 (λ q. omega arith), not-six labels words transitions states 4 (λ q. omega arith))
-        (λ a. r1 .accepted .0 (a .0), λ l. (r1 .accepted .1 l, tt))
-        (of-one r4);
-    two =
-        given 2 0 (one labels ∷ four words ∷ []) (two labels words transitions states ∷ []) last
-        (not-row r1 (λ q. omega arith), (not-row r4 (λ q. omega arith), tt))
-        (not-six labels words transitions states 2 (λ q. omega arith))
-        (λ a. (r1 .accepted .0 (a .0), r4 .accepted .0 (a .1 .0)), λ f. (r1 .accepted .1 (f .0), (r4 .accepted .1 (f .1), tt)))
-        (of-one r2);
-    six = λ place.
-        given 6 place (sized-rows labels words transitions states) last []
-        (not-row r1 (λ q. omega arith), (not-row r4 (λ q. omega arith), (not-row r2 (λ q. omega arith), tt)))
-        tt
-        (sized-means labels words transitions states)
-        (six-means labels words transitions states place);
-    accepted = (
-      sound,
-      λ s.
-          let a = sized-means labels words transitions states .1 (s .sized) in
-          accepted-all (one labels ∷ four words ∷ two labels words transitions states ∷ last) (a .0, (a .1 .0, (a .1 .1 .0, sixes-accept labels words transitions states (s .sized .labels-in .low) (s .finite)))),
-    );
+  pub tables-finite : FiniteTo transitions (labels * labels) × FiniteTo states (words * labels) → AllFinite (tabled labels transitions states) words
+  tables-finite f = record {
+    states = λ word label w l. f .1 _ (within words labels word label w l);
+    transitions = λ previous label p l. f .0 _ (within labels labels previous label p l);
   }
 
-pub tables-mean : TablesMean
-tables-mean = meant
+  pub finite-tables : 1 ≤ labels → AllFinite (tabled labels transitions states) words → FiniteTo transitions (labels * labels) × FiniteTo states (words * labels)
+  finite-tables l f = (flat transitions labels labels l (f .transitions), flat states words labels l (f .states))

@@ -13,8 +13,8 @@ use Rattle.refusals.specs.declared.Checked.{Checked}
 use Rattle.refusals.specs.declared.Checked.the-variants.{Accepted, Refused}
 use Rattle.refusals.specs.Refusals.{refusedAt}
 use Rattle.refusals.specs.Meaning.{FirstBad}
-use Rattle.score_tables.specs.Rows.{one, four, two, tablesChecked}
-use Rattle.score_tables.specs.Sound.{LabelsIn, WordsIn, Room, Sized, Sound}
+use Rattle.score_tables.specs.Rows.{one, four, two}
+use Rattle.score_tables.specs.Sound.{LabelsIn, WordsIn, Room}
 
 -- a row with place 0: "given exactly when" something is not fine, and under no other number
 pub record Row (check : Checked) (number : ℕ) (Fine : Type 0) : Type 0 where
@@ -48,14 +48,3 @@ pub data SixAt (labels words : ℕ) (transitions states : List Float) (place : �
       FiniteTo transitions (labels * labels) →
       FirstBad (NotFinite states) (words * labels) place →
       SixAt labels words transitions states place
-
--- the five answers, for a call that is lent nothing but the tables
-pub record Meaning (labels words : ℕ) (transitions states : List Float) : Type 0 where
-  pub one : (tablesChecked labels words transitions states ≡ refusedAt 1 0) ↔ (LabelsIn labels → ⊥)
-  pub four : (tablesChecked labels words transitions states ≡ refusedAt 4 0) ↔ (LabelsIn labels × (WordsIn words → ⊥))
-  pub two : (tablesChecked labels words transitions states ≡ refusedAt 2 0) ↔ ((LabelsIn labels × WordsIn words) × (Room labels words transitions states → ⊥))
-  pub six : (place : ℕ) → (tablesChecked labels words transitions states ≡ refusedAt 6 place) ↔ (Sized labels words transitions states × SixAt labels words transitions states place)
-  pub accepted : (tablesChecked labels words transitions states ≡ Accepted) ↔ Sound labels words transitions states
-
-abbrev pub TablesMean : Type 0
-TablesMean = (labels words : ℕ) (transitions states : List Float) → Meaning labels words transitions states

@@ -39,8 +39,3 @@ sixes labels words transitions states =
 -- "a call that takes T as a number tests 4 right after 1"
 abbrev pub boundsChecked : ℕ → ℕ → Checked
 boundsChecked labels words = first (one labels ∷ four words ∷ [])
-
--- "The lowest number wins, but a call that takes T as a number tests 4 right after 1": 1, 4, 2, 6
-unfoldable pub tablesChecked : ℕ → ℕ → List Float → List Float → Checked
-tablesChecked labels words transitions states =
-    first (one labels ∷ four words ∷ two labels words transitions states ∷ sixes labels words transitions states)

@@ -1,3 +1,4 @@
 pub mod Unique
 pub mod Meant
 pub mod Kept
+mod Independent

@@ -1,30 +1,24 @@
--- What scoring a line answers means what `Meaning` says. Assumes nothing.
+-- What scoring a line answers means what `ScoringMeans` says. Assumes nothing.
+use mathlib.Core.Path.{_≡_, sym, _∙_}
 use Rattle.refusals.specs.declared.Checked.{Checked}
 use Rattle.refusals.specs.Refusals.{orNext}
 use Rattle.line_check.proofs.Meant.{scoring-means}
+use Rattle.line_check.specs.Rows.{scoringLimits}
 use Rattle.refusal_rows.proofs.Said.{refused-said, done-said}
-use Rattle.finished.proofs.Meant.{scores-mean, eight-is-last, not-eight}
+use Rattle.finished.proofs.Meant.{scores-mean}
+use Rattle.finished.proofs.Answers.{answered}
 use Rattle.scoring.specs.Promise.{statesOfLine, transitionsOfLine, scoringOf, checkedOf, finishedOf, answerTo}
-use Rattle.scoring.specs.Meaning.{ScoringMeans}
+use Rattle.scoring.specs.Meaning.{startsOf, idsOf, numbersOf, EightIn, ScoresFinite, ScoringMeans}
 
 pub scores-meant : ScoringMeans
 unfolding answerTo
-scores-meant given before =
-    let m = scoring-means (scoringOf given before) in
-    let s = scores-mean (given .model .labels) (given .words) (statesOfLine given) (transitionsOfLine given) in
-    let l = eight-is-last (checkedOf given before) (finishedOf given) _ _ (λ why h. not-eight (why .number) (m .only why h)) s in
+scores-meant given before outcome kept =
     let all : Checked = orNext (checkedOf given before) (finishedOf given) in
-    record {
-      eight = λ place. (
-        λ h. let p = l .eight place .0 (refused-said all 8 place .0 h) in (m .accepted .0 (p .0), p .1),
-        λ f. refused-said all 8 place .1 (l .eight place .1 (m .accepted .1 (f .0), f .1)),
-      );
-      others = λ number place d. (
-        λ h. l .before _ d .0 (refused-said all number place .0 h),
-        λ h. refused-said all number place .1 (l .before _ d .1 h),
-      );
-      scored = (
-        λ h. let p = l .accepted .0 (done-said all .0 h) in (m .accepted .0 (p .0), p .1),
-        λ f. done-said all .1 (l .accepted .1 (m .accepted .1 (f .0), f .1)),
-      );
-    }
+    answered (checkedOf given before) (finishedOf given)
+    (given .model .labels) (given .words) (scoringLimits (scoringOf given before)) (startsOf given) (idsOf given) (numbersOf given) (EightIn given) (ScoresFinite given)
+    (scoring-means (scoringOf given before))
+    (scores-mean (given .model .labels) (given .words) (statesOfLine given) (transitionsOfLine given))
+    _ _
+    (λ number place h. refused-said all number place .0 (sym (kept .answers) ∙ h))
+    (λ number place _ h. kept .answers ∙ refused-said all number place .1 h)
+    (λ h. done-said all .0 (sym (kept .answers) ∙ h), λ h. kept .answers ∙ done-said all .1 h)

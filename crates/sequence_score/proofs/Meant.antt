@@ -1,27 +1,29 @@
--- What a path score refuses means what `Meaning` says. Assumes nothing.
-use mathlib.Core.Path.{_≡_}
-use mathlib.Core.List.{List, [], _∷_, _++_}
+-- What a path score answers means what `Meaning` says. Assumes nothing.
+use mathlib.Core.Path.{_≡_, refl, sym, ap, _∙_}
+use mathlib.Core.List.{List, [], _∷_}
 use mathlib.Core.Logic.{_↔_}
-use Prim.Native.Nat.{ℕ, _≤_}
+use Prim.Native.Nat.{ℕ, _≤_, _<_}
 use native.Mathlib.Omega.{arith}
 use borrow.Author.Tests.{ltb-false, le-ltb}
 use lib.ListN.{length}
 use lib.Ieee.{Float}
 use Rattle.refusals.specs.declared.Checked.{Checked}
-use Rattle.refusals.specs.declared.Checked.the-variants.{Accepted}
-use Rattle.refusals.specs.Meaning.{Exactly, AllAccepted}
-use Rattle.refusals.proofs.Laws.{passes, accepted-all}
+use Rattle.refusals.specs.declared.Checked.the-variants.{Accepted, Refused}
+use Rattle.refusals.specs.Refusals.{refusedAt}
+use Rattle.refusals.specs.Meaning.{Exactly}
+use Rattle.refusals.proofs.Laws.{passes}
 use Rattle.refusals.proofs.Meant.{ids-mean, ids-below}
-use Rattle.best_path.specs.Scores.{at}
-use Rattle.score_tables.specs.Rows.{one, four, two, sixes}
-use Rattle.score_tables.specs.Sound.{LabelsIn, WordsIn, Room}
+use Rattle.best_path.specs.Scores.{at, tabled}
+use Rattle.best_path.specs.PathScore.{pathScore}
 use Rattle.score_tables.specs.Meaning.{Row}
-use Rattle.score_tables.proofs.Laws.{sized}
-use Rattle.score_tables.proofs.Order.{row, not-row, not-table, parted, given, foremost, of-one, of-two, of-table}
-use Rattle.score_tables.proofs.Meant.{one-means, four-means, two-means, not-six, six-means, sixes-accept}
-use Rattle.sequence_score.specs.Rows.{longer, pathShort, five, sizes, pathChecked}
-use Rattle.sequence_score.specs.Sound.{SizedPath, LabelsBelow}
-use Rattle.sequence_score.specs.Meaning.{Meaning, PathsMean}
+use Rattle.score_tables.proofs.Order.{row, not-table, of-table}
+use Rattle.score_tables.proofs.Meant.{one-means, four-means, two-means, finite-tables}
+use Rattle.refusal_rows.proofs.Groups.{Group, single, given-first, given-after, accepted-when, given-only}
+use Rattle.refusal_rows.proofs.TableGroups.{pair, tableSixes}
+use Rattle.sequence_score.specs.Rows.{longer, pathShort, five, pathChecked}
+use Rattle.sequence_score.specs.Sound.{LabelsBelow}
+use Rattle.sequence_score.specs.Promise.{Given, scored, refused, orRefused, checkedOf, answerTo}
+use Rattle.sequence_score.specs.Meaning.{FiveAt, Meaning, PathsMean, AnswersMean}
 use Rattle.sequence_score.proofs.Laws.{sound}
 
 longer-means : (words count : ℕ) → Row (longer words count) 4 (count ≤ words)
@@ -30,85 +32,103 @@ longer-means words count = row 4 _ (λ h. ltb-false words count (passes 4 0 _ h)
 short-means : (path : List ℕ) (count : ℕ) → Row (pathShort path count) 2 (count ≤ length path)
 short-means path count = row 2 _ (λ h. ltb-false (length path) count (passes 2 0 _ h)) (λ l. le-ltb (length path) count l)
 
-module _ (labels words : ℕ) (transitions states : List Float) (path : List ℕ) (count : ℕ) where
-  abbrev r1 : Row (one labels) 1 (LabelsIn labels)
-  r1 = one-means labels
+module _ (given : Given) where
+  abbrev ones : Group
+  ones = single (one-means (given .labels))
 
-  abbrev r4 : Row (four words) 4 (WordsIn words)
-  r4 = four-means words
+  abbrev fours : Group
+  fours = pair (four-means (given .words)) (longer-means (given .words) (given .count))
 
-  abbrev r4' : Row (longer words count) 4 (count ≤ words)
-  r4' = longer-means words count
+  abbrev twos : Group
+  twos = pair (two-means (given .labels) (given .words) (given .transitions) (given .states)) (short-means (given .path) (given .count))
 
-  abbrev r2 : Row (two labels words transitions states) 2 (Room labels words transitions states)
-  r2 = two-means labels words transitions states
+  abbrev labels-mean : Exactly (five (given .labels) (given .path) (given .count)) 5 (given .count) (λ word. given .labels ≤ at (given .path) word)
+  labels-mean = ids-mean (given .path) (given .count) (given .labels)
 
-  abbrev r2' : Row (pathShort path count) 2 (count ≤ length path)
-  r2' = short-means path count
-
-  abbrev t5 : Exactly (five labels path count) 5 count (λ word. labels ≤ at path word)
-  t5 = ids-mean path count labels
-
-  abbrev last : List Checked
-  last = sixes labels words transitions states
-
-  abbrev rows : List Checked
-  rows = sizes labels words transitions states path count
-
-  sized-means : AllAccepted rows ↔ SizedPath labels words transitions states path count
-  sized-means = (
-    λ a. record {
-      sized = sized (a .0) (a .1 .0) (a .1 .1 .1 .0);
-      not-longer = r4' .accepted .0 (a .1 .1 .0);
-      long-path = r2' .accepted .0 (a .1 .1 .1 .1 .0);
-    },
-    λ s. (r1 .accepted .1 (s .sized .labels-in), (r4 .accepted .1 (s .sized .words-in), (r4' .accepted .1 (s .not-longer), (r2 .accepted .1 (s .sized .room), (r2' .accepted .1 (s .long-path), tt))))),
-  )
-
-  below-means : five labels path count ≡ Accepted ↔ LabelsBelow labels path count
-  below-means = (ids-below path count labels, λ b. t5 .accepted .1 (λ word l h. let d = b word l in omega arith))
-
-  meant : Meaning labels words transitions states path count
-  unfolding pathChecked
-  meant = record {
-    one =
-        foremost 1 0 (one labels ∷ []) (four words ∷ longer words count ∷ two labels words transitions states ∷ pathShort path count ∷ five labels path count ∷ last)
-        (not-row r4 (λ q. omega arith), (not-row r4' (λ q. omega arith), (not-row r2 (λ q. omega arith), (not-row r2' (λ q. omega arith), (not-table t5 (λ q. omega arith), not-six labels words transitions states 1 (λ q. omega arith))))))
-        (of-one r1);
-    four =
-        given 4 0 (one labels ∷ []) (four words ∷ longer words count ∷ []) (two labels words transitions states ∷ pathShort path count ∷ five labels path count ∷ last)
-        (not-row r1 (λ q. omega arith), tt)
-        (not-row r2 (λ q. omega arith), (not-row r2' (λ q. omega arith), (not-table t5 (λ q. omega arith), not-six labels words transitions states 4 (λ q. omega arith))))
-        (λ a. r1 .accepted .0 (a .0), λ l. (r1 .accepted .1 l, tt))
-        (of-two r4 r4');
-    two =
-        given 2 0 (one labels ∷ four words ∷ longer words count ∷ []) (two labels words transitions states ∷ pathShort path count ∷ []) (five labels path count ∷ last)
-        (not-row r1 (λ q. omega arith), (not-row r4 (λ q. omega arith), (not-row r4' (λ q. omega arith), tt)))
-        (not-table t5 (λ q. omega arith), not-six labels words transitions states 2 (λ q. omega arith))
-        (λ a. (r1 .accepted .0 (a .0), r4 .accepted .0 (a .1 .0), r4' .accepted .0 (a .1 .1 .0)), λ f. (r1 .accepted .1 (f .0), (r4 .accepted .1 (f .1), (r4' .accepted .1 (f .2), tt))))
-        (of-two r2 r2');
-    five = λ place.
-        given 5 place rows (five labels path count ∷ []) last
-        (not-row r1 (λ q. omega arith), (not-row r4 (λ q. omega arith), (not-row r4' (λ q. omega arith), (not-row r2 (λ q. omega arith), (not-row r2' (λ q. omega arith), tt)))))
-        (not-six labels words transitions states 5 (λ q. omega arith))
-        sized-means
-        (of-table place t5);
-    six = λ place.
-        given 6 place (rows ++ (five labels path count ∷ [])) last []
-        (not-row r1 (λ q. omega arith), (not-row r4 (λ q. omega arith), (not-row r4' (λ q. omega arith), (not-row r2 (λ q. omega arith), (not-row r2' (λ q. omega arith), (not-table t5 (λ q. omega arith), tt))))))
-        tt (
-          λ a. let s = parted rows (five labels path count ∷ []) .0 a in (sized-means .0 (s .0), below-means .0 (s .1 .0)),
-          λ f. parted rows (five labels path count ∷ []) .1 (sized-means .1 (f .0), (below-means .1 (f .1), tt)),
-        )
-        (six-means labels words transitions states place);
-    accepted = (
-      sound labels words transitions states path count,
-      λ s.
-          accepted-all (rows ++ (five labels path count ∷ last))
-          (parted rows (five labels path count ∷ last) .1
-          (sized-means .1 (s .sized-path), (below-means .1 (s .below), sixes-accept labels words transitions states (s .sized-path .sized .labels-in .low) (s .finite)))),
+  abbrev fives : Group
+  fives = record {
+    number = 5;
+    rows = five (given .labels) (given .path) (given .count) ∷ [];
+    Fine = LabelsBelow (given .labels) (given .path) (given .count);
+    At = FiveAt given;
+    fine = (
+      λ a. ids-below (given .path) (given .count) (given .labels) (a .0),
+      λ b. (labels-mean .accepted .1 (λ word l h. let d = b word l in omega arith), tt),
     );
+    at = λ place. of-table place labels-mean;
+    other = λ k d. (not-table labels-mean d, tt);
   }
 
+  abbrev sixes : Group
+  sixes = tableSixes (given .labels) (given .words) (given .transitions) (given .states)
+
+  abbrev all : List Group
+  all = ones ∷ fours ∷ twos ∷ fives ∷ sixes ∷ []
+
 pub paths-mean : PathsMean
-paths-mean = meant
+unfolding pathChecked
+paths-mean given =
+    let o = ones given in
+    let f = fours given in
+    let t = twos given in
+    let v = fives given in
+    let s = sixes given in
+    let a = accepted-when (all given) in
+    record {
+      one = λ place. given-first place o (f ∷ t ∷ v ∷ s ∷ []) tt;
+      four = λ place. given-after place (o ∷ []) f (t ∷ v ∷ s ∷ []) tt tt;
+      two = λ place. given-after place (o ∷ f ∷ []) t (v ∷ s ∷ []) tt tt;
+      five = λ place. given-after place (o ∷ f ∷ t ∷ []) v (s ∷ []) tt tt;
+      six = λ place. given-after place (o ∷ f ∷ t ∷ v ∷ []) s [] tt tt;
+      only = λ number place. given-only (record { number = number; place = place }) (all given);
+      accepted = (
+        sound (given .labels) (given .words) (given .transitions) (given .states) (given .path) (given .count),
+        λ p.
+            let z = p .sized-path .sized in
+            a .1
+            (z .labels-in, ((z .words-in, p .sized-path .not-longer), ((z .room, p .sized-path .long-path), (p .below, finite-tables (given .labels) (given .words) (given .transitions) (given .states) (z .labels-in .low) (p .finite))))),
+      );
+    }
+
+-- another way to answer, which tells the same
+pub told :
+    {Refuses Answers : ℕ → ℕ → Type 0} {Accepts Accepted : Type 0} {given : Given} →
+    ((number place : ℕ) → Answers number place → Refuses number place) →
+    ((number place : ℕ) → 0 < number → Refuses number place → Answers number place) →
+    Accepted ↔ Accepts →
+    Meaning Refuses Accepts given →
+    Meaning Answers Accepted given
+told to from a m = record {
+  one = λ place. (λ h. m .one place .0 (to 1 place h), λ f. from 1 place (omega arith) (m .one place .1 f));
+  four = λ place. (λ h. m .four place .0 (to 4 place h), λ f. from 4 place (omega arith) (m .four place .1 f));
+  two = λ place. (λ h. m .two place .0 (to 2 place h), λ f. from 2 place (omega arith) (m .two place .1 f));
+  five = λ place. (λ h. m .five place .0 (to 5 place h), λ f. from 5 place (omega arith) (m .five place .1 f));
+  six = λ place. (λ h. m .six place .0 (to 6 place h), λ f. from 6 place (omega arith) (m .six place .1 f));
+  only = λ number place h. m .only number place (to number place h);
+  accepted = (λ h. m .accepted .0 (a .0 h), λ f. a .1 (m .accepted .1 f));
+}
+
+-- what is said tells the check's answer
+pub refused-said : (check : Checked) (score : Float) (number place : ℕ) → orRefused check score ≡ refused number place ↔ check ≡ refusedAt number place
+refused-said check score number place = (go check, ap (λ (c : Checked). orRefused c score))
+  where
+    go : (check : Checked) → orRefused check score ≡ refused number place → check ≡ refusedAt number place
+    go Accepted h = let z : _≡_ {A = ℕ} 0 1 = cc in absurd (omega arith)
+    go (Refused why) h =
+        let n : why .number ≡ number = cc in
+        let p : why .place ≡ place = cc in
+        rw (← n, ← p)
+
+accepts : (check : Checked) (score other : Float) → orRefused check score ≡ scored other → check ≡ Accepted
+accepts Accepted score other h = refl
+accepts (Refused why) score other h = let z : _≡_ {A = ℕ} 0 1 = cc in absurd (omega arith)
+
+pub answers-mean : AnswersMean
+unfolding answerTo
+answers-mean given outcome kept =
+    let score = pathScore (tabled (given .labels) (given .transitions) (given .states)) (given .path) (given .count) in
+    told
+    (λ number place h. refused-said (checkedOf given) score number place .0 (sym (kept .answers) ∙ h))
+    (λ number place _ h. kept .answers ∙ refused-said (checkedOf given) score number place .1 h)
+    (λ h. accepts (checkedOf given) score (h .0) (sym (kept .answers) ∙ h .1), λ h. (score, kept .answers ∙ ap (λ (c : Checked). orRefused c score) h))
+    (paths-mean given)

@@ -1,6 +1,6 @@
--- What a path score refuses, in plain terms: each number exactly when document 01 gives it. The proof is in proofs/Meant.
+-- What a path score answers, in plain terms: each number exactly when document 01 gives it, and with which place. The proofs are in proofs/Meant; for C in decoding_exports.
 use mathlib.Core.Path.{_≡_}
-use mathlib.Core.List.{List}
+use mathlib.Core.List.{List, [], _∷_}
 use mathlib.Core.Logic.{_↔_}
 use Prim.Native.Nat.{ℕ, _≤_}
 use lib.ListN.{length}
@@ -11,17 +11,42 @@ use Rattle.refusals.specs.Meaning.{FirstBad}
 use Rattle.best_path.specs.Scores.{at}
 use Rattle.score_tables.specs.Sound.{LabelsIn, WordsIn, Room}
 use Rattle.score_tables.specs.Meaning.{SixAt}
-use Rattle.sequence_score.specs.Rows.{pathChecked}
-use Rattle.sequence_score.specs.Sound.{SizedPath, LabelsBelow, SoundPath}
+use Rattle.refusal_rows.specs.Given.{AtZero, OneOf}
+use Rattle.sequence_score.specs.declared.PathScore.{PathScore}
+use Rattle.sequence_score.specs.Sound.{LabelsBelow, SoundPath}
+use Rattle.sequence_score.specs.Promise.{Given, scored, refused, said, checkedOf, Promised}
 
--- the six answers: "label at or above L" is 5 at the first such word, and 6 is that of the tables
-pub record Meaning (labels words : ℕ) (transitions states : List Float) (path : List ℕ) (count : ℕ) : Type 0 where
-  pub one : (pathChecked labels words transitions states path count ≡ refusedAt 1 0) ↔ (LabelsIn labels → ⊥)
-  pub four : (pathChecked labels words transitions states path count ≡ refusedAt 4 0) ↔ (LabelsIn labels × (WordsIn words × (count ≤ words) → ⊥))
-  pub two : (pathChecked labels words transitions states path count ≡ refusedAt 2 0) ↔ ((LabelsIn labels × WordsIn words × (count ≤ words)) × (Room labels words transitions states × (count ≤ length path) → ⊥))
-  pub five : (place : ℕ) → (pathChecked labels words transitions states path count ≡ refusedAt 5 place) ↔ (SizedPath labels words transitions states path count × FirstBad (λ word. labels ≤ at path word) count place)
-  pub six : (place : ℕ) → (pathChecked labels words transitions states path count ≡ refusedAt 6 place) ↔ ((SizedPath labels words transitions states path count × LabelsBelow labels path count) × SixAt labels words transitions states place)
-  pub accepted : (pathChecked labels words transitions states path count ≡ Accepted) ↔ SoundPath labels words transitions states path count
+-- T within its bound, and the path no longer
+abbrev pub LengthsIn : Given → Type 0
+LengthsIn given = WordsIn (given .words) × (given .count ≤ given .words)
 
+-- each table has its entries, and the path its labels
+abbrev pub AllRoom : Given → Type 0
+AllRoom given = Room (given .labels) (given .words) (given .transitions) (given .states) × (given .count ≤ length (given .path))
+
+-- "label at or above L", at the first such word
+abbrev pub FiveAt : Given → ℕ → Type 0
+FiveAt given place = FirstBad (λ word. given .labels ≤ at (given .path) word) (given .count) place
+
+-- `Refuses number place` says how a refusal is answered, `Accepts` how none is; before each number stands what was tested and found fine
+pub record Meaning (Refuses : ℕ → ℕ → Type 0) (Accepts : Type 0) (given : Given) : Type 0 where
+  pub one : (place : ℕ) → Refuses 1 place ↔ AtZero (LabelsIn (given .labels)) place
+  pub four : (place : ℕ) → Refuses 4 place ↔ LabelsIn (given .labels) × AtZero (LengthsIn given) place
+  pub two : (place : ℕ) → Refuses 2 place ↔ (LabelsIn (given .labels) × LengthsIn given) × AtZero (AllRoom given) place
+  pub five : (place : ℕ) → Refuses 5 place ↔ (LabelsIn (given .labels) × (LengthsIn given × AllRoom given)) × FiveAt given place
+  pub six : (place : ℕ) →
+      Refuses 6 place
+      ↔ (LabelsIn (given .labels) × (LengthsIn given × (AllRoom given × LabelsBelow (given .labels) (given .path) (given .count))))
+      × SixAt (given .labels) (given .words) (given .transitions) (given .states) place
+  pub only : (number place : ℕ) → Refuses number place → OneOf (1 ∷ 4 ∷ 2 ∷ 5 ∷ 6 ∷ []) number
+  pub accepted : Accepts ↔ SoundPath (given .labels) (given .words) (given .transitions) (given .states) (given .path) (given .count)
+
+-- of the check
 abbrev pub PathsMean : Type 0
-PathsMean = (labels words : ℕ) (transitions states : List Float) (path : List ℕ) (count : ℕ) → Meaning labels words transitions states path count
+PathsMean = (given : Given) → Meaning (λ number place. checkedOf given ≡ refusedAt number place) (checkedOf given ≡ Accepted) given
+
+-- of whatever satisfies the promise: a score exactly when no number is given
+abbrev pub AnswersMean : Type 0
+AnswersMean =
+    (given : Given) (outcome : PathScore) → Promised given outcome →
+    Meaning (λ number place. said outcome ≡ refused number place) ((score : Float) × (said outcome ≡ scored score)) given

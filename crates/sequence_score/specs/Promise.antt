@@ -32,11 +32,14 @@ abbrev pub orRefused : Checked → Float → Said
 orRefused Checked.Accepted score = scored score
 orRefused (Checked.Refused why) score = refused (why .number) (why .place)
 
+-- the first row of the table of refusals that applies, where one does
+abbrev pub checkedOf : Given → Checked
+checkedOf given = pathChecked (given .labels) (given .words) (given .transitions) (given .states) (given .path) (given .count)
+
 -- what document 01 says: refused by the first row that applies, or else the path score
 unfoldable pub answerTo : Given → Said
 answerTo given =
-    orRefused
-    (pathChecked (given .labels) (given .words) (given .transitions) (given .states) (given .path) (given .count))
+    orRefused (checkedOf given)
     (pathScore (tabled (given .labels) (given .transitions) (given .states)) (given .path) (given .count))
 
 -- the promise

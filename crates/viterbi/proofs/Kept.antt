@@ -1,38 +1,29 @@
 -- What the rows of refusals give the call: an accepted call meets what decoding relies on, and either way the promise is kept. Assumes nothing.
 use mathlib.Core.Path.{_≡_}
-use mathlib.Core.List.{List, _∷_}
-use Prim.Native.Nat.{ℕ}
-use borrow.Author.Tests.{ltb-false}
+use mathlib.Core.List.{List}
+use Prim.Native.Nat.{ℕ, _≤_}
 use lib.ListN.{length}
 use Rattle.refusals.specs.declared.Refusal.{Refusal}
 use Rattle.refusals.specs.declared.Checked.the-variants.{Accepted, Refused}
-use Rattle.refusals.proofs.Laws.{all-accepted, passes}
 use Rattle.best_path.specs.Scores.{AllFinite}
-use Rattle.score_tables.specs.Rows.{one, four, two, sixes}
-use Rattle.score_tables.proofs.Laws as tables
+use Rattle.score_tables.specs.Sound.{Sound}
 use Rattle.viterbi_end.specs.declared.Found.{Found}
 use Rattle.viterbi.specs.declared.Decoding.{Decoding}
-use Rattle.decode_check.specs.Rows.{pathShort, decodeChecked}
+use Rattle.decode_check.proofs.Meant.{decoding-means}
 use Rattle.viterbi.specs.Answered.{Ready, Answered}
 use Rattle.viterbi.specs.Promise.{Given, scoresOf, checkedOf, answerTo, pathAfter, Promised}
 
 module _ (given : Given) (before : List ℕ) (accepted : checkedOf given before ≡ Accepted) where
+  abbrev fine : Sound (given .labels) (given .words) (given .transitions) (given .states) × (given .words ≤ length before)
+  fine = decoding-means _ _ _ _ _ .accepted .0 accepted
+
   -- an accepted call meets what decoding relies on
   pub ready : Ready (given .labels) (given .words) (given .transitions) (given .states) before
-  unfolding decodeChecked
-  ready =
-      let a = all-accepted Accepted (one (given .labels) ∷ four (given .words) ∷ two (given .labels) (given .words) (given .transitions) (given .states) ∷ pathShort (given .words) before ∷ sixes (given .labels) (given .words) (given .transitions) (given .states)) accepted .1 in
-      record {
-        sized = tables.sized (a .0) (a .1 .0) (a .1 .1 .0);
-        long-path = ltb-false (length before) (given .words) (passes 2 0 _ (a .1 .1 .1 .0));
-      }
+  ready = record { sized = fine .0 .sized; long-path = fine .1 }
 
   -- and all its scores are finite
   pub all-finite : AllFinite (scoresOf given) (given .words)
-  unfolding decodeChecked
-  all-finite =
-      let a = all-accepted Accepted (one (given .labels) ∷ four (given .words) ∷ two (given .labels) (given .words) (given .transitions) (given .states) ∷ pathShort (given .words) before ∷ sixes (given .labels) (given .words) (given .transitions) (given .states)) accepted .1 in
-      tables.all-finite (given .labels) (given .words) (given .transitions) (given .states) (a .1 .1 .1 .1 .0) (a .1 .1 .1 .1 .1 .0)
+  all-finite = fine .0 .finite
 
   pub decoded-kept : (found : Found) (after : List ℕ) → Answered (given .labels) (given .words) (given .transitions) (given .states) before found after → Promised given before (record { answer = Decoding.Decoded found; path = after })
   unfolding answerTo pathAfter

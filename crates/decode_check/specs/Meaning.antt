@@ -1,0 +1,33 @@
+-- What decoding a line answers, in plain terms: each number exactly when document 01 gives it, and with which place. The proof for the check is in proofs/Meant; for the call in the crate viterbi, for C in decoding_exports.
+use mathlib.Core.Path.{_≡_}
+use mathlib.Core.List.{List, [], _∷_}
+use mathlib.Core.Logic.{_↔_}
+use Prim.Native.Nat.{ℕ, _≤_}
+use lib.ListN.{length}
+use lib.Ieee.{Float}
+use Rattle.refusals.specs.declared.Checked.the-variants.{Accepted}
+use Rattle.refusals.specs.Refusals.{refusedAt}
+use Rattle.score_tables.specs.Sound.{LabelsIn, WordsIn, Room, Sound}
+use Rattle.score_tables.specs.Meaning.{SixAt}
+use Rattle.refusal_rows.specs.Given.{AtZero, OneOf}
+use Rattle.decode_check.specs.Rows.{decodeChecked}
+
+-- each table has its entries, and the path's buffer has room for T labels
+abbrev pub AllRoom : ℕ → ℕ → List Float → List Float → List ℕ → Type 0
+AllRoom labels words transitions states path = Room labels words transitions states × (words ≤ length path)
+
+-- `Refuses number place` says how a refusal is answered, `Accepts` how none is; before each number stands what was tested and found fine
+pub record Meaning (Refuses : ℕ → ℕ → Type 0) (Accepts : Type 0) (labels words : ℕ) (transitions states : List Float) (path : List ℕ) : Type 0 where
+  pub one : (place : ℕ) → Refuses 1 place ↔ AtZero (LabelsIn labels) place
+  pub four : (place : ℕ) → Refuses 4 place ↔ LabelsIn labels × AtZero (WordsIn words) place
+  pub two : (place : ℕ) → Refuses 2 place ↔ (LabelsIn labels × WordsIn words) × AtZero (AllRoom labels words transitions states path) place
+  pub six : (place : ℕ) → Refuses 6 place ↔ (LabelsIn labels × (WordsIn words × AllRoom labels words transitions states path)) × SixAt labels words transitions states place
+  pub only : (number place : ℕ) → Refuses number place → OneOf (1 ∷ 4 ∷ 2 ∷ 6 ∷ []) number
+  pub accepted : Accepts ↔ Sound labels words transitions states × (words ≤ length path)
+
+abbrev pub DecodingMeans : Type 0
+DecodingMeans =
+    (labels words : ℕ) (transitions states : List Float) (path : List ℕ) →
+    Meaning (λ number place. decodeChecked labels words transitions states path ≡ refusedAt number place)
+    (decodeChecked labels words transitions states path ≡ Accepted)
+    labels words transitions states path

@@ -1,0 +1,52 @@
+-- What C is told of a labelled line means what `Meaning` says. Assumes nothing.
+use mathlib.Core.Path.{_≡_, refl, ap, _∙_}
+use mathlib.Core.List.{[], _∷_}
+use mathlib.Core.Logic.{inl, ⊎-elim}
+use lib.ListN.{length, take, drop}
+use lib.Seq.{take-at}
+use Rattle.refusals.specs.declared.Checked.{Checked}
+use Rattle.refusals.specs.declared.Checked.the-variants.{Accepted}
+use Rattle.refusals.specs.Refusals.{orNext}
+use Rattle.refusals.proofs.Laws.{either}
+use Rattle.best_path.specs.Decoded.{decodedPath, decodedSum}
+use Rattle.best_path.specs.Lead.{lead}
+use Rattle.best_path.proofs.Laws.{decoded-length}
+use Rattle.best_path.proofs.Demand3.{demand-3}
+use Rattle.refusal_rows.proofs.Groups.{above-zero}
+use Rattle.finished.proofs.Meant.{scores-mean}
+use Rattle.scoring.specs.Promise.{statesOfLine, transitionsOfLine, finishedOf}
+use Rattle.label_line.specs.Promise.{scoresOf, checkedOf, answerTo, pathAfter}
+use Rattle.label_line.proofs.Meant.{checks-mean, labelled-so}
+use Rattle.label_line.proofs.Demand3.{all-finite}
+use Rattle.answers.proofs.Told.{number-of, sum-of, gives-refusal, refusal-given, zero-accepted}
+use Rattle.label_exports.specs.Meaning.{LabelsMean, EveryLineIsBest}
+
+pub labels-mean : LabelsMean
+unfolding answerTo
+labels-mean given before outcome kept =
+    let all : Checked = orNext (checkedOf given before) (finishedOf given) in
+    let sum = decodedSum (scoresOf given) (given .words) in
+    let ahead = lead (scoresOf given) (given .words) in
+    let s = scores-mean (given .model .labels) (given .words) (statesOfLine given) (transitionsOfLine given) in
+    rw (kept .answers)
+    (labelled-so given before _ _
+    (gives-refusal sum ahead all) (refusal-given sum ahead all)
+    (zero-accepted sum ahead all (λ number place h.
+    ⊎-elim
+    (λ c. above-zero (1 ∷ 4 ∷ 2 ∷ 3 ∷ 5 ∷ 6 ∷ []) number tt (checks-mean given (length before) .only _ c))
+    (λ p. rw (s .only _ (p .1)) (above-zero (8 ∷ []) 8 tt (inl refl)))
+    (either (checkedOf given before) (finishedOf given) _ h))))
+
+pub every-line-is-best : EveryLineIsBest
+unfolding answerTo pathAfter orNext
+every-line-is-best given before outcome kept fine finite =
+    let s = scoresOf given in
+    let words = given .words in
+    let checked : checkedOf given before ≡ Accepted = checks-mean given (length before) .accepted .1 fine in
+    let finished : finishedOf given ≡ Accepted = scores-mean (given .model .labels) words (statesOfLine given) (transitionsOfLine given) .accepted .1 finite in
+    let answer = rw (checked, finished) at (kept .answers) in
+    let low = fine .1 .0 .low in
+    let best = demand-3 s words (fine .0 .low) low (all-finite given finished) in
+    let front : take words (outcome .path) ≡ decodedPath s words = rw (kept .path, checked, finished) (take-at (decodedPath s words) (drop words before) words (decoded-length s words low)) in
+    let same : outcome .answer .sum ≡ decodedSum s words = ap (λ a. a .sum) answer ∙ sum-of (decodedSum s words) (lead s words) in
+    (ap (λ a. a .number) answer ∙ number-of (decodedSum s words) (lead s words), rw (front, same) best)

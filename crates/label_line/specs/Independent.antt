@@ -1,0 +1,28 @@
+-- "Two inputs that agree on L, on the line, on the lists of attributes in it with the features named there, and on the label lists with theirs, get the same scores and path, as long as both are accepted": the path, with its sum and lead, of whatever satisfies the promise. The proof is in proofs/Independent.
+use mathlib.Core.Path.{_≡_}
+use mathlib.Core.List.{List}
+use Prim.Native.Nat.{ℕ}
+use lib.ListN.{take}
+use lib.Ieee.{Float}
+use Rattle.best_path.specs.Lead.{Lead}
+use Rattle.viterbi.specs.Promise.{decoded, said}
+use Rattle.same_scores.specs.Agree.{Agree}
+use Rattle.scoring.specs.Promise.{Given}
+use Rattle.scoring.specs.Independent.{inputOf}
+use Rattle.label_line.specs.Promise.{Outcome, Promised}
+
+-- the answer is no refusal
+abbrev pub IsLabelled : Outcome → Type 0
+IsLabelled outcome = (sum : Float) × (lead : Lead) × (said (outcome .answer) ≡ decoded sum lead)
+
+pub record SameLabelling (a b : Given) (x y : Outcome) : Type 0 where
+  -- the same sum and lead
+  pub answers : said (x .answer) ≡ said (y .answer)
+  pub path : take (a .words) (x .path) ≡ take (b .words) (y .path)
+
+abbrev pub SameLabels : Type 0
+SameLabels =
+    (a b : Given) → Agree (inputOf a) (inputOf b) →
+    (before other : List ℕ) (x y : Outcome) → Promised a before x → Promised b other y →
+    IsLabelled x → IsLabelled y →
+    SameLabelling a b x y
