@@ -128,7 +128,7 @@ module _ (visit : ℕ → State → State) (counts : (i : ℕ) (s : State) → i
       one-epoch-more e t (endsWithin visit stop instances e r) (run-counted e r c) (t .over) refl
 
 -- ---- the answer
-all-finite-at : (table : List Float) (n : ℕ) → allFinite table n ≡ true → (i : ℕ) → i < n → T (finite (getD table i nan))
+pub all-finite-at : (table : List Float) (n : ℕ) → allFinite table n ≡ true → (i : ℕ) → i < n → T (finite (getD table i nan))
 unfolding allFinite
 all-finite-at table zero e i h = absurd (not-suc-le-zero h)
 all-finite-at table (suc n) e i h = go (allFinite table n) (finite (getD table n nan)) (all-finite-at table n) refl e (eq-or-lt-of-le (le-of-suc-le-suc h))

@@ -7,3 +7,4 @@ pub mod Weights
 pub mod Accepted
 pub mod WholeCounts
 pub mod FiniteCounts
+pub mod Reasons

@@ -9,3 +9,4 @@ pub mod OneVisit
 pub mod Accepted
 pub mod WholeCounts
 pub mod FiniteCounts
+pub mod Reasons
