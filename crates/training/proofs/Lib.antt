@@ -8,3 +8,6 @@ pub mod Accepted
 pub mod WholeCounts
 pub mod FiniteCounts
 pub mod Reasons
+pub mod AlwaysFinite
+pub mod Reached
+pub mod RefusedExactly

@@ -1,13 +1,12 @@
 -- Each end of a visit is there exactly when `Reasons` says. Assumes nothing.
 use mathlib.Core.Path.{_≡_, refl, sym, ap, _∙_}
-use mathlib.Core.Bool.{Bool, true, false, cond, _&&_, and-false, and-eq-true-iff, true≢false}
+use mathlib.Core.Bool.{Bool, true, false, _&&_, and-false, and-eq-true-iff, true≢false}
 use mathlib.Core.List.{List}
 use mathlib.Core.Logic.{_⊎_, inl, inr}
-use Prim.Native.Nat.{ℕ, zero, suc, _*_, _<_}
-use native.Mathlib.Nat.{zero-add, not-suc-le-zero}
+use Prim.Native.Nat.{ℕ, zero, suc, _*_}
 use native.Mathlib.Omega.{arith}
 use borrow.Author.Tests.{eqb-true, eqb-false, eq-eqb}
-use lib.Dec.{T, eqb}
+use lib.Dec.{eqb}
 use lib.ListN.{getD}
 use lib.Ieee.{Float, nan}
 use lib.Ieee.Bits.{is-true}
@@ -17,24 +16,23 @@ use Rattle.score_tables.specs.Meaning.{FiniteTo}
 use Rattle.training.specs.declared.Visit.{Visit}
 use Rattle.training.specs.declared.Visit.the-variants.{Unchanged, Updated, Refused}
 use Rattle.best_path.specs.Scores.{tabled}
-use Rattle.lines.specs.Passes.{through}
 use Rattle.lines.specs.Tables.{Model}
 use Rattle.training.specs.Data.{Data, wordsOf, referenceOf, allFinite}
 use Rattle.training.specs.Rules.{Rule, perceptron, passive, arow, Learned, Mistake, pulled, byPassive, updatedBy}
 use Rattle.training.specs.Visits.{State, refusedAs, unchanged, changedTo, finiteState, heldTo, corrected, compared, visited}
 use Rattle.training.specs.Epochs.{isRefused}
 use Rattle.training.specs.OneVisit.{predictedFor, LabelsAgree}
-use Rattle.training.specs.Reasons.{SomeNotFinite, stateScores, transitionScores, trueCounts, predictedCounts, ScoresFinite, EightIn, state-score, transition-score, true-count, predicted-count, ComesToUpdate, KeepsSums, KeepsCovariance, NineAfter, weight, running-sum, covariance, epoch-loss, TablesFinite, afterUpdate, VisitMeans, VisitsMean}
+use Rattle.training.specs.Reasons.{SomeNotFinite, stateScores, transitionScores, trueCounts, predictedCounts, ScoresFinite, EightIn, state-score, transition-score, true-count, predicted-count, ComesToUpdate, NineAfter, weight, running-sum, covariance, epoch-loss, TablesFinite, afterUpdate, VisitsMean}
 use Rattle.training.proofs.OneVisit.{agree-none, none-agree, wrongIn}
 use Rattle.training.proofs.Weights.{through-keeps}
 use Rattle.training.proofs.Accepted.{all-finite-at}
 
 -- ---- a test, either way
-by-test : {A : Type 0} (b : Bool) → (b ≡ true → A) → (b ≡ false → A) → A
+pub by-test : {A : Type 0} (b : Bool) → (b ≡ true → A) → (b ≡ false → A) → A
 by-test true f g = f refl
 by-test false f g = g refl
 
-refuted : (b : Bool) → (b ≡ true → ⊥) → b ≡ false
+pub refuted : (b : Bool) → (b ≡ true → ⊥) → b ≡ false
 refuted true f = absurd (f refl)
 refuted false f = refl
 
@@ -112,9 +110,9 @@ module _ (rule : Rule) (m : Model) (d : Data) (i : ℕ) (s : State) where
   unfolding visited
   scores-refused e = rw e
 
-  agreed : ScoresFinite m d i s → LabelsAgree m d i s → visited rule m d i s ≡ unchanged s
+  agreeing-so : ScoresFinite m d i s → LabelsAgree m d i s → visited rule m d i s ≡ unchanged s
   unfolding visited compared predictedFor
-  agreed f h =
+  agreeing-so f h =
       rw (all-of (stateScores m d i s) _ (f .states), all-of (transitionScores m d i s) _ (f .transitions), eq-eqb (wrongIn rule m d i s) 0 (agree-none (predictedFor m d i s) (referenceOf d i) (wordsOf d i) h))
 
   -- labels that differ bring a visit to the counts
@@ -193,7 +191,7 @@ module _ (rule : Rule) (m : Model) (d : Data) (i : ℕ) (s : State) where
 
   pub ends-by : (r : Reason) → visited rule m d i s ≡ endBy r
   ends-by (for-eight h) = eight-so h
-  ends-by (for-same f h) = agreed f h
+  ends-by (for-same f h) = agreeing-so f h
   ends-by (for-nine c h) = nine-so c h
   ends-by (for-update c h) = updated-so c h
 
@@ -205,9 +203,12 @@ told Updated = 1
 told (Refused why) = why .number
 
 module _ (rule : Rule) (m : Model) (d : Data) (i : ℕ) (s : State) where
-  -- the end of a visit, and the one that its reason gives
+  -- the end of a visit is the one that its reason gives
+  end-is : (r : Reason rule m d i s) → visited rule m d i s .step .visit ≡ endBy rule m d i s r .step .visit
+  end-is r = ap (λ (t : State). t .step .visit) (ends-by rule m d i s r)
+
   same-end : (r : Reason rule m d i s) {v : Visit} → visited rule m d i s .step .visit ≡ v → told (endBy rule m d i s r .step .visit) ≡ told v
-  same-end r e = ap (λ (t : State). told (t .step .visit)) (sym (ends-by rule m d i s r)) ∙ ap told e
+  same-end r e = ap told (sym (end-is r) ∙ e)
 
   eight-told : {p : ℕ} → Reason rule m d i s → visited rule m d i s .step .visit ≡ Refused (record { number = 8; place = p }) → EightIn m d i s
   unfolding refusedAs unchanged afterUpdate changedTo
@@ -223,12 +224,12 @@ module _ (rule : Rule) (m : Model) (d : Data) (i : ℕ) (s : State) where
   nine-told (for-nine c h) e = (c, h)
   nine-told (for-update c h) e = absurd (omega (arith, same-end (for-update c h) e))
 
-  same-told : Reason rule m d i s → visited rule m d i s .step .visit ≡ Unchanged → ScoresFinite m d i s × LabelsAgree m d i s
+  unchanged-told : Reason rule m d i s → visited rule m d i s .step .visit ≡ Unchanged → ScoresFinite m d i s × LabelsAgree m d i s
   unfolding refusedAs unchanged afterUpdate changedTo
-  same-told (for-eight h) e = absurd (omega (arith, same-end (for-eight h) e))
-  same-told (for-same f h) e = (f, h)
-  same-told (for-nine c h) e = absurd (omega (arith, same-end (for-nine c h) e))
-  same-told (for-update c h) e = absurd (omega (arith, same-end (for-update c h) e))
+  unchanged-told (for-eight h) e = absurd (omega (arith, same-end (for-eight h) e))
+  unchanged-told (for-same f h) e = (f, h)
+  unchanged-told (for-nine c h) e = absurd (omega (arith, same-end (for-nine c h) e))
+  unchanged-told (for-update c h) e = absurd (omega (arith, same-end (for-update c h) e))
 
   updated-told : Reason rule m d i s → visited rule m d i s .step .visit ≡ Updated → ComesToUpdate m d i s × TablesFinite (m .features .count) (afterUpdate rule m d i s)
   unfolding refusedAs unchanged afterUpdate changedTo
@@ -237,29 +238,23 @@ module _ (rule : Rule) (m : Model) (d : Data) (i : ℕ) (s : State) where
   updated-told (for-nine c h) e = absurd (omega (arith, same-end (for-nine c h) e))
   updated-told (for-update c h) e = (c, h)
 
-  -- a refusal is that of 8 or of 9
-  pub refusal-told : Reason rule m d i s → (why : Refusal) → visited rule m d i s .step .visit ≡ Refused why → (Refused why ≡ refusedAs 8 s .step .visit) ⊎ (Refused why ≡ refusedAs 9 s .step .visit)
+  only-told : Reason rule m d i s → (why : Refusal) → visited rule m d i s .step .visit ≡ Refused why → ((why .number ≡ 8) ⊎ (why .number ≡ 9)) × (why .place ≡ s .step .visits)
   unfolding refusedAs unchanged afterUpdate changedTo
-  refusal-told (for-eight h) why e = inl (sym e ∙ ap (λ (t : State). t .step .visit) (eight-so rule m d i s h))
-  refusal-told (for-same f h) why e = absurd (true≢false (ap isRefused (sym e ∙ ap (λ (t : State). t .step .visit) (ends-by rule m d i s (for-same f h)))))
-  refusal-told (for-nine c h) why e = inr (sym e ∙ ap (λ (t : State). t .step .visit) (nine-so rule m d i s c h))
-  refusal-told (for-update c h) why e = absurd (true≢false (ap isRefused (sym e ∙ ap (λ (t : State). t .step .visit) (ends-by rule m d i s (for-update c h)))))
-
-  only-these : (why : Refusal) → (Refused why ≡ refusedAs 8 s .step .visit) ⊎ (Refused why ≡ refusedAs 9 s .step .visit) → ((why .number ≡ 8) ⊎ (why .number ≡ 9)) × (why .place ≡ s .step .visits)
-  unfolding refusedAs
-  only-these why (inl e) = (inl (cc), cc)
-  only-these why (inr e) = (inr (cc), cc)
+  only-told (for-eight h) why e = let q = sym e ∙ end-is (for-eight h) in (inl (cc), cc)
+  only-told (for-same f h) why e = absurd (true≢false (ap isRefused (sym e ∙ end-is (for-same f h))))
+  only-told (for-nine c h) why e = let q = sym e ∙ end-is (for-nine c h) in (inr (cc), cc)
+  only-told (for-update c h) why e = absurd (true≢false (ap isRefused (sym e ∙ end-is (for-update c h))))
 
 pub visits-mean : VisitsMean
 unfolding refusedAs unchanged afterUpdate changedTo
 visits-mean rule m d i s h =
     let r = reason rule m d i s h in
     record {
-      eight = (eight-told rule m d i s r, λ e. ap (λ (t : State). t .step .visit) (eight-so rule m d i s e));
-      nine = (nine-told rule m d i s r, λ n. ap (λ (t : State). t .step .visit) (nine-so rule m d i s (n .0) (n .1)));
-      only = λ why e. only-these rule m d i s why (refusal-told rule m d i s r why e);
-      same = (same-told rule m d i s r, λ a. ap (λ (t : State). t .step .visit) (ends-by rule m d i s (for-same (a .0) (a .1))));
-      updated = (updated-told rule m d i s r, λ u. ap (λ (t : State). t .step .visit) (ends-by rule m d i s (for-update (u .0) (u .1))));
+      eight = (eight-told rule m d i s r, λ e. end-is rule m d i s (for-eight e));
+      nine = (nine-told rule m d i s r, λ n. end-is rule m d i s (for-nine (n .0) (n .1)));
+      only = only-told rule m d i s r;
+      unchanged = (unchanged-told rule m d i s r, λ a. end-is rule m d i s (for-same (a .0) (a .1)));
+      updated = (updated-told rule m d i s r, λ u. end-is rule m d i s (for-update (u .0) (u .1)));
     }
 
 -- from a state in which 9 would find nothing to another one, whatever the end

@@ -10,3 +10,4 @@ pub mod Accepted
 pub mod WholeCounts
 pub mod FiniteCounts
 pub mod Reasons
+pub mod Reached

@@ -101,7 +101,7 @@ module _ (rule : Rule) (m : Model) (d : Data) (i : ℕ) (s : State) where
     pub nine : visited rule m d i s .step .visit ≡ Refused (record { number = 9; place = s .step .visits }) ↔ ComesToUpdate m d i s × NineAfter rule (m .features .count) afterUpdate
     -- no other number is given, and no other place
     pub only : (why : Refusal) → visited rule m d i s .step .visit ≡ Refused why → ((why .number ≡ 8) ⊎ (why .number ≡ 9)) × (why .place ≡ s .step .visits)
-    pub same : visited rule m d i s .step .visit ≡ Unchanged ↔ ScoresFinite m d i s × LabelsAgree m d i s
+    pub unchanged : visited rule m d i s .step .visit ≡ Unchanged ↔ ScoresFinite m d i s × LabelsAgree m d i s
     -- "Updated: labels differ"
     pub updated : visited rule m d i s .step .visit ≡ Updated ↔ ComesToUpdate m d i s × TablesFinite (m .features .count) afterUpdate
 
