@@ -70,10 +70,6 @@ beside-lost (passive variant c sensitive false) features k s f h =
 beside-lost (arow variance gamma) features k s f h = covariance tt h
 
 -- ---- what 9 looks at, found or not
-pub held-finite : (features : ℕ) (s : State) → TablesFinite features s → finiteState features s ≡ true
-unfolding finiteState
-held-finite features s h = rw (all-of (s .learned .weights) features (h .weights), all-of (s .learned .beside) features (h .beside), is-true (finite (s .step .loss)) (h .loss))
-
 pub finite-held : (features : ℕ) (s : State) → finiteState features s ≡ true → TablesFinite features s
 unfolding finiteState
 finite-held features s e =
@@ -84,6 +80,10 @@ finite-held features s e =
       beside = all-finite-at (s .learned .beside) features (b .0);
       loss = rw (b .1) tt;
     }
+
+pub held-finite : (features : ℕ) (s : State) → TablesFinite features s → finiteState features s ≡ true
+unfolding finiteState
+held-finite features s h = rw (all-of (s .learned .weights) features (h .weights), all-of (s .learned .beside) features (h .beside), is-true (finite (s .step .loss)) (h .loss))
 
 nine-lost : (rule : Rule) (features : ℕ) (after : State) → NineAfter rule features after → finiteState features after ≡ false
 unfolding finiteState
