@@ -1,5 +1,5 @@
 -- What 8 and 9 mean, and when a trainer accepts, as `Meaning` says. Assumes nothing.
-use mathlib.Core.Path.{_≡_, refl, sym, _∙_, ap}
+use mathlib.Core.Path.{_≡_, sym, _∙_, ap}
 use mathlib.Core.Logic.{_⊎_, inl, inr}
 use Prim.Native.Nat.{ℕ, _<_}
 use native.Mathlib.Omega.{arith}
@@ -16,7 +16,7 @@ use Rattle.training.proofs.RefusedExactly.{refused-exactly}
 use Rattle.parameters.specs.Parameters.{AllFit}
 use Rattle.training_check.proofs.Meant.{training-means}
 use Rattle.trainers.specs.Promise.{Call, averagedPerceptron, passiveAggressive, adaptive, Given, Buffers, Outcome, accepted, refused, said, ruleFor, settingsFor, ownOf, inputOf, checkedOf, trainedOf, answerTo, Promised}
-use Rattle.trainers.specs.Meaning.{Unrefused, EightFor, NineFor, Accepts, LateMeans, FiniteBeforeVisits}
+use Rattle.trainers.specs.Meaning.{Unrefused, Accepts, LateMeans, FiniteBeforeVisits}
 use Rattle.trainers.proofs.Meant.{accepts, refuses, trained-so, trained-not, at-most}
 
 -- 7 has seen to it that the covariance starts at a finite variance

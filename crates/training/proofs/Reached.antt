@@ -14,7 +14,7 @@ use Rattle.training.specs.Visits.{State, visited}
 use Rattle.training.specs.Epochs.{Settings, Run, isRefused, opened, epochOver, epoch, epochUnlessOver, begun, ran}
 use Rattle.training.specs.Accepted.{endsWithin}
 use Rattle.training.specs.Orders.{ranFor}
-use Rattle.training.specs.Reached.{orderIn, instanceAt, stateBefore, endAt, GoesOn, Reached, NoneRefused, VisitsDone}
+use Rattle.training.specs.Reached.{orderIn, instanceAt, stateBefore, endAt, GoesOn, Reached, NoneRefused, VisitsFollow}
 use Rattle.training.proofs.Epochs.{visit-made, epoch-next, epoch-cut, run-next, run-cut, epoch-run, epoch-left-out}
 use Rattle.training.proofs.Accepted.{or-left, visit-counts, visits-counted, RunCounted, run-counted, begun-counted}
 use Rattle.training.proofs.Reasons.{by-test, refuted}
@@ -186,5 +186,14 @@ module _ (rule : Rule) (set : Settings) (m : Model) (d : Data) where
   unfolding ran
   all-visits h = counted-to (set .epochs) .visits h
 
-pub visits-done : VisitsDone
-visits-done = visits-before
+-- ---- what is claimed
+pub visits-follow : VisitsFollow
+unfolding stateBefore through opened begun epoch epochOver
+visits-follow rule set m d = record {
+  first = refl;
+  next = λ e j n r. sym (epoch-next (visit rule set m d) (orderIn rule set m d e) j (instanceAt rule set m d e j) (opened (ranFor rule set m d e .state)) refl (going-before rule set m d e j (r .none-refused)) refl refl);
+  opens = λ e n r.
+      let o = not-over-yet rule set m d e (λ k l. r .going k (omega arith)) in
+      ap (λ (x : Run). opened (x .state)) (sym (run-next (visit rule set m d) (stop rule set m d) (d .instances) e (begun rule set m d) o refl refl));
+  counted = visits-before rule set m d;
+}

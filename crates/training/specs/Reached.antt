@@ -17,7 +17,7 @@ use Rattle.lines.specs.Tables.{Model}
 use Rattle.training.specs.Data.{Data, whole}
 use Rattle.training.specs.Rules.{Rule, besideAtFirst, stops, averagedBy, _⊘_}
 use Rattle.training.specs.Visits.{State, unchanged, heldTo, visited}
-use Rattle.training.specs.Epochs.{Settings, isRefused, opened, visitedAt, ran, trained}
+use Rattle.training.specs.Epochs.{Settings, isRefused, opened, visitedAt, begun, ran, trained}
 use Rattle.training.specs.Orders.{ranFor}
 use Rattle.training.specs.Reasons.{SomeNotFinite, EightIn, ComesToUpdate, KeepsSums, NineAfter, TablesFinite, afterUpdate}
 
@@ -49,6 +49,14 @@ module _ (rule : Rule) (set : Settings) (m : Model) (d : Data) where
     pub none-refused : (earlier : ℕ) → earlier < turn → isRefused (endAt epoch earlier) ≡ false
     -- the N visits of each epoch before, and those of this one
     pub number : before ≡ epoch * d .instances + turn
+
+  -- the states before the visits, one after another: from the start, by what each visit made, and from epoch to epoch with a loss of +0
+  pub record StatesFollow : Type 0 where
+    pub first : stateBefore 0 0 ≡ begun rule set m d .state
+    pub next : (epoch turn before : ℕ) → Reached epoch turn before → stateBefore epoch (turn + 1) ≡ visited rule m d (instanceAt epoch turn) (stateBefore epoch turn)
+    pub opens : (epoch before : ℕ) → Reached (epoch + 1) 0 before → stateBefore (epoch + 1) 0 ≡ opened (stateBefore epoch (d .instances))
+    -- and each has counted the visits before it
+    pub counted : (epoch turn before : ℕ) → Reached epoch turn before → stateBefore epoch turn .step .visits ≡ before
 
   -- 8 | "a finished state or transition score or feature count is not finite" | "in training: visits done"
   pub record EightAt (place : ℕ) : Type 0 where
@@ -95,6 +103,5 @@ AlwaysFinite = (rule : Rule) (set : Settings) (m : Model) (d : Data) → T (fini
 abbrev pub RefusedExactly : Type 0
 RefusedExactly = (rule : Rule) (set : Settings) (m : Model) (d : Data) → T (finite (besideAtFirst rule)) → TrainingEnds rule set m d
 
--- the state before a visit that is made has counted the visits before it
-abbrev pub VisitsDone : Type 0
-VisitsDone = (rule : Rule) (set : Settings) (m : Model) (d : Data) (epoch turn before : ℕ) → Reached rule set m d epoch turn before → stateBefore rule set m d epoch turn .step .visits ≡ before
+abbrev pub VisitsFollow : Type 0
+VisitsFollow = (rule : Rule) (set : Settings) (m : Model) (d : Data) → StatesFollow rule set m d
