@@ -5,7 +5,7 @@ ghost use lib.ListN.{length, drop};
 ghost use Rattle.refusals.specs.Refusals.{orNext};
 ghost use Rattle.refusals.specs.Tables.{numbersChecked};
 ghost use Rattle.sheet_bytes.specs.Fields.{numbersIn};
-ghost use Rattle.sheet_check.specs.Rows.{headChecked, sizesChecked, sheetChecked};
+ghost use Rattle.sheet_check.specs.Rows.{headChecked, sizesChecked, tablesShort, sheetChecked};
 use refusals::Checked;
 use score_tables::entries;
 
@@ -30,7 +30,7 @@ fn check_head(bytes: &[u8]) -> Checked
 
 // The same, then 2 and 10 on length.
 fn check_sizes(bytes: &[u8], transitions: &[f64], states: &[f64]) -> Checked
-    ensures { λ r. ⌜ r ≡ sizesChecked (now (bytes .entry)) (record { transitions = now (transitions .entry); states = now (states .entry) }) ⌝ }
+    ensures { λ r. ⌜ r ≡ sizesChecked (now (bytes .entry)) (tablesShort (now (bytes .entry)) (record { transitions = now (transitions .entry); states = now (states .entry) })) ⌝ }
 {
     let head = check_head(bytes);
     if let Checked::Refused(why) = head {
