@@ -2,7 +2,7 @@
 use mathlib.Core.Path.{_≡_, refl, sym, _∙_, ap}
 use mathlib.Core.Bool.{Bool, true, false, not, _||_}
 use mathlib.Core.List.{List, [], _∷_, _++_}
-use mathlib.Core.Logic.{_↔_, _⊎_, inl, inr}
+use mathlib.Core.Logic.{_↔_, Iff·trans, _⊎_, inl, inr}
 use Prim.Native.Nat.{ℕ, _*_, _<_, _≤_}
 use native.Mathlib.Omega.{arith}
 use borrow.Author.Tests.{ltb-false, le-ltb, eqb-true, eq-eqb, not-false}
@@ -12,7 +12,7 @@ use lib.Seq.{getD-take}
 use Rattle.refusals.specs.declared.Refusal.{Refusal}
 use Rattle.refusals.specs.declared.Checked.{Checked}
 use Rattle.refusals.specs.declared.Checked.the-variants.{Accepted, Refused}
-use Rattle.refusals.specs.Refusals.{refusedAt, refuse, first}
+use Rattle.refusals.specs.Refusals.{refusedAt, refuse, orNext, firstFrom, first}
 use Rattle.refusals.specs.Meaning.{AllAccepted, FirstRefused}
 use Rattle.refusals.proofs.Laws.{passes, neither, number-of, place-of, accepted-all, all-accepted, first-refused, refused-first}
 use Rattle.refusals.proofs.Meant.{numbers-mean}
@@ -65,6 +65,16 @@ module _ (bytes : List ℕ) where
   length-means : Row (refuse 10 0 (wrongLength bytes)) 10 (RightLength bytes)
   length-means = row 10 _ (λ h. same _ _ (passes 10 0 _ h)) (λ e. rw (eq-eqb (length bytes) (wholeLength bytes) e))
 
+-- the rows of the head
+in-bounds : (bytes : List ℕ) → AllAccepted (headRows bytes) ↔ InBounds bytes
+in-bounds bytes =
+    let r10 = head-means bytes in
+    let r1 = one-means (labelsIn bytes) in
+    let r4 = four-means (wordsIn bytes) in (
+      λ a. record { head = r10 .accepted .0 (a .0); labels = r1 .accepted .0 (a .1 .0); words = r4 .accepted .0 (a .1 .1 .0) },
+      λ b. (r10 .accepted .1 (b .head), (r1 .accepted .1 (b .labels), (r4 .accepted .1 (b .words), tt))),
+    )
+
 -- ---- all rows, over a row of 2 that accepts exactly what fits
 
 -- a row has its number and the place 0 only
@@ -99,17 +109,11 @@ module _ (bytes : List ℕ) {room : Checked} {Fits : Type 0} (r2 : Row room 2 Fi
   never-six : (k : ℕ) → (6 ≡ k → ⊥) → Never k last
   never-six k d = not-six labels words (transitionsIn bytes) (statesIn bytes) k d
 
-  in-bounds : AllAccepted (headRows bytes) ↔ InBounds bytes
-  in-bounds = (
-    λ a. record { head = r10 .accepted .0 (a .0); labels = r1 .accepted .0 (a .1 .0); words = r4 .accepted .0 (a .1 .1 .0) },
-    λ b. (r10 .accepted .1 (b .head), (r1 .accepted .1 (b .labels), (r4 .accepted .1 (b .words), tt))),
-  )
-
   sized : AllAccepted (headRows bytes ++ sizeRows bytes room) ↔ (InBounds bytes × Fits) × RightLength bytes
   sized = (
-    λ a. ((in-bounds .0 (a .0, (a .1 .0, (a .1 .1 .0, tt))), r2 .accepted .0 (a .1 .1 .1 .0)), rl .accepted .0 (a .1 .1 .1 .1 .0)),
+    λ a. ((in-bounds bytes .0 (a .0, (a .1 .0, (a .1 .1 .0, tt))), r2 .accepted .0 (a .1 .1 .1 .0)), rl .accepted .0 (a .1 .1 .1 .1 .0)),
     λ s.
-        let b = in-bounds .1 (s .0 .0) in
+        let b = in-bounds bytes .1 (s .0 .0) in
         (b .0, (b .1 .0, (b .1 .1 .0, (r2 .accepted .1 (s .0 .1), (rl .accepted .1 (s .1), tt))))),
   )
 
@@ -170,7 +174,7 @@ module _ (bytes : List ℕ) {room : Checked} {Fits : Type 0} (r2 : Row room 2 Fi
         given 2 0 (headRows bytes) (room ∷ []) (refuse 10 0 (wrongLength bytes) ∷ last)
         (not-row r10 (λ q. omega arith), (not-row r1 (λ q. omega arith), (not-row r4 (λ q. omega arith), tt)))
         (not-row rl (λ q. omega arith), never-six 2 (λ q. omega arith))
-        in-bounds
+        (in-bounds bytes)
         (of-one r2);
     six = λ place.
         given 6 place (headRows bytes ++ sizeRows bytes room) last []
@@ -197,6 +201,28 @@ module _ (bytes : List ℕ) {room : Checked} {Fits : Type 0} (r2 : Row room 2 Fi
           accepted-all (headRows bytes ++ (sizeRows bytes room ++ last)) (s .0, (s .1 .0, (s .1 .1 .0, (s .1 .1 .1 .0, (s .1 .1 .1 .1 .0, (to-finite (transitionsIn bytes) _ (f .0 .finite-transitions), (to-finite (statesIn bytes) _ (f .0 .finite-states), tt))))))),
     );
   }
+
+-- the row of 2 is only reached where L and T are in bounds
+pub same-file : (bytes : List ℕ) (x y : Checked) → (InBounds bytes → x ≡ y) → fileChecked bytes x ≡ fileChecked bytes y
+unfolding fileChecked orNext
+same-file bytes x y h = reached (first (headRows bytes)) x y (refuse 10 0 (wrongLength bytes) ∷ entryRows bytes) (λ e. h (in-bounds bytes .0 (all-accepted Accepted (headRows bytes) e .1)))
+  where
+    reached : (answer x y : Checked) (after : List Checked) → (answer ≡ Accepted → x ≡ y) → firstFrom (orNext answer x) after ≡ firstFrom (orNext answer y) after
+    reached Accepted x y after e = ap (λ (c : Checked). firstFrom c after) (e refl)
+    reached (Refused w) x y after e = refl
+
+-- the same said of another answer
+pub said-so : {Is Says : ℕ → ℕ → Type 0} {Accepts Answers : Type 0} {bytes : List ℕ} {Fits : Type 0} →
+    Meaning Is Accepts bytes Fits → ((number place : ℕ) → Says number place ↔ Is number place) → Answers ↔ Accepts → Meaning Says Answers bytes Fits
+said-so m e a = record {
+  ten = Iff·trans (e 10 0) (m .ten);
+  one = Iff·trans (e 1 0) (m .one);
+  four = Iff·trans (e 4 0) (m .four);
+  two = Iff·trans (e 2 0) (m .two);
+  six = λ place. Iff·trans (e 6 place) (m .six place);
+  only = λ number place h. m .only number place (e number place .0 h);
+  accepted = Iff·trans a (m .accepted);
+}
 
 pub sheets-mean : SheetsMean
 sheets-mean given before = file-means (given .bytes) (two-means (labelsIn (given .bytes)) (wordsIn (given .bytes)) (before .transitions) (before .states))

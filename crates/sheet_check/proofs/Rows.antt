@@ -1,6 +1,6 @@
 -- The rows of the sheet as the inner functions take them, and what a sheet that they accept gives. Assumes nothing.
 use mathlib.Core.Path.{_≡_, refl, sym, _∙_}
-use mathlib.Core.Bool.{Bool, false, not, _||_}
+use mathlib.Core.Bool.{Bool, not, _||_}
 use mathlib.Core.List.{List, _++_}
 use Prim.Native.Nat.{ℕ, _+_, _*_, _<_, _≤_}
 use native.Mathlib.Nat.{mul-le-mul}
@@ -45,12 +45,12 @@ module _ (bytes : List ℕ) where
   whole-head h = rw (le-ltb (length bytes) 8 h) (together (refuse 10 0 wrongBytes) (one (labelsIn bytes)) (four (wordsIn bytes)))
 
   -- a head that is accepted has its eight bytes
+  long-head : refuse 10 0 (wrongHead bytes) ≡ Accepted → 8 ≤ length bytes
+  long-head h = ltb-false (length bytes) 8 (neither _ _ (neither _ _ (neither _ _ (neither _ _ (passes 10 0 (wrongHead bytes) h) .0) .0) .0) .0)
+
   pub head-long : headChecked bytes ≡ Accepted → 8 ≤ length bytes
   unfolding headChecked
-  head-long h =
-      let a = all-accepted Accepted (headRows bytes) h .1 in
-      let n = passes 10 0 (wrongHead bytes) (a .0) in
-      ltb-false (length bytes) 8 (neither _ _ (neither _ _ (neither _ _ (neither _ _ n .0) .0) .0) .0)
+  head-long h = long-head (all-accepted Accepted (headRows bytes) h .1 .0)
 
 -- the sizes of the two tables, whatever the bytes say
 pub small-sizes : {labels words transitions states : ℕ} → labels < 256 → words < 65536 → transitions ≡ labels * labels → states ≡ words * labels → transitions + states ≤ 16842240
@@ -82,7 +82,6 @@ module _ (bytes : List ℕ) (before : Lent) where
   -- what accepted sizes give
   pub record Sizes : Type 0 where
     pub long : 8 ≤ length bytes
-    pub right : wrongBytes bytes ≡ false
     pub room : Sized (labelsIn bytes) (wordsIn bytes) (before .transitions) (before .states)
     pub exact : length bytes ≡ wholeLength bytes
 
@@ -90,11 +89,8 @@ module _ (bytes : List ℕ) (before : Lent) where
   unfolding sizesChecked
   sizes h =
       let a = all-accepted Accepted (headRows bytes ++ sizeRows bytes (tablesShort bytes before)) h .1 in
-      let n = passes 10 0 (wrongHead bytes) (a .0) in
-      let long = ltb-false (length bytes) 8 (neither _ _ (neither _ _ (neither _ _ (neither _ _ n .0) .0) .0) .0) in
       record {
-        long = long;
-        right = rw (le-ltb (length bytes) 8 long) at n;
+        long = long-head bytes (a .0);
         room = sized (a .1 .0) (a .1 .1 .0) (a .1 .1 .1 .0);
         exact = eqb-true (length bytes) (wholeLength bytes) (not-false _ (passes 10 0 (wrongLength bytes) (a .1 .1 .1 .1 .0)));
       }
