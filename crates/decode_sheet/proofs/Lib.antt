@@ -4,3 +4,4 @@ pub mod Join
 pub mod Print
 pub mod Once
 pub mod Prints
+pub mod Front

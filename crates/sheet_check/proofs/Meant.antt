@@ -66,7 +66,7 @@ module _ (bytes : List ℕ) where
   length-means = row 10 _ (λ h. same _ _ (passes 10 0 _ h)) (λ e. rw (eq-eqb (length bytes) (wholeLength bytes) e))
 
 -- the rows of the head
-in-bounds : (bytes : List ℕ) → AllAccepted (headRows bytes) ↔ InBounds bytes
+pub in-bounds : (bytes : List ℕ) → AllAccepted (headRows bytes) ↔ InBounds bytes
 in-bounds bytes =
     let r10 = head-means bytes in
     let r1 = one-means (labelsIn bytes) in
