@@ -5,3 +5,4 @@ pub mod Print
 pub mod Once
 pub mod Prints
 pub mod Front
+pub mod Meant

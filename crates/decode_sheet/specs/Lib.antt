@@ -2,3 +2,5 @@ pub mod Answer
 pub mod Promise
 pub mod Program
 pub mod Front
+pub mod Meaning
+pub mod Best
