@@ -6,3 +6,4 @@ pub mod Once
 pub mod Prints
 pub mod Front
 pub mod Meant
+pub mod Best

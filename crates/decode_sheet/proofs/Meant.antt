@@ -85,10 +85,10 @@ sayable bytes b =
 -- ---- what is printed
 
 -- the program lends room for the longest line
-always : Row (lineShort 406) 2 (Unit {0})
+pub always : Row (lineShort 406) 2 (Unit {0})
 always = row 2 _ (λ h. tt) (λ u. refl)
 
-abbrev rows-mean : (bytes : List ℕ) → Meaning (λ number place. lineChecked bytes 406 ≡ refusedAt number place) (lineChecked bytes 406 ≡ Accepted) bytes (Unit {0})
+abbrev pub rows-mean : (bytes : List ℕ) → Meaning (λ number place. lineChecked bytes 406 ≡ refusedAt number place) (lineChecked bytes 406 ≡ Accepted) bytes (Unit {0})
 rows-mean bytes = file-means bytes always
 
 -- a refusal's number and place are of 64 bits
