@@ -1,5 +1,5 @@
 -- From what the reader promises of the bytes to what is promised of the line. Assumes nothing.
-use mathlib.Core.Path.{_≡_, sym, _∙_}
+use mathlib.Core.Path.{_≡_, sym, _∙_, ap}
 use mathlib.Core.List.{List, [], _++_, append-assoc, append-nil}
 use Prim.Native.Nat.{ℕ, _*_, _<_, _≤_}
 use native.Mathlib.Omega.{arith}
@@ -13,13 +13,14 @@ use Rattle.sheet.specs.declared.Reading.{Reading}
 use Rattle.sheet_bytes.specs.Fields.{labelsIn, wordsIn, transitionsIn, statesIn}
 use Rattle.sheet_check.specs.Rows.{Lent, sheetChecked}
 use Rattle.sheet.specs.Promise as reader
+use Rattle.sheet.proofs.Meant.{refused-by}
 use Rattle.sheet_check.proofs.Rows.{accepts}
 use Rattle.sheet_check.proofs.Meant.{file-means}
 use Rattle.answer_line.specs.Line as line
 use Rattle.decode_sheet.specs.declared.Written.{Written}
 use Rattle.decode_sheet.specs.Answer.{pathLineOf, lineChecked}
 use Rattle.decode_sheet.specs.Promise.{answerTo, lineAfter, Promised}
-use Rattle.decode_sheet.proofs.Rows.{Lends, rows, line-means, refused-by, read-by, transitions-size, states-size, sound-in}
+use Rattle.decode_sheet.proofs.Rows.{Lends, rows, line-means, read-by, transitions-size, states-size, sound-in}
 
 -- the room that is lent of the transitions: none where the line is too short, else all
 pub record Chosen (before : List ℕ) (transitions states : List Float) (room : ℕ) : Type 0 where
@@ -78,7 +79,7 @@ module _ (bytes before : List ℕ) (transitions states : List Float) (room : ℕ
 
   pub read-refused : (o : reader.Outcome) → reader.Promised (record { bytes = bytes }) (lent transitions states room) o → (why : Refusal) → o .answer ≡ Reading.Refused why → Promised (record { bytes = bytes }) before (record { answer = Written.Refused why; line = before })
   unfolding reader.answerTo
-  read-refused o p why h = promised-refused bytes before why (sym checked ∙ refused-by bytes _ why (rw h at (p .answers)))
+  read-refused o p why h = promised-refused bytes before why (sym checked ∙ refused-by bytes _ _ (p .answers) (why .number) (why .place) .0 (ap reader.said h))
 
   pub read-tables : (o : reader.Outcome) → reader.Promised (record { bytes = bytes }) (lent transitions states room) o → (labels words : ℕ) → o .answer ≡ Reading.Read labels words → Tables bytes before transitions states room labels words o
   unfolding reader.answerTo reader.transitionsAfter reader.statesAfter

@@ -1,5 +1,5 @@
 -- The rows of a sheet that is decoded into a line, by way of the reader's rows over tables with room for every sheet. Assumes nothing.
-use mathlib.Core.Path.{_≡_, refl, ap}
+use mathlib.Core.Path.{_≡_, refl}
 use mathlib.Core.Bool.{Bool, true, false}
 use mathlib.Core.List.{List}
 use Prim.Native.Nat.{ℕ, _*_, _<_, _≤_}
@@ -8,7 +8,6 @@ use native.Mathlib.Omega.{arith}
 use borrow.Author.Tests.{lt-ltb, le-ltb, ltb-true, ltb-false}
 use lib.Dec.{ltb}
 use lib.ListN.{length}
-use Rattle.refusals.specs.declared.Refusal.{Refusal}
 use Rattle.refusals.specs.declared.Checked.{Checked}
 use Rattle.refusals.specs.declared.Checked.the-variants.{Accepted, Refused}
 use Rattle.refusals.specs.Refusals.{refuse}
@@ -21,11 +20,10 @@ use Rattle.score_tables.specs.Meaning.{Row}
 use Rattle.score_tables.proofs.Order.{row}
 use Rattle.sheet_bytes.specs.Fields.{labelsIn, wordsIn, transitionsIn, statesIn}
 use Rattle.sheet_check.specs.Rows.{Lent, tablesShort, sheetChecked}
-use Rattle.sheet.specs.Promise.{read, refused, answerBy}
+use Rattle.sheet.specs.Promise.{read, answerBy}
 use Rattle.sheet_bytes.proofs.Laws.{length-numbers}
 use Rattle.sheet_check.proofs.Rows.{Accepts}
 use Rattle.sheet_check.proofs.Meant.{same-file}
-use Rattle.sheet.proofs.Once.{same-refusal}
 use Rattle.decode_sheet.specs.Answer.{lineShort, lineChecked}
 
 -- the room of the tables that are lent: none for a line that is too short
@@ -56,10 +54,6 @@ pub line-means : (room : ℕ) → Row (lineShort room) 2 (406 ≤ room)
 line-means room = row 2 _ (λ h. ltb-false room 406 (passes 2 0 _ h)) (λ l. le-ltb room 406 l)
 
 -- ---- what the reader answers
-
-pub refused-by : (bytes : List ℕ) (c : Checked) (why : Refusal) → refused (why .number) (why .place) ≡ answerBy c bytes → c ≡ Refused why
-refused-by bytes Accepted why h = let z : _≡_ {A = ℕ} 0 1 = cc in absurd (omega arith)
-refused-by bytes (Refused other) why h = ap Refused (same-refusal other why (cc) (cc))
 
 pub record ReadBy (bytes : List ℕ) (c : Checked) (labels words : ℕ) : Type 0 where
   pub accepted : c ≡ Accepted

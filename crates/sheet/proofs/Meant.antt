@@ -16,7 +16,7 @@ use Rattle.sheet.specs.Meaning.{ReadingMeans}
 use Rattle.sheet.proofs.Once.{same-refusal}
 
 -- what is said, by what the rows give
-refused-by : (bytes : List ℕ) (said : Said) (c : Checked) → said ≡ answerBy c bytes → (number place : ℕ) → said ≡ refused number place ↔ c ≡ refusedAt number place
+pub refused-by : (bytes : List ℕ) (said : Said) (c : Checked) → said ≡ answerBy c bytes → (number place : ℕ) → said ≡ refused number place ↔ c ≡ refusedAt number place
 refused-by bytes said Accepted e number place = (λ h. let z : _≡_ {A = ℕ} 0 1 = cc in absurd (omega arith), λ h. let z : _≡_ {A = ℕ} 0 1 = cc in absurd (omega arith))
 refused-by bytes said (Refused why) e number place = (λ h. ap Refused (same-refusal why (record { number = number; place = place }) (cc) (cc)), λ h. e ∙ ap (λ (c : Checked). answerBy c bytes) h)
 
