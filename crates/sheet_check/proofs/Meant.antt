@@ -122,8 +122,7 @@ module _ (bytes : List ℕ) {room : Checked} {Fits : Type 0} (r2 : Row room 2 Fi
   late-ten =
       given 10 0 (one labels ∷ four words ∷ room ∷ []) (refuse 10 0 (wrongLength bytes) ∷ []) last
       (not-row r1 (λ q. omega arith), (not-row r4 (λ q. omega arith), (not-row r2 (λ q. omega arith), tt)))
-      (never-six 10 (λ q. omega arith))
-      (
+      (never-six 10 (λ q. omega arith)) (
         λ a. (r1 .accepted .0 (a .0), (r4 .accepted .0 (a .1 .0), r2 .accepted .0 (a .1 .1 .0))),
         λ f. (r1 .accepted .1 (f .0), (r4 .accepted .1 (f .1 .0), (r2 .accepted .1 (f .1 .1), tt))),
       )
@@ -186,8 +185,7 @@ module _ (bytes : List ℕ) {room : Checked} {Fits : Type 0} (r2 : Row room 2 Fi
     accepted = (
       λ h.
           let a = all-accepted Accepted (headRows bytes ++ (sizeRows bytes room ++ last)) h .1 in
-          let s = sized .0 (a .0, (a .1 .0, (a .1 .1 .0, (a .1 .1 .1 .0, (a .1 .1 .1 .1 .0, tt))))) in
-          (
+          let s = sized .0 (a .0, (a .1 .0, (a .1 .1 .0, (a .1 .1 .1 .0, (a .1 .1 .1 .1 .0, tt))))) in (
             record {
               in-bounds = s .0 .0;
               right-length = s .1;

@@ -1,23 +1,19 @@
 -- The rows of the sheet as the inner functions take them, and what a sheet that they accept gives. Assumes nothing.
-use mathlib.Core.Path.{_≡_, refl, sym, _∙_}
-use mathlib.Core.Bool.{Bool, not, _||_}
-use mathlib.Core.List.{List, _++_}
-use Prim.Native.Nat.{ℕ, _+_, _*_, _<_, _≤_}
-use native.Mathlib.Nat.{mul-le-mul}
-use native.Mathlib.Omega.{arith}
-use borrow.Author.Tests.{lt-ltb, le-ltb, ltb-false, eqb-true, not-false}
-use lib.Dec.{eqb}
-use lib.ListN.{length, getD}
+use mathlib.Core.Path.{_≡_, refl, sym, _∙_, ap}
+use mathlib.Core.List.{List, [], _∷_, _++_}
+use Prim.Native.Nat.{ℕ, _*_, _≤_}
+use borrow.Author.Tests.{ltb-false, eqb-true, not-false}
+use lib.ListN.{length}
 use Rattle.refusals.specs.declared.Refusal.{Refusal}
 use Rattle.refusals.specs.declared.Checked.{Checked}
 use Rattle.refusals.specs.declared.Checked.the-variants.{Accepted, Refused}
-use Rattle.refusals.specs.Refusals.{refusedAt, refuse, orNext}
+use Rattle.refusals.specs.Refusals.{refuse, orNext, first}
 use Rattle.refusals.specs.Tables.{numbersChecked}
 use Rattle.refusals.proofs.Laws.{settled, both, all-accepted, neither, passes}
 use Rattle.score_tables.specs.Rows.{one, four, boundsChecked}
 use Rattle.score_tables.specs.Sound.{Sized}
 use Rattle.score_tables.proofs.Laws.{sized}
-use Rattle.sheet_bytes.specs.Fields.{versionIn, labelsIn, wordsIn, wholeLength, transitionsIn, statesIn}
+use Rattle.sheet_bytes.specs.Fields.{labelsIn, wordsIn, wholeLength, transitionsIn, statesIn}
 use Rattle.sheet_check.specs.Rows.{Lent, wrongHead, wrongLength, headRows, sizeRows, entryRows, headChecked, sizesChecked, fileChecked, tablesShort, sheetChecked}
 
 -- the answer so far, then two checks that were put together
@@ -26,38 +22,9 @@ unfolding orNext
 together Accepted check next = refl
 together (Refused why) check next = refl
 
-module _ (bytes : List ℕ) where
-  -- fewer than eight bytes
-  pub short-head : length bytes < 8 → refusedAt 10 0 ≡ headChecked bytes
-  unfolding headChecked refuse orNext
-  short-head h = rw (lt-ltb (length bytes) 8 h)
-
-  -- the tests of what stands in eight bytes
-  abbrev pub wrongBytes : Bool
-  wrongBytes =
-      not (eqb (getD bytes 0 0) 84)
-      || not (eqb (getD bytes 1 0) 76)
-      || not (eqb (getD bytes 2 0) 71)
-      || not (eqb (versionIn bytes) 1)
-
-  pub whole-head : 8 ≤ length bytes → orNext (orNext Accepted (refuse 10 0 wrongBytes)) (boundsChecked (labelsIn bytes) (wordsIn bytes)) ≡ headChecked bytes
-  unfolding headChecked orNext
-  whole-head h = rw (le-ltb (length bytes) 8 h) (together (refuse 10 0 wrongBytes) (one (labelsIn bytes)) (four (wordsIn bytes)))
-
-  -- a head that is accepted has its eight bytes
-  long-head : refuse 10 0 (wrongHead bytes) ≡ Accepted → 8 ≤ length bytes
-  long-head h = ltb-false (length bytes) 8 (neither _ _ (neither _ _ (neither _ _ (neither _ _ (passes 10 0 (wrongHead bytes) h) .0) .0) .0) .0)
-
-  pub head-long : headChecked bytes ≡ Accepted → 8 ≤ length bytes
-  unfolding headChecked
-  head-long h = long-head (all-accepted Accepted (headRows bytes) h .1 .0)
-
--- the sizes of the two tables, whatever the bytes say
-pub small-sizes : {labels words transitions states : ℕ} → labels < 256 → words < 65536 → transitions ≡ labels * labels → states ≡ words * labels → transitions + states ≤ 16842240
-small-sizes {labels} {words} l w t s =
-    let p : labels ≤ 255 = omega arith in
-    let q : words ≤ 65535 = omega arith in
-    omega (arith, mul-le-mul p p, mul-le-mul q p)
+-- a head that is accepted has its eight bytes
+long-head : (bytes : List ℕ) → refuse 10 0 (wrongHead bytes) ≡ Accepted → 8 ≤ length bytes
+long-head bytes h = ltb-false (length bytes) 8 (neither _ _ (neither _ _ (neither _ _ (neither _ _ (passes 10 0 (wrongHead bytes) h) .0) .0) .0) .0)
 
 module _ (bytes : List ℕ) (room : Checked) where
   -- a refusal of the head is the file's
@@ -65,9 +32,10 @@ module _ (bytes : List ℕ) (room : Checked) where
   unfolding headChecked sizesChecked
   head-refused why h = sym (settled _ (sizeRows bytes room) why h)
 
-  pub head-passed : orNext (orNext (headChecked bytes) room) (refuse 10 0 (wrongLength bytes)) ≡ sizesChecked bytes room
-  unfolding headChecked sizesChecked
-  head-passed = refl
+  -- 1 and 4 as one check
+  pub sizes-in-order : first (orNext Accepted (refuse 10 0 (wrongHead bytes)) ∷ boundsChecked (labelsIn bytes) (wordsIn bytes) ∷ orNext Accepted room ∷ orNext Accepted (refuse 10 0 (wrongLength bytes)) ∷ []) ≡ sizesChecked bytes room
+  unfolding sizesChecked orNext
+  sizes-in-order = ap (λ (c : Checked). orNext (orNext c room) (refuse 10 0 (wrongLength bytes))) (together (refuse 10 0 (wrongHead bytes)) (one (labelsIn bytes)) (four (wordsIn bytes)))
 
   -- a refusal of the sizes is the file's
   pub sizes-refused : (why : Refusal) → sizesChecked bytes room ≡ Refused why → Refused why ≡ fileChecked bytes room
