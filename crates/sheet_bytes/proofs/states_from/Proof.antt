@@ -25,7 +25,7 @@ add-result : tie.Need-add-result
 add-result c = omega (arith, fit c)
 
 returns : tie.Need-returns
-returns c = rw (c .labels-in .ensures .0)
+returns c = rw (c .labels-in .ensures .0) (omega arith)
 
 pub states-from-spec : {M : Type 1} → statement M
 states-from-spec =

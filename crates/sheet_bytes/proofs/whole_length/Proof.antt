@@ -37,7 +37,7 @@ add-result-2 : tie.Need-add-result-2
 add-result-2 c = omega (arith, fit c)
 
 returns : tie.Need-returns
-returns c = rw (c .before .labels-in .ensures .0, c .words-in .ensures .0)
+returns c = rw (c .before .labels-in .ensures .0, c .words-in .ensures .0) (omega arith)
 
 pub whole-length-spec : {M : Type 1} → statement M
 whole-length-spec =
