@@ -39,7 +39,8 @@ fn check_sizes(labels: u32, words: u32, outside: bool) -> Checked
     ensures { λ r. ⌜ r ≡ sizesTested labels words outside ⌝ }
 {
     let bounds = score_tables::check_bounds(labels, words);
-    refusals::refuse_if(bounds, 2, 0, outside)
+    let sizes = refusals::refuse_if(Checked::Accepted, 2, 0, outside);
+    refusals::or_next(bounds, sizes)
 }
 
 // 3 and 5 for the model's tables, with the line's starts between.

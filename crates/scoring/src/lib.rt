@@ -108,7 +108,7 @@ pub fn compute_scores(
         transitions.len(),
     );
     if let Checked::Refused(why) = checked {
-        return Checked::Refused(why);
+        return finished::refuse_scores(why, states, transitions);
     }
     fill_scores(
         labels,
