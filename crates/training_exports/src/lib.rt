@@ -148,7 +148,7 @@ pub extern "C" fn bodkinbloom_arow(
 ) -> Trained
     ensures { λ r. ⌜ Trains (adaptive parameters) (record { model = modelOf labels counts (now (kinds .entry)) (now (destinations .entry)) (now (sources .entry)) (now («attribute_starts» .entry)) (now («attribute_entries» .entry)) (now («label_starts» .entry)) (now («label_entries» .entry)); corpus = dataOf totals (now (lines .entry)) (now (begins .entry)) (now (ids .entry)) (now (values .entry)) (now (references .entry)) (now (shares .entry)) }) (record { weights = now (weights .entry); beside = now (beside .entry); truly = now (truly .entry); predicted = now (predicted .entry); order = now (order .entry) }) (record { answer = r; after = record { weights = now (weights .exit); beside = now (beside .exit); truly = now (truly .exit); predicted = now (predicted .exit); order = now (order .exit) } }) ⌝ }
 {
-    let answer = trainers::arow(
+    let trained = trainers::arow(
         parameters,
         labels,
         counts,
@@ -172,5 +172,5 @@ pub extern "C" fn bodkinbloom_arow(
         predicted,
         order,
     );
-    answers::trainings::numbers_of_training(answer)
+    answers::trainings::numbers_of_training(trained)
 }
