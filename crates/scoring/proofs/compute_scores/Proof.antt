@@ -21,7 +21,7 @@ given s =
     }
 
 abbrev lent : tie.Start → Buffers
-lent s = record { states = s .args .states .now; transitions = s .args .transitions .now }
+lent s = record { transitions = s .args .transitions .now; states = s .args .states .now }
 
 abbrev start : tie.After-enum-told → tie.Start
 start c = c .before .before .before .before .before .before .before .before .before .before .before .before .before .before .before .before
@@ -49,8 +49,8 @@ finish-scores-requires c κs =
     let f = c .before .before .before .before .before .before in
     let t = f .before .before .before in
     sized (given (start t)) (lent (start t)) (scoring-sound (scoringOf (given (start t)) (lent (start t))) (accepted t)) _ _
-    (f .fill-scores .kept .1 .1 .1 .1 .1 .1 .1 .1 .1 .1 .1 .1 .1 .1 .1 .0)
     (f .fill-scores .kept .1 .1 .1 .1 .1 .1 .1 .1 .1 .1 .1 .1 .1 .1 .1 .1 .0)
+    (f .fill-scores .kept .1 .1 .1 .1 .1 .1 .1 .1 .1 .1 .1 .1 .1 .1 .1 .0)
 
 same-length : tie.Need-same-length
 same-length c = search needs
