@@ -426,26 +426,26 @@ static const struct {
     uint32_t number;
     uint64_t place;
 } faults[FAULTS] = {
-    [LABELS_33] = {"33 labels", 1, 0},
-    [TOO_SHORT] = {"a buffer that is too short", 2, 0},
-    [ATTRIBUTE_STARTS_END] = {"attribute lists that do not end at their count", 3, 2},
-    [LABEL_STARTS_BEGIN] = {"label lists that do not begin at 0", 3, 0},
-    [LINE_STARTS_END] = {"instances that do not end at their count", 3, 2},
-    [WORD_STARTS_FALL] = {"starts of attributes that fall", 3, 3},
-    [WORDLESS] = {"an instance without words", 4, 1},
-    [BAD_KIND] = {"a kind of 2", 5, 3},
-    [BAD_DESTINATION] = {"a destination at L", 5, 1},
-    [BAD_SOURCE] = {"a source at L", 5, 2},
-    [BAD_ATTRIBUTE_ENTRY] = {"a feature at F in an attribute list", 5, 3},
-    [BAD_LABEL_ENTRY] = {"a feature at F in a label list", 5, 1},
-    [BAD_REFERENCE] = {"a reference at L", 5, 2},
-    [BAD_VALUE] = {"a value that is not finite", 6, 3},
-    [BAD_INSTANCE_WEIGHT] = {"an instance weight that is not finite", 6, 1},
-    [NO_EPOCHS] = {"no epochs", 7, 1},
-    [BAD_EPSILON] = {"epsilon below 0", 7, 2},
-    [BAD_C] = {"C or variance of 0", 7, 3},
-    [BAD_GAMMA] = {"gamma of NaN", 7, 4},
-    [BAD_VARIANT] = {"a variant of 3", 7, 5},
+    [LABELS_33] = {"33 labels", BODKINBLOOM_REFUSED_LABELS, 0},
+    [TOO_SHORT] = {"a buffer that is too short", BODKINBLOOM_REFUSED_SIZE, 0},
+    [ATTRIBUTE_STARTS_END] = {"attribute lists that do not end at their count", BODKINBLOOM_REFUSED_STARTS, 2},
+    [LABEL_STARTS_BEGIN] = {"label lists that do not begin at 0", BODKINBLOOM_REFUSED_STARTS, 0},
+    [LINE_STARTS_END] = {"instances that do not end at their count", BODKINBLOOM_REFUSED_STARTS, 2},
+    [WORD_STARTS_FALL] = {"starts of attributes that fall", BODKINBLOOM_REFUSED_STARTS, 3},
+    [WORDLESS] = {"an instance without words", BODKINBLOOM_REFUSED_WORDS, 1},
+    [BAD_KIND] = {"a kind of 2", BODKINBLOOM_REFUSED_RANGE, 3},
+    [BAD_DESTINATION] = {"a destination at L", BODKINBLOOM_REFUSED_RANGE, 1},
+    [BAD_SOURCE] = {"a source at L", BODKINBLOOM_REFUSED_RANGE, 2},
+    [BAD_ATTRIBUTE_ENTRY] = {"a feature at F in an attribute list", BODKINBLOOM_REFUSED_RANGE, 3},
+    [BAD_LABEL_ENTRY] = {"a feature at F in a label list", BODKINBLOOM_REFUSED_RANGE, 1},
+    [BAD_REFERENCE] = {"a reference at L", BODKINBLOOM_REFUSED_RANGE, 2},
+    [BAD_VALUE] = {"a value that is not finite", BODKINBLOOM_REFUSED_NOT_FINITE, 3},
+    [BAD_INSTANCE_WEIGHT] = {"an instance weight that is not finite", BODKINBLOOM_REFUSED_NOT_FINITE, 1},
+    [NO_EPOCHS] = {"no epochs", BODKINBLOOM_REFUSED_PARAMETER, 1},
+    [BAD_EPSILON] = {"epsilon below 0", BODKINBLOOM_REFUSED_PARAMETER, 2},
+    [BAD_C] = {"C or variance of 0", BODKINBLOOM_REFUSED_PARAMETER, 3},
+    [BAD_GAMMA] = {"gamma of NaN", BODKINBLOOM_REFUSED_PARAMETER, 4},
+    [BAD_VARIANT] = {"a variant of 3", BODKINBLOOM_REFUSED_PARAMETER, 5},
 };
 
 static void damage(call *c, int fault) {
@@ -550,28 +550,28 @@ static void not_finite(int trainer) {
     in.values[1] = in.values[2] = DBL_MAX;
     c.totals.instances = c.totals.words_in_all = 2;
     fit(&c);
-    refused("a true count overflows", &c, 8, 1);
+    refused("a true count overflows", &c, BODKINBLOOM_REFUSED_RESULT, 1);
     in.attribute_starts[1] = c.counts.attribute_entries = 1;
     in.attribute_entries[0] = 1;
     fit(&c);
-    refused("a predicted count overflows", &c, 8, 1);
+    refused("a predicted count overflows", &c, BODKINBLOOM_REFUSED_RESULT, 1);
 
     c = alike(trainer, 0, 2);
     in.instance_weights[0] = in.instance_weights[1] = 1.5e308;
-    refused("the loss overflows", &c, 9, 1);
+    refused("the loss overflows", &c, BODKINBLOOM_REFUSED_TRAINING, 1);
 
     c = p9(trainer);
     in.values[0] = trainer == PASSIVE ? 1e-150 : DBL_MAX;
     in.instance_weights[0] = trainer == PASSIVE ? 1e10 : 2;
     c.variant = BODKINBLOOM_PA;
-    refused("a weight overflows", &c, 9, 0);
+    refused("a weight overflows", &c, BODKINBLOOM_REFUSED_TRAINING, 0);
 }
 
 static void not_finite_alone(void) {
     call c = p9(PERCEPTRON);
     c.epochs = 2;
     in.values[0] = -1e308;
-    refused("a state score overflows in the second epoch", &c, 8, 1);
+    refused("a state score overflows in the second epoch", &c, BODKINBLOOM_REFUSED_RESULT, 1);
 
     /* a Transition from label 1 to itself, twice in its list; two words */
     c = line_of(PERCEPTRON, 2);
@@ -582,19 +582,19 @@ static void not_finite_alone(void) {
     in.instance_weights[0] = 0.4 * DBL_MAX;
     c.counts = (bodkinbloom_counts){.features = 1, .label_lists = 2, .label_entries = 2};
     fit(&c);
-    refused("a transition score overflows in the second epoch", &c, 8, 1);
+    refused("a transition score overflows in the second epoch", &c, BODKINBLOOM_REFUSED_RESULT, 1);
 
     c = alike(PERCEPTRON, 1, 2);
     in.references[0] = 1;
     in.instance_weights[1] = 0.75 * DBL_MAX;
-    refused("a running sum overflows", &c, 9, 1);
+    refused("a running sum overflows", &c, BODKINBLOOM_REFUSED_TRAINING, 1);
 
     /* features in no list: 1 / (1 / variance) */
     c = p9(AROW);
     c.variance = DBL_MAX;
     c.counts = (bodkinbloom_counts){.features = 2};
     fit(&c);
-    refused("a covariance overflows", &c, 9, 0);
+    refused("a covariance overflows", &c, BODKINBLOOM_REFUSED_TRAINING, 0);
 }
 
 static void everything(void) {
