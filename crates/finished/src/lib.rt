@@ -74,8 +74,8 @@ pub fn finish_scores(
 ) -> Checked
     requires { ⌜ Sized labels words (now transitions) (now states) ⌝ }
     ensures { λ r. ⌜ r ≡ scoresFinished labels words (now (states .entry)) (now (transitions .entry)) ⌝ }
-    ensures { λ r. ⌜ now (states .exit) ≡ clearedWhere r (words * labels) (now (states .entry)) ⌝ }
     ensures { λ r. ⌜ now (transitions .exit) ≡ clearedWhere r (labels * labels) (now (transitions .entry)) ⌝ }
+    ensures { λ r. ⌜ now (states .exit) ≡ clearedWhere r (words * labels) (now (states .entry)) ⌝ }
 {
     let finished = check_scores(labels, words, transitions, states);
     if let Checked::Refused(why) = finished {

@@ -50,7 +50,7 @@ returns : tie.Need-returns
 returns c =
     let f = c .before .before .before .before .before .before .before .before .before .before in
     let s = start f in
-    finished-labelled (given s) (lent s) (f .fill-scores .ensures .0) (f .fill-scores .ensures .1) (s .args .path .now) _ (c .before .before .decode-scores .ensures)
+    finished-labelled (given s) (lent s) (f .fill-scores .ensures .1) (f .fill-scores .ensures .0) (s .args .path .now) _ (c .before .before .decode-scores .ensures)
 
 pub label-accepted-spec : {M : Type 1} → statement M
 label-accepted-spec =

@@ -63,7 +63,7 @@ returns-2 c =
     let e = c .before .before .before .before in
     let f = e .before .before .before .before .before .before .before in
     let t = f .before .before .before in
-    made-kept (given (start t)) (lent (start t)) (accepted t) (f .fill-scores .ensures .0) (f .fill-scores .ensures .1) (e .finish-scores .ensures .0) (e .finish-scores .ensures .1 .0) (e .finish-scores .ensures .1 .1)
+    made-kept (given (start t)) (lent (start t)) (accepted t) (f .fill-scores .ensures .1) (f .fill-scores .ensures .0) (e .finish-scores .ensures .0) (e .finish-scores .ensures .1 .1) (e .finish-scores .ensures .1 .0)
 
 pub compute-scores-spec : {M : Type 1} → statement M
 compute-scores-spec =
