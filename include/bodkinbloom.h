@@ -130,7 +130,7 @@ bodkinbloom_refused bodkinbloom_shuffle(uint64_t *state, uint32_t *order, size_t
 #define BODKINBLOOM_MOST_ATTRIBUTE_LISTS 65535
 #define BODKINBLOOM_MOST_LABEL_LISTS 32
 #define BODKINBLOOM_MOST_ENTRIES 1048576
-#define BODKINBLOOM_MOST_ATTRIBUTES 4194304
+#define BODKINBLOOM_MOST_ATTRIBUTES_IN_ALL 4194304
 
 /* How long a table or a buffer has to be. A path is as long as there are words; feature counts are as many as there are
  * features. (`labels` is evaluated twice.) */
