@@ -56,7 +56,7 @@ fn check_finished(numbers: &[f64], n: usize, others: usize) -> Checked
 }
 
 // 8 of a line's scores: states, then transitions.
-pub fn check_scores(labels: u32, words: u32, states: &[f64], transitions: &[f64]) -> Checked
+pub fn check_scores(labels: u32, words: u32, transitions: &[f64], states: &[f64]) -> Checked
     requires { ⌜ Sized labels words (now transitions) (now states) ⌝ }
     ensures { λ r. ⌜ r ≡ scoresFinished labels words (now (states .entry)) (now (transitions .entry)) ⌝ }
 {
@@ -80,15 +80,15 @@ pub fn refuse_scores(unscored: Refusal, states: &mut [f64], transitions: &mut [f
 pub fn finish_scores(
     labels: u32,
     words: u32,
-    states: &mut [f64],
     transitions: &mut [f64],
+    states: &mut [f64],
 ) -> Checked
     requires { ⌜ Sized labels words (now transitions) (now states) ⌝ }
     ensures { λ r. ⌜ r ≡ scoresFinished labels words (now (states .entry)) (now (transitions .entry)) ⌝ }
-    ensures { λ r. ⌜ now (states .exit) ≡ clearedWhere r (words * labels) (now (states .entry)) ⌝ }
     ensures { λ r. ⌜ now (transitions .exit) ≡ clearedWhere r (labels * labels) (now (transitions .entry)) ⌝ }
+    ensures { λ r. ⌜ now (states .exit) ≡ clearedWhere r (words * labels) (now (states .entry)) ⌝ }
 {
-    let finished = check_scores(labels, words, states, transitions);
+    let finished = check_scores(labels, words, transitions, states);
     if let Checked::Refused(why) = finished {
         lines::clear_front(states, score_tables::entries(words, labels));
         lines::clear_front(transitions, score_tables::entries(labels, labels));

@@ -21,7 +21,7 @@ given s =
     }
 
 abbrev lent : tie.Start → Buffers
-lent s = record { states = s .args .states .now; transitions = s .args .transitions .now }
+lent s = record { transitions = s .args .transitions .now; states = s .args .states .now }
 
 abbrev start : tie.After-enum-told → tie.Start
 start c = c .before .before .before .before .before .before .before .before .before .before .before .before .before .before .before .before
@@ -62,8 +62,8 @@ finish-scores-requires c κs =
     let f = c .before .before .before .before .before .before in
     let t = f .before .before .before in
     sized (given (start t)) (lent (start t)) (scoring-sound (scoringOf (given (start t)) (lent (start t))) (accepted t)) _ _
-    (f .fill-scores .kept .1 .1 .1 .1 .1 .1 .1 .1 .1 .1 .1 .1 .1 .1 .1 .0)
     (f .fill-scores .kept .1 .1 .1 .1 .1 .1 .1 .1 .1 .1 .1 .1 .1 .1 .1 .1 .0)
+    (f .fill-scores .kept .1 .1 .1 .1 .1 .1 .1 .1 .1 .1 .1 .1 .1 .1 .1 .0)
 
 same-length-3 : tie.Need-same-length-3
 same-length-3 c = search needs
@@ -76,7 +76,7 @@ returns-2 c =
     let e = c .before .before .before .before in
     let f = e .before .before .before .before .before .before .before in
     let t = f .before .before .before in
-    made-kept (given (start t)) (lent (start t)) (accepted t) (f .fill-scores .ensures .0) (f .fill-scores .ensures .1) (e .finish-scores .ensures .0) (e .finish-scores .ensures .1 .0) (e .finish-scores .ensures .1 .1)
+    made-kept (given (start t)) (lent (start t)) (accepted t) (f .fill-scores .ensures .1) (f .fill-scores .ensures .0) (e .finish-scores .ensures .0) (e .finish-scores .ensures .1 .1) (e .finish-scores .ensures .1 .0)
 
 pub compute-scores-spec : {M : Type 1} → statement M
 compute-scores-spec =
