@@ -1,5 +1,5 @@
 // Refusal 8 of a call on a single line: the finished scores, or the finished counts, are looked at, and where one of them is not
-// finite the needed front of what was made is zero again.
+// finite the needed front of what was made is zero again. A refusal that comes before them is handed on, and leaves the buffers.
 ghost use mathlib.Core.Bool.{true};
 ghost use mathlib.Core.Path.{_≡_};
 ghost use Prim.Native.Nat.{_+_, _*_, _≤_};
