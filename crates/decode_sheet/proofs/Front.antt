@@ -51,7 +51,7 @@ too-long file h b e =
     omega arith
 
 -- a longer file: the rows of the head, then 10
-long-file : (file : List ℕ) (room : ℕ) → 406 ≤ room → longestSheet < length file → lineChecked file room ≡ orNext (headChecked file) (refusedAt 10 0)
+pub long-file : (file : List ℕ) (room : ℕ) → 406 ≤ room → longestSheet < length file → lineChecked file room ≡ orNext (headChecked file) (refusedAt 10 0)
 unfolding headChecked orNext
 long-file file room l h = go (headChecked file) refl
   where
