@@ -6,9 +6,10 @@ ghost use Rattle.decode_sheet.specs.Front.{longestSheet};
 ghost use Rattle.answer_file.specs.EveryFile.{PrintedOfEvery};
 use libc::STDOUT_FILENO;
 
-// The bytes of a file, as many as the buffer holds: how many there are, or none where a read fails, since the end of the
-// file was never seen then.
+// The bytes of a file, as many as the buffer holds, which is more than the longest sheet: how many there are, or none where
+// a read fails, since the end of the file was never seen then.
 fn read_bytes(fd: i32, bytes: &mut [u8]) -> usize
+    requires { ⌜ longestSheet < length (now bytes) ⌝ }
     ensures { λ r. ⌜ r ≤ length (now (bytes .exit)) ⌝ }
 {
     let mut done = 0usize;

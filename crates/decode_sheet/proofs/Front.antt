@@ -1,23 +1,22 @@
 -- One byte past the longest sheet decides the line of a file: the head is in front of it, and a longer file has the wrong length. Assumes nothing.
-use mathlib.Core.Path.{_≡_, refl, sym, _∙_}
+use mathlib.Core.Path.{_≡_, refl, sym}
 use mathlib.Core.Bool.{Bool, true, false}
-use mathlib.Core.List.{List, []}
+use mathlib.Core.List.{List}
 use mathlib.Core.Logic.{inr}
 use Prim.Native.Nat.{ℕ, _<_, _≤_}
 use native.Mathlib.Nat.{mul-le-mul}
 use native.Mathlib.Omega.{arith}
 use borrow.Author.Tests.{le-ltb, ltb-true, ltb-false}
 use lib.Dec.{ltb}
-use lib.ListN.{length, getD, take}
+use lib.ListN.{length, take}
 use lib.Seq.{take-all, length-take-le, getD-take}
-use Rattle.refusals.specs.declared.Refusal.{Refusal}
 use Rattle.refusals.specs.declared.Checked.{Checked}
 use Rattle.refusals.specs.declared.Checked.the-variants.{Accepted, Refused}
 use Rattle.refusals.specs.Refusals.{refusedAt, orNext}
 use Rattle.refusals.proofs.Laws.{all-accepted}
-use Rattle.sheet_check.specs.Rows.{headRows, headChecked}
+use Rattle.sheet_check.specs.Rows.{headRows}
 use Rattle.sheet_check.specs.Meaning.{InBounds, RightLength}
-use Rattle.sheet_check.proofs.Rows.{head-refused, sizes-refused}
+use Rattle.sheet_check.proofs.Rows.{headChecked, head-refused, sizes-refused}
 use Rattle.sheet_check.proofs.Meant.{in-bounds, file-means}
 use Rattle.decode_sheet.specs.Answer.{lineShort, lineChecked, pathLineOf}
 use Rattle.decode_sheet.specs.Program.{lineSaid, printedLine}
@@ -52,7 +51,7 @@ too-long file h b e =
     omega arith
 
 -- a longer file: the rows of the head, then 10
-long-file : (file : List ℕ) (room : ℕ) → 406 ≤ room → longestSheet < length file → lineChecked file room ≡ orNext (headChecked file) (refusedAt 10 0)
+pub long-file : (file : List ℕ) (room : ℕ) → 406 ≤ room → longestSheet < length file → lineChecked file room ≡ orNext (headChecked file) (refusedAt 10 0)
 unfolding headChecked orNext
 long-file file room l h = go (headChecked file) refl
   where

@@ -7,3 +7,4 @@ pub mod Prints
 pub mod Front
 pub mod Meant
 pub mod Best
+pub mod Longest

@@ -12,3 +12,7 @@ longestSheet = 40968
 -- one byte more than the longest sheet, or any more, and what follows them in the file changes nothing of its line
 abbrev pub FrontDecides : Type 0
 FrontDecides = (n : ℕ) → longestSheet < n → (file : List ℕ) → printedLine (take n file) ≡ printedLine file
+
+-- and the longest sheet's bytes alone do not: there is a file whose first 40,968 bytes have another line than the file
+abbrev pub LessDoesNot : Type 0
+LessDoesNot = (file : List ℕ) × (printedLine (take longestSheet file) ≡ printedLine file → ⊥)

@@ -53,7 +53,7 @@ module _ (s : Sheet) (sound : Sound s) where
       (numbers-read (s .states) [] (sound .finite-states .binary))
 
   -- its length
-  long : length (encoded s) ≡ 8 + 8 * (s .labels * s .labels + s .words * s .labels)
+  pub long : length (encoded s) ≡ 8 + 8 * (s .labels * s .labels + s .words * s .labels)
   unfolding encoded littleEndian
   long =
       omega (arith, length-append (numbers (s .transitions)) (numbers (s .states)), length-bytes (s .transitions), length-bytes (s .states), sound .all-transitions, sound .all-states)

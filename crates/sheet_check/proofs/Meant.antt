@@ -1,30 +1,29 @@
 -- The rows of a sheet mean what `Meaning` says. Assumes nothing.
 use mathlib.Core.Path.{_≡_, refl, sym, _∙_, ap}
-use mathlib.Core.Bool.{Bool, true, false, not, _||_}
+use mathlib.Core.Bool.{false, not}
 use mathlib.Core.List.{List, [], _∷_, _++_}
 use mathlib.Core.Logic.{_↔_, Iff·trans, _⊎_, inl, inr}
 use Prim.Native.Nat.{ℕ, _*_, _<_, _≤_}
 use native.Mathlib.Omega.{arith}
 use borrow.Author.Tests.{ltb-false, le-ltb, eqb-true, eq-eqb, not-false}
-use lib.Dec.{eqb, ltb}
+use lib.Dec.{eqb}
 use lib.ListN.{length, getD, take}
 use lib.Seq.{getD-take}
-use Rattle.refusals.specs.declared.Refusal.{Refusal}
 use Rattle.refusals.specs.declared.Checked.{Checked}
 use Rattle.refusals.specs.declared.Checked.the-variants.{Accepted, Refused}
 use Rattle.refusals.specs.Refusals.{refusedAt, refuse, orNext, firstFrom, first}
 use Rattle.refusals.specs.Meaning.{AllAccepted, FirstRefused}
 use Rattle.refusals.proofs.Laws.{passes, neither, number-of, place-of, accepted-all, all-accepted, first-refused, refused-first}
 use Rattle.refusals.proofs.Meant.{numbers-mean}
-use Rattle.score_tables.specs.Rows.{one, four, sixes}
+use Rattle.score_tables.specs.Rows.{one, four}
 use Rattle.score_tables.specs.Sound.{LabelsIn, WordsIn}
 use Rattle.score_tables.specs.Meaning.{Row}
 use Rattle.score_tables.proofs.Order.{row, Never, not-row, why, given, of-one}
 use Rattle.score_tables.proofs.Meant.{one-means, four-means, two-means, not-six, six-means, finite-to, to-finite}
 use Rattle.refusal_rows.specs.Given.{OneOf}
 use Rattle.sheet_bytes.specs.Fields.{mark, versionIn, labelsIn, wordsIn, wholeLength, transitionsIn, statesIn}
-use Rattle.sheet_check.specs.Rows.{wrongHead, wrongLength, headRows, sizeRows, entryRows, fileChecked, tablesShort}
-use Rattle.sheet_check.specs.Meaning.{RightHead, InBounds, RightLength, RightFile, Meaning, SheetsMean}
+use Rattle.sheet_check.specs.Rows.{wrongHead, wrongLength, headRows, sizeRows, entryRows, fileChecked}
+use Rattle.sheet_check.specs.Meaning.{RightHead, InBounds, RightLength, Meaning, SheetsMean}
 
 -- ---- 10
 

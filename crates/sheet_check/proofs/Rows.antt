@@ -14,7 +14,7 @@ use Rattle.score_tables.specs.Rows.{one, four, boundsChecked}
 use Rattle.score_tables.specs.Sound.{Sized}
 use Rattle.score_tables.proofs.Laws.{sized}
 use Rattle.sheet_bytes.specs.Fields.{labelsIn, wordsIn, wholeLength, transitionsIn, statesIn}
-use Rattle.sheet_check.specs.Rows.{Lent, wrongHead, wrongLength, headRows, sizeRows, entryRows, headChecked, sizesChecked, fileChecked, tablesShort, sheetChecked}
+use Rattle.sheet_check.specs.Rows.{Lent, wrongHead, wrongLength, headRows, sizeRows, entryRows, sizesChecked, fileChecked, tablesShort, sheetChecked}
 
 -- the answer so far, then two checks that were put together
 pub together : (answer check next : Checked) → orNext answer (orNext check next) ≡ orNext (orNext answer check) next
@@ -25,6 +25,10 @@ together (Refused why) check next = refl
 -- a head that is accepted has its eight bytes
 long-head : (bytes : List ℕ) → refuse 10 0 (wrongHead bytes) ≡ Accepted → 8 ≤ length bytes
 long-head bytes h = ltb-false (length bytes) 8 (neither _ _ (neither _ _ (neither _ _ (neither _ _ (passes 10 0 (wrongHead bytes) h) .0) .0) .0) .0)
+
+-- the rows as far as 4
+unfoldable pub headChecked : List ℕ → Checked
+headChecked bytes = first (headRows bytes)
 
 module _ (bytes : List ℕ) (room : Checked) where
   -- a refusal of the head is the file's

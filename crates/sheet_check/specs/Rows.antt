@@ -46,10 +46,7 @@ sizeRows bytes room = room ∷ refuse 10 0 (wrongLength bytes) ∷ []
 abbrev pub entryRows : List ℕ → List Checked
 entryRows bytes = sixes (labelsIn bytes) (wordsIn bytes) (transitionsIn bytes) (statesIn bytes)
 
--- as far as 4, as far as 10 on length, and all of them; the row of 2 belongs to what a call is lent
-unfoldable pub headChecked : List ℕ → Checked
-headChecked bytes = first (headRows bytes)
-
+-- as far as 10 on length, and all of them; the row of 2 belongs to what a call is lent
 unfoldable pub sizesChecked : List ℕ → Checked → Checked
 sizesChecked bytes room = first (headRows bytes ++ sizeRows bytes room)
 

@@ -10,7 +10,7 @@ ghost use Rattle.sheet_check.specs.Rows.{wrongHead, wrongLength, sizesCh
 use refusals::Checked;
 use score_tables::entries;
 
-// 10 on mark, version and the eight bytes of head.
+// 10 on mark, version and the eight bytes of head. The mark is `TLG`, in ASCII 84, 76, 71.
 fn is_wrong_head(bytes: &[u8]) -> bool
     ensures { λ r. ⌜ r ≡ wrongHead (now (bytes .entry)) ⌝ }
 {
