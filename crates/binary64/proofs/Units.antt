@@ -1,17 +1,17 @@
 -- A plain value is a whole number of units, the unit being binary64's smallest value: m * 2 ^ j of them, with m below 2 ^ 53. Counted in units,
--- the order of values and the side of a middle on which a root lies are facts of whole numbers. Assumes nothing.
+-- the order of values is that of whole numbers. Assumes nothing.
 use mathlib.Core.Path.{_≡_, refl, sym, ap, _∙_, subst, subst₂}
 use mathlib.Core.Bool.{true, false, _&&_}
 use Prim.Native.Nat.{ℕ, zero, suc, _+_, _-_, _*_, _%_, _^_, _≤_, _<_}
-use native.Mathlib.Nat.{le-of-suc-le-suc, lt-of-not-le, lt-of-lt-of-le, lt-irrefl, zero-mul, mul-one, mul-comm, mul-assoc, mul-right-comm, mul-pos, mul-mul-mul-comm, add-mul, mul-lt-mul-of-pos-right, lt-of-mul-lt-mul-right}
+use native.Mathlib.Nat.{le-of-suc-le-suc, lt-of-not-le, lt-of-lt-of-le, lt-irrefl, zero-mul, mul-one, mul-comm, mul-assoc, mul-right-comm, mul-lt-mul-of-pos-right, lt-of-mul-lt-mul-right}
 use lib.Dec.{T, leb, ltb, eqb, leb→le, ltb→lt, lit<}
 use lib.IntN.{ℤ, pos, negsuc}
 use lib.Pow.{pow-add, pow-pos, pow-lt}
-use lib.Ieee.{Float, nan, inf, fin, binary64, fits, lt, up, down, low}
+use lib.Ieee.{Float, nan, inf, fin, binary64, fits, lt, up, down}
 use lib.Ieee.Digits.{back}
 use lib.Ieee.Fits.{and-l, and-r}
-use lib.Ieee.Positive.{num, den, den-pos}
-use Rattle.roots.specs.Root.{plain, square, total, RootBelowMiddle, RootAboveMiddle}
+use lib.Ieee.Positive.{num, den}
+use Rattle.binary64.specs.Units.{plain, one, Units}
 
 -- binary64 holds a plain value
 pub held : (x : Float) → T (plain x) → T (fits binary64 x)
@@ -19,14 +19,6 @@ held nan t = absurd t
 held (inf s) t = absurd t
 held (fin true m e) t = absurd t
 held (fin false m e) t = t
-
--- how many units 1 is
-unfoldable pub one : ℕ
-one = 2 ^ low binary64
-
--- x is u units
-abbrev pub Units : Float → ℕ → Type 0
-Units x u = num x * one ≡ u * den x
 
 -- what a plain value is, taken apart
 abbrev pub Taken : Float → Type 0
@@ -72,15 +64,15 @@ order (fin false m e) (fin true n d) p q = absurd q
 order (fin false m e) (fin false n d) p q = refl
 
 -- ---- from units to fractions
-one-pos : 0 < one
+pub one-pos : 0 < one
 unfolding one
 one-pos = pow-pos 1074
 
 -- x and y over the one denominator den x * den y, in units
-first : (x y : Float) (u : ℕ) → Units x u → num x * den y * one ≡ u * (den x * den y)
+pub first : (x y : Float) (u : ℕ) → Units x u → num x * den y * one ≡ u * (den x * den y)
 first x y u p = mul-right-comm (num x) (den y) one ∙ ap (λ (z : ℕ). z * den y) p ∙ mul-assoc u (den x) (den y)
 
-second : (x y : Float) (v : ℕ) → Units y v → num y * den x * one ≡ v * (den x * den y)
+pub second : (x y : Float) (v : ℕ) → Units y v → num y * den x * one ≡ v * (den x * den y)
 second x y v q = first y x v q ∙ ap (λ (z : ℕ). v * z) (mul-comm (den y) (den x))
 
 pub lt-units : (x y : Float) (u v : ℕ) → T (plain x) → T (plain y) → Units x u → Units y v → T (lt x y) → u < v
@@ -88,32 +80,3 @@ lt-units x y u v X Y p q h =
     lt-of-mul-lt-mul-right (den x * den y)
     (subst₂ (λ (a b : ℕ). a < b) (first x y u p) (second x y v q)
     (mul-lt-mul-of-pos-right (ltb→lt (num x * den y) (num y * den x) (subst T (order x y X Y) h)) one-pos))
-
-sum-units : (x y : Float) (u v : ℕ) → Units x u → Units y v → total x y * one ≡ (u + v) * (den x * den y)
-sum-units x y u v p q =
-    add-mul (num x * den y) (num y * den x) one
-    ∙ ap (λ (z : ℕ). z + num y * den x * one) (first x y u p)
-    ∙ ap (λ (z : ℕ). u * (den x * den y) + z) (second x y v q)
-    ∙ sym (add-mul u v (den x * den y))
-
-square-mul : (a b : ℕ) → square (a * b) ≡ square a * square b
-square-mul a b = mul-mul-mul-comm a b a b
-
-sum-squared : (x y : Float) (u v : ℕ) → Units x u → Units y v → square (total x y) * square one ≡ square (u + v) * square (den x * den y)
-sum-squared x y u v p q = sym (square-mul (total x y) one) ∙ ap square (sum-units x y u v p q) ∙ square-mul (u + v) (den x * den y)
-
-scale-pos : (x y : Float) → 0 < square (den x * den y)
-scale-pos x y = mul-pos (mul-pos (den-pos x) (den-pos y)) (mul-pos (den-pos x) (den-pos y))
-
--- ---- the root against the middle of u and v units
-pub below-middle : (n : ℕ) (x y : Float) (u v : ℕ) → Units x u → Units y v → 4 * n * square one < square (u + v) → RootBelowMiddle n x y
-below-middle n x y u v p q h =
-    lt-of-mul-lt-mul-right (square one)
-    (subst₂ (λ (a b : ℕ). a < b) (mul-right-comm (4 * n) (square one) (square (den x * den y))) (sym (sum-squared x y u v p q))
-    (mul-lt-mul-of-pos-right h (scale-pos x y)))
-
-pub above-middle : (n : ℕ) (x y : Float) (u v : ℕ) → Units x u → Units y v → square (u + v) < 4 * n * square one → RootAboveMiddle n x y
-above-middle n x y u v p q h =
-    lt-of-mul-lt-mul-right (square one)
-    (subst₂ (λ (a b : ℕ). a < b) (sym (sum-squared x y u v p q)) (mul-right-comm (4 * n) (square one) (square (den x * den y)))
-    (mul-lt-mul-of-pos-right h (scale-pos x y)))
