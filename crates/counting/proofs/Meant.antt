@@ -2,10 +2,10 @@
 use mathlib.Core.Path.{_≡_, sym, _∙_}
 use mathlib.Core.List.{_++_}
 use Rattle.refusals.specs.declared.Checked.{Checked}
-use Rattle.refusals.specs.Refusals.{orNext}
+use Rattle.refusals.specs.Refusals.{numbered, orNext}
 use Rattle.refusals.specs.Meaning.{FirstBad}
 use Rattle.score_tables.specs.Meaning.{FiniteTo, NotFinite}
-use Rattle.refusal_rows.proofs.Said.{refused-said, done-said}
+use Rattle.refusals.proofs.Said.{refused-said, done-said}
 use Rattle.feature_gen.specs.Rows.{idTests}
 use Rattle.line_check.specs.Rows.{countingLimits, lineStarts, labelTests, valueTests}
 use Rattle.line_check.proofs.Meant.{counting-means}
@@ -27,6 +27,6 @@ counts-meant given before outcome kept =
     (counting-means (countingOf given before))
     (counts-mean (countsOfLine given) (needed given))
     _ _
-    (λ number place h. refused-said all number place .0 (sym (kept .answers) ∙ h))
-    (λ number place _ h. kept .answers ∙ refused-said all number place .1 h)
+    (λ number place h. refused-said tt all (numbered number place) .0 (sym (kept .answers) ∙ h))
+    (λ number place _ h. kept .answers ∙ refused-said tt all (numbered number place) .1 h)
     (λ h. done-said all .0 (sym (kept .answers) ∙ h), λ h. kept .answers ∙ done-said all .1 h)

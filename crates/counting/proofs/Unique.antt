@@ -1,6 +1,6 @@
 -- No two different outcomes satisfy the promise of counting the features of a line. Assumes nothing.
 use mathlib.Core.Path.{sym, _∙_}
-use Rattle.refusal_rows.proofs.Said.{said-once}
+use Rattle.refusals.proofs.Said.{said-once}
 use Rattle.counting.specs.Promise.{OnlyOne}
 
 pub only-one : OnlyOne

@@ -3,8 +3,9 @@ use mathlib.Core.Path.{_≡_}
 use mathlib.Core.List.{List, _++_}
 use lib.Ieee.{Float}
 use Rattle.refusals.specs.Meaning.{FirstBad}
+use Rattle.refusals.specs.Refusals.{numbered}
 use Rattle.score_tables.specs.Meaning.{FiniteTo, NotFinite}
-use Rattle.refusal_rows.specs.Said.{done, refused, saidOf}
+use Rattle.refusals.specs.Said.{accepted, refused, saidOf}
 use Rattle.feature_gen.specs.Rows.{idTests}
 use Rattle.line_check.specs.Rows.{countingLimits, lineStarts, labelTests, valueTests}
 use Rattle.finished.specs.Answers.{Answers}
@@ -17,6 +18,6 @@ CountingMeans =
     (lineStarts (given .model) (given .words) (given .line .starts) (given .line .size))
     (idTests (given .model) ++ labelTests (countingOf given before))
     (valueTests (given .line))
-    (λ number place. saidOf (outcome .answer) ≡ refused number place) (saidOf (outcome .answer) ≡ done)
+    (λ number place. saidOf (outcome .answer) ≡ refused (numbered number place)) (saidOf (outcome .answer) ≡ accepted tt)
     -- "counts: feature id"
     (FirstBad (NotFinite (countsOfLine given)) (needed given)) (FiniteTo (countsOfLine given) (needed given))

@@ -9,7 +9,7 @@ use Rattle.refusals.specs.Refusals.{orNext}
 use Rattle.lines.specs.Passes.{nought}
 use Rattle.lines.specs.Tables.{Model, Words}
 use Rattle.lines.specs.Counted.{countsOf}
-use Rattle.refusal_rows.specs.Said.{Said, saidOf}
+use Rattle.refusals.specs.Said.{Said, saidOf}
 use Rattle.line_check.specs.Rows.{Counting, countingChecked}
 use Rattle.finished.specs.Rows.{finishedChecked}
 use Rattle.finished.specs.After.{contents}
@@ -52,7 +52,7 @@ abbrev pub finishedOf : Given → Checked
 finishedOf given = finishedChecked (countsOfLine given) (needed given)
 
 -- what document 01 says: "The lowest number wins", so 8 comes last
-unfoldable pub answerTo : Given → List Float → Said
+unfoldable pub answerTo : Given → List Float → Said Unit
 answerTo given before = saidOf (orNext (checkedOf given before) (finishedOf given))
 
 unfoldable pub amountsAfter : Given → List Float → List Float

@@ -5,11 +5,12 @@ use Prim.Native.Nat.{ℕ, _*_}
 use lib.ListN.{take}
 use lib.Ieee.{Float}
 use Rattle.refusals.specs.declared.Checked.the-variants.{Accepted}
+use Rattle.refusals.specs.Said.{orRefused}
 use Rattle.best_path.specs.Scores.{Scores, tabled}
 use Rattle.best_path.specs.Decoded.{decodedPath, decodedSum}
 use Rattle.best_path.specs.Lead.{lead}
 use Rattle.viterbi.specs.declared.Decoding.{Decoding}
-use Rattle.viterbi.specs.Promise.{decoded, said, orRefused}
+use Rattle.viterbi.specs.Promise.{decoded, said}
 use Rattle.finished.specs.Rows.{scoresFinished}
 use Rattle.finished.specs.After.{contents}
 

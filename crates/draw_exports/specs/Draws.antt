@@ -8,7 +8,7 @@ use Rattle.refusals.specs.declared.Checked.{Checked}
 use Rattle.refusals.specs.declared.Checked.the-variants.{Accepted, Refused as refusedBy}
 use Rattle.refusals.specs.Refusals.{refuse}
 use Rattle.refusals.specs.Tables.{outside}
-use Rattle.refusal_rows.specs.Said.{saidOf}
+use Rattle.refusals.specs.Said.{saidOf}
 use Rattle.generator.specs.Draw.{number, next}
 use Rattle.shuffle.specs.Shuffle.{Deal, shuffled}
 use Rattle.answers.specs.declared.checks.Refused.{Refused}

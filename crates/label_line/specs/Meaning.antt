@@ -4,8 +4,10 @@ use mathlib.Core.List.{List}
 use Prim.Native.Nat.{ℕ}
 use lib.ListN.{length}
 use lib.Ieee.{Float}
+use Rattle.refusals.specs.Refusals.{numbered}
+use Rattle.refusals.specs.Said.{refused}
 use Rattle.best_path.specs.Lead.{Lead}
-use Rattle.viterbi.specs.Promise.{decoded, refused, said}
+use Rattle.viterbi.specs.Promise.{decoded, said}
 use Rattle.finished.specs.Answers as line
 use Rattle.scoring.specs.Promise.{Given}
 use Rattle.scoring.specs.Meaning.{startsOf, idsOf, numbersOf, EightIn, ScoresFinite}
@@ -26,6 +28,6 @@ Unrefused given before =
 abbrev pub LabellingMeans : Type 0
 LabellingMeans =
     (given : Given) (before : List ℕ) (outcome : Outcome) → Promised given before outcome →
-    Meaning (λ number place. said (outcome .answer) ≡ refused number place)
+    Meaning (λ number place. said (outcome .answer) ≡ refused (numbered number place))
     ((sum : Float) × (lead : Lead) × (said (outcome .answer) ≡ decoded sum lead))
     given before

@@ -1,10 +1,10 @@
 -- What scoring a line answers means what `ScoringMeans` says. Assumes nothing.
 use mathlib.Core.Path.{_≡_, sym, _∙_}
 use Rattle.refusals.specs.declared.Checked.{Checked}
-use Rattle.refusals.specs.Refusals.{orNext}
+use Rattle.refusals.specs.Refusals.{numbered, orNext}
 use Rattle.line_check.proofs.Meant.{scoring-means}
 use Rattle.line_check.specs.Rows.{scoringLimits}
-use Rattle.refusal_rows.proofs.Said.{refused-said, done-said}
+use Rattle.refusals.proofs.Said.{refused-said, done-said}
 use Rattle.finished.proofs.Meant.{scores-mean}
 use Rattle.finished.proofs.Answers.{answered}
 use Rattle.scoring.specs.Promise.{statesOfLine, transitionsOfLine, scoringOf, checkedOf, finishedOf, answerTo}
@@ -19,6 +19,6 @@ scores-meant given before outcome kept =
     (scoring-means (scoringOf given before))
     (scores-mean (given .model .labels) (given .words) (statesOfLine given) (transitionsOfLine given))
     _ _
-    (λ number place h. refused-said all number place .0 (sym (kept .answers) ∙ h))
-    (λ number place _ h. kept .answers ∙ refused-said all number place .1 h)
+    (λ number place h. refused-said tt all (numbered number place) .0 (sym (kept .answers) ∙ h))
+    (λ number place _ h. kept .answers ∙ refused-said tt all (numbered number place) .1 h)
     (λ h. done-said all .0 (sym (kept .answers) ∙ h), λ h. kept .answers ∙ done-said all .1 h)

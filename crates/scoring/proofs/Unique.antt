@@ -1,6 +1,6 @@
 -- No two different outcomes satisfy the promise of scoring a line. Assumes nothing.
 use mathlib.Core.Path.{sym, _∙_}
-use Rattle.refusal_rows.proofs.Said.{said-once}
+use Rattle.refusals.proofs.Said.{said-once}
 use Rattle.scoring.specs.Promise.{OnlyOne}
 
 pub only-one : OnlyOne

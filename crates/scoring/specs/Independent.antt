@@ -1,7 +1,7 @@
 -- "Two inputs that agree on L, on the line, on the lists of attributes in it with the features named there, and on the label lists with theirs, get the same scores and path, as long as both are accepted": the scores, of whatever satisfies the promise. `Agree` is in same_scores. The proof is in proofs/Independent.
 use mathlib.Core.Path.{_≡_}
 use lib.ListN.{take}
-use Rattle.refusal_rows.specs.Said.{done, saidOf}
+use Rattle.refusals.specs.Said.{accepted, saidOf}
 use Rattle.same_scores.specs.Named.{Input}
 use Rattle.same_scores.specs.Agree.{Agree}
 use Rattle.scoring.specs.Promise.{Given, Buffers, Outcome, stateEntries, transitionEntries, Promised}
@@ -24,5 +24,5 @@ abbrev pub SameScores : Type 0
 SameScores =
     (a b : Given) → Agree (inputOf a) (inputOf b) →
     (before other : Buffers) (x y : Outcome) → Promised a before x → Promised b other y →
-    saidOf (x .answer) ≡ done → saidOf (y .answer) ≡ done →
+    saidOf (x .answer) ≡ accepted tt → saidOf (y .answer) ≡ accepted tt →
     SameFronts a b x y

@@ -2,9 +2,10 @@
 use mathlib.Core.Path.{_≡_}
 use mathlib.Core.List.{List, _++_}
 use Prim.Native.Nat.{ℕ}
+use Rattle.refusals.specs.Refusals.{numbered}
 use Rattle.score_tables.specs.Meaning.{FiniteTo}
 use Rattle.refusal_rows.specs.Tests.{Test}
-use Rattle.refusal_rows.specs.Said.{done, refused, saidOf}
+use Rattle.refusals.specs.Said.{accepted, refused, saidOf}
 use Rattle.feature_gen.specs.Rows.{idTests, weightTests}
 use Rattle.line_check.specs.Rows.{scoringLimits, lineStarts, valueTests}
 use Rattle.finished.specs.Meaning.{EightAt}
@@ -32,5 +33,5 @@ abbrev pub ScoringMeans : Type 0
 ScoringMeans =
     (given : Given) (before : Buffers) (outcome : Outcome) → Promised given before outcome →
     Answers (given .model .labels) (given .words) (scoringLimits (scoringOf given before)) (startsOf given) (idsOf given) (numbersOf given)
-    (λ number place. saidOf (outcome .answer) ≡ refused number place) (saidOf (outcome .answer) ≡ done)
+    (λ number place. saidOf (outcome .answer) ≡ refused (numbered number place)) (saidOf (outcome .answer) ≡ accepted tt)
     (EightIn given) (ScoresFinite given)

@@ -9,7 +9,7 @@ use Rattle.refusals.specs.Refusals.{orNext}
 use Rattle.lines.specs.Passes.{nought}
 use Rattle.lines.specs.Tables.{Model, Words}
 use Rattle.lines.specs.Scored.{statesOf, transitionsOf}
-use Rattle.refusal_rows.specs.Said.{Said, saidOf}
+use Rattle.refusals.specs.Said.{Said, saidOf}
 use Rattle.line_check.specs.Rows.{Scoring, scoringChecked}
 use Rattle.finished.specs.Rows.{scoresFinished}
 use Rattle.finished.specs.After.{contents}
@@ -65,7 +65,7 @@ abbrev pub finishedOf : Given → Checked
 finishedOf given = scoresFinished (given .model .labels) (given .words) (statesOfLine given) (transitionsOfLine given)
 
 -- what document 01 says: "The lowest number wins", so 8 comes last
-unfoldable pub answerTo : Given → Buffers → Said
+unfoldable pub answerTo : Given → Buffers → Said Unit
 answerTo given before = saidOf (orNext (checkedOf given before) (finishedOf given))
 
 unfoldable pub statesAfter : Given → Buffers → List Float

@@ -9,7 +9,7 @@ use Rattle.refusals.specs.declared.Checked.the-variants.{Accepted, Refused}
 use Rattle.refusals.specs.Refusals.{first}
 use Rattle.refusal_rows.specs.Limits.{Limit, atMost, room, two}
 use Rattle.refusal_rows.specs.Tests.{Test, numbersFinite, checks}
-use Rattle.refusal_rows.specs.Said.{Said, saidOf}
+use Rattle.refusals.specs.Said.{Said, saidOf}
 use Rattle.feature_gen.specs.Rows.{mostFeatures}
 
 -- F, and the new weights
@@ -43,7 +43,7 @@ abbrev pub tableAfter : Checked → Setting → List Float → List Float
 tableAfter (Refused why) given before = before
 tableAfter Accepted given before = take (given .features) (given .new) ++ drop (given .features) before
 
-unfoldable pub answerTo : Setting → List Float → Said
+unfoldable pub answerTo : Setting → List Float → Said Unit
 answerTo given before = saidOf (newChecked given (length before))
 
 unfoldable pub weightsAfter : Setting → List Float → List Float

@@ -1,5 +1,4 @@
 pub mod Laws
-pub mod Said
 pub mod Kept
 pub mod Unique
 pub mod Meant
