@@ -53,8 +53,7 @@ labelling-meant given before outcome kept =
     let found : SumAndLead = record { sum = decodedSum (scoresOf given) (given .words); lead = lead (scoresOf given) (given .words) } in
     labelled-so given before _ _
     (λ number place h. refused-said found all (numbered number place) .0 (sym (kept .answers) ∙ h))
-    (λ number place _ h. kept .answers ∙ refused-said found all (numbered number place) .1 h)
-    (
+    (λ number place _ h. kept .answers ∙ refused-said found all (numbered number place) .1 h) (
       λ h. accepted-said found (record { sum = h .0; lead = h .1 }) all (sym (kept .answers) ∙ h .2),
       λ h. (found .sum, found .lead, kept .answers ∙ ap (λ (c : Checked). orRefused c (decoded (found .sum) (found .lead))) h),
     )

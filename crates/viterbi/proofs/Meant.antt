@@ -18,8 +18,7 @@ answers-mean given before outcome kept =
     let checked = checkedOf given before in
     told
     (λ number place h. refused-said found checked (numbered number place) .0 (sym (kept .answers) ∙ h))
-    (λ number place _ h. kept .answers ∙ refused-said found checked (numbered number place) .1 h)
-    (
+    (λ number place _ h. kept .answers ∙ refused-said found checked (numbered number place) .1 h) (
       λ h. accepted-said found (record { sum = h .0; lead = h .1 }) checked (sym (kept .answers) ∙ h .2),
       λ h. (found .sum, found .lead, kept .answers ∙ ap (λ (c : Checked). orRefused c (decoded (found .sum) (found .lead))) h),
     )
