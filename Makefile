@@ -1,4 +1,6 @@
-# make test              everything that is proved, compared and run: the gate
+# make test              everything that is proved, compared and run: the gate, docs/GATE.md
+# make quick             while one works: proves the crates that differ from HEAD and those above them, and compares what they reach
+# make quick BASE=REV    the same from another revision
 # make run               builds the program `decode` and decodes every sheet in samples/
 # make run SHEET=FILE    decodes a sheet of one's own
 # make example           builds the C example of examples/ and runs it: learns from log lines, labels another
@@ -10,10 +12,14 @@
 
 root := $(dir $(lastword $(MAKEFILE_LIST)))
 
-.PHONY: test run example bench compare list archive fmt
+.PHONY: test quick run example bench compare list archive fmt
 
 test:
 	@$(root)scripts/test
+
+quick: export BASE ?= HEAD
+quick:
+	@$(root)scripts/quick
 
 # SHEET is looked for where make was called from, also under make -C
 run: export FROM = $(PWD)

@@ -51,10 +51,10 @@ enum {
     SEEN = 4                       /* attributes of a word, at most */
 };
 
-/* Words lie one behind the other: word w has the attributes from begins[w] up to begins[w + 1]. */
+/* Words lie one behind the other: word w has the attributes from word_starts[w] up to word_starts[w + 1]. */
 typedef struct {
     uint32_t words, attributes;
-    uint32_t begins[BODKINBLOOM_STARTS(WORDS)], ids[WORDS * SEEN];
+    uint32_t word_starts[BODKINBLOOM_STARTS(WORDS)], ids[WORDS * SEEN];
     double values[WORDS * SEEN];
 } typed_words;
 
@@ -76,7 +76,7 @@ static void see_word(typed_words *typed, const char *word, uint32_t length) {
     if (word[0] >= 'A' && word[0] <= 'Z')
         see(typed, CAPITAL, 1);
     see(typed, LENGTH + (length < LONGEST ? length : LONGEST) - 1, 1);
-    typed->begins[++typed->words] = typed->attributes;
+    typed->word_starts[++typed->words] = typed->attributes;
 }
 
 /* The word that *text comes to next, or NULL; *text goes on behind it. */
@@ -96,7 +96,6 @@ static void see_line(typed_words *typed, const char *text) {
 
 /* ---- the model: a State feature from each attribute to each column, a Transition feature from each column to each */
 
-enum { STATE, TRANSITION };
 enum { PAIRS = COLUMNS * COLUMNS, STATES = ATTRIBUTES * COLUMNS, FEATURES = STATES + PAIRS };
 
 static const bodkinbloom_counts counts = {.features = FEATURES, .attribute_lists = ATTRIBUTES, .label_lists = COLUMNS,
@@ -109,12 +108,12 @@ static double weights[BODKINBLOOM_WEIGHTS(FEATURES)];
 
 static void build_model(void) {
     for (uint32_t i = 0; i < STATES; i++) { /* attribute i / COLUMNS, column i % COLUMNS */
-        kinds[i] = STATE;
+        kinds[i] = BODKINBLOOM_KIND_STATE;
         destinations[i] = i % COLUMNS;
         attribute_entries[i] = i;
     }
     for (uint32_t i = 0; i < PAIRS; i++) { /* from column i / COLUMNS to column i % COLUMNS */
-        kinds[STATES + i] = TRANSITION;
+        kinds[STATES + i] = BODKINBLOOM_KIND_TRANSITION;
         sources[STATES + i] = i / COLUMNS;
         destinations[STATES + i] = i % COLUMNS;
         label_entries[i] = STATES + i;
@@ -137,47 +136,58 @@ static uint32_t column_of(char letter) {
 
 static bodkinbloom_trained train(void) {
     static typed_words typed;
-    static uint32_t lines[BODKINBLOOM_STARTS(LINES)], right[WORDS], order[BODKINBLOOM_ORDER(LINES)];
-    static double shares[LINES], beside[BODKINBLOOM_WEIGHTS(FEATURES)];
-    static double truly[BODKINBLOOM_WEIGHTS(FEATURES)], predicted[BODKINBLOOM_WEIGHTS(FEATURES)];
+    static uint32_t line_starts[BODKINBLOOM_STARTS(LINES)], right[WORDS], order[BODKINBLOOM_ORDER(LINES)];
+    static double instance_weights[LINES], running_sums[BODKINBLOOM_WEIGHTS(FEATURES)];
+    static double true_counts[BODKINBLOOM_WEIGHTS(FEATURES)], predicted_counts[BODKINBLOOM_WEIGHTS(FEATURES)];
     for (uint32_t i = 0; i < LINES; i++) {
         see_line(&typed, known[i].text);
-        for (uint32_t w = lines[i]; w < typed.words; w++)
-            right[w] = column_of(known[i].columns[w - lines[i]]);
-        lines[i + 1] = typed.words;
-        shares[i] = 1;
+        for (uint32_t w = line_starts[i]; w < typed.words; w++)
+            right[w] = column_of(known[i].columns[w - line_starts[i]]);
+        line_starts[i + 1] = typed.words;
+        instance_weights[i] = 1;
     }
-    const bodkinbloom_perceptron parameters = {.epochs = 20, .epsilon = 0, .seed = 1};
-    const bodkinbloom_totals totals = {.instances = LINES, .words = typed.words, .attributes = typed.attributes};
+    const bodkinbloom_averaged_perceptron_parameters parameters = {.epochs = 20, .epsilon = 0, .seed = 1};
+    const bodkinbloom_totals totals = {
+        .instances = LINES, .words_in_all = typed.words, .attributes_in_all = typed.attributes};
     return bodkinbloom_averaged_perceptron(
         parameters, COLUMNS, counts, TABLE(kinds), TABLE(destinations), TABLE(sources), TABLE(attribute_starts),
-        TABLE(attribute_entries), TABLE(label_starts), TABLE(label_entries), totals, TABLE(lines), TABLE(typed.begins),
-        TABLE(typed.ids), TABLE(typed.values), TABLE(right), TABLE(shares), TABLE(weights), TABLE(beside), TABLE(truly),
-        TABLE(predicted), TABLE(order));
+        TABLE(attribute_entries), TABLE(label_starts), TABLE(label_entries), totals, TABLE(line_starts),
+        TABLE(typed.word_starts), TABLE(typed.ids), TABLE(typed.values), TABLE(right), TABLE(instance_weights),
+        TABLE(weights), TABLE(running_sums), TABLE(true_counts), TABLE(predicted_counts), TABLE(order));
 }
 
 static bodkinbloom_decoded label(const typed_words *typed, uint32_t path[WORDS]) {
     return bodkinbloom_label_line(
         COLUMNS, counts, TABLE(kinds), TABLE(destinations), TABLE(sources), TABLE(weights), TABLE(attribute_starts),
         TABLE(attribute_entries), TABLE(label_starts), TABLE(label_entries), typed->words, typed->attributes,
-        TABLE(typed->begins), TABLE(typed->ids), TABLE(typed->values), path, WORDS);
+        TABLE(typed->word_starts), TABLE(typed->ids), TABLE(typed->values), path, WORDS);
 }
 
 /* A refusal has a number, and the place at which it was found: here an index into the table that is at fault. */
 static int refused(const char *what, uint32_t number, uint64_t place) {
     static const char *const meanings[] = {
-        "nothing was refused", "no labels, or too many", "too many of something, or too little room for it",
-        "lists that do not lie one behind the other", "a line without words, or with too many",
-        "a label, kind or feature that there is not", "a value that is infinite or no number at all",
-        "a parameter that cannot be used", "a score that grew past all numbers", "weights that grew past all numbers"};
-    if (number != 0)
+        [BODKINBLOOM_ACCEPTED] = "nothing was refused",
+        [BODKINBLOOM_REFUSED_LABELS] = "no labels, or too many",
+        [BODKINBLOOM_REFUSED_SIZE] = "too many of something, or too little room for it",
+        [BODKINBLOOM_REFUSED_STARTS] = "lists that do not lie one behind the other",
+        [BODKINBLOOM_REFUSED_WORDS] = "a line without words, or with too many",
+        [BODKINBLOOM_REFUSED_RANGE] = "a label, kind or feature that there is not",
+        [BODKINBLOOM_REFUSED_NOT_FINITE] = "a value that is infinite or no number at all",
+        [BODKINBLOOM_REFUSED_PARAMETER] = "a parameter that cannot be used",
+        [BODKINBLOOM_REFUSED_RESULT] = "a score that grew past all numbers",
+        [BODKINBLOOM_REFUSED_TRAINING] = "weights that grew past all numbers"};
+    if (number != BODKINBLOOM_ACCEPTED)
         printf("%s refused, number %d, place %d: %s\n", what, (int)number, (int)place, meanings[number]);
-    return number != 0;
+    return number != BODKINBLOOM_ACCEPTED;
 }
 
 int main(void) {
     static typed_words typed;
     uint32_t path[WORDS], length;
+    if (!bodkinbloom_environment()) {
+        printf("this program was built to compute otherwise than IEEE 754 does: with -ffast-math?\n");
+        return 1;
+    }
     build_model();
     bodkinbloom_trained trained = train();
     if (refused("training is", trained.number, trained.place))
@@ -196,7 +206,7 @@ int main(void) {
     if (best.has_lead) /* over the best reading that ends in another column */
         printf("lead %.17g\n\n", best.lead);
 
-    typed.values[typed.begins[3]] = NAN; /* of the fourth word: 0.0 / 0.0, say */
+    typed.values[typed.word_starts[3]] = NAN; /* of the fourth word: 0.0 / 0.0, say */
     best = label(&typed, path);
     return !refused("a damaged line is", best.number, best.place);
 }

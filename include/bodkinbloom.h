@@ -3,24 +3,86 @@
  * Link with libbodkinbloom.a (scripts/archive writes it to build/). No call allocates, prints, or keeps a pointer.
  *
  * What a call demands. Nothing of what is in the memory: every table, id and number is tested by the call itself, and bad
- * input is answered by a numbered refusal. Only what C alone can break is yours: each pointer is valid for as many elements
- * as the length beside it says, and memory that is lent to be changed overlaps no other that is lent to the same call. A
- * pointer whose length is 0 may be NULL.
+ * input is answered by a numbered refusal. Only what C alone can break is yours:
+ *    - each pointer is valid for as many elements as the length beside it says, and memory that is lent to be changed
+ *      overlaps no other that is lent to the same call. A pointer whose length is 0 may be NULL;
+ *    - the thread that makes the call computes as IEEE 754 has it: it rounds to the nearest, ties to even, and keeps
+ *      subnormal numbers, operands and results alike. That is how a thread starts, unless the program was linked with
+ *      -ffast-math or the like, whereupon subnormals are flushed to 0 in all of it, or has called fesetround or set MXCSR.
+ *      Otherwise a call gives other bits: where subnormals are flushed, a word whose one attribute has the value 1, and a
+ *      State of the weight 5e-324, has the state 0. No call tests this; bodkinbloom_environment() below does. Nor may a
+ *      floating-point exception be a trap (feenableexcept): a call raises the flags of some.
  *
  * Memory is always yours. A table that is only read is `const`. A buffer may be longer than a call needs; what lies behind
- * the needed front is left alone.
+ * the needed front is left alone: its bits are those that it had, whatever they stand for.
+ *
+ * Stack, in bytes: no call takes more than is said here, and none allocates. Measured, by tests/c/stack.c: the call is made,
+ * with 32 labels and 128 words, on a stack of its own that was painted before, and what is painted still was not used.
+ *    draw, shuffle, set_weights        256
+ *    sequence_score, check_model       512
+ *    compute_scores                  1,024
+ *    extract_features                2,048
+ *    viterbi_decode                 12,288    (8,136 were used)
+ *    label_line                     49,152    (46,496)
+ *    the three trainers             53,248    (49,216)
  */
 #ifndef BODKINBLOOM_H
 #define BODKINBLOOM_H
 
 #include <stddef.h>
 #include <stdint.h>
+#include <string.h>
+
+/* Of what is declared here: it is raised when a call, a struct or the meaning of a number changes. */
+#define BODKINBLOOM_VERSION 1
+
+/* More stack than any call takes. */
+#define BODKINBLOOM_STACK 53248
 
 #ifdef __cplusplus
 extern "C" {
 #endif
 
-/* A refusal: its number, and the place at which it was found.
+/* ---- the floating-point environment */
+
+/* The bits of a number; of x * y and of x + y, as this thread computes them now, which no compiler knows beforehand. */
+static inline uint64_t bodkinbloom_bits(double x) {
+    uint64_t bits;
+    memcpy(&bits, &x, sizeof bits);
+    return bits;
+}
+
+static inline uint64_t bodkinbloom_product(double x, double y) {
+    const volatile double p = x, q = y;
+    const volatile double product = p * q;
+    return bodkinbloom_bits(product);
+}
+
+static inline uint64_t bodkinbloom_sum(double x, double y) {
+    const volatile double p = x, q = y;
+    const volatile double sum = p + q;
+    return bodkinbloom_bits(sum);
+}
+
+/* 1 where this thread computes as every call demands, else 0; with -O2 and -ffast-math too. Call it once in each thread that
+ * calls the library, after whatever may change the environment. */
+static inline int bodkinbloom_environment(void) {
+    const double least = 4.9406564584124654e-324, least_normal = 2.2250738585072014e-308;
+    const double unit = 2.220446049250313e-16; /* 1 + unit is the next above 1 */
+    /* a subnormal operand, with a result that is not; a subnormal result of an operand that is not; one of either */
+    return bodkinbloom_product(least, 4503599627370496.0) == UINT64_C(0x0010000000000000) &&
+           bodkinbloom_product(least_normal, 0.5) == UINT64_C(0x0008000000000000) &&
+           bodkinbloom_sum(least, least) == UINT64_C(2) &&
+           /* ties to even: 1 and a half unit is 1, 1 and one and a half is 1 and two; the same below 0 */
+           bodkinbloom_sum(1, unit / 2) == UINT64_C(0x3FF0000000000000) &&
+           bodkinbloom_sum(1 + unit, unit / 2) == UINT64_C(0x3FF0000000000002) &&
+           bodkinbloom_sum(-1, -unit / 2) == UINT64_C(0xBFF0000000000000) &&
+           bodkinbloom_sum(-1 - unit, -unit / 2) == UINT64_C(0xBFF0000000000002);
+}
+
+/* ---- refusals */
+
+/* A refusal: its number, which has a name below, and the place at which it was found.
  *    0  nothing was refused
  *    1  the number of labels is not 1 to 32
  *    2  another count is outside its bound, or a lent buffer is too short
@@ -31,12 +93,26 @@ extern "C" {
  *    7  a bad parameter; place: which
  *    8  a finished score or count is not finite; place: the index
  *    9  training left the finite numbers; place: the visits done
- *   10  a file with a wrong mark, version or length
+ *   10  a file with a wrong mark, version or length: given by the program `decode`, which reads one, and by no call here
  */
 typedef struct {
     uint32_t number;
     uint64_t place;
 } bodkinbloom_refused;
+
+#define BODKINBLOOM_ACCEPTED 0
+#define BODKINBLOOM_REFUSED_LABELS 1
+#define BODKINBLOOM_REFUSED_SIZE 2
+#define BODKINBLOOM_REFUSED_STARTS 3
+#define BODKINBLOOM_REFUSED_WORDS 4
+#define BODKINBLOOM_REFUSED_RANGE 5
+#define BODKINBLOOM_REFUSED_NOT_FINITE 6
+#define BODKINBLOOM_REFUSED_PARAMETER 7
+#define BODKINBLOOM_REFUSED_RESULT 8
+#define BODKINBLOOM_REFUSED_TRAINING 9
+#define BODKINBLOOM_REFUSED_FILE 10 /* the program's */
+
+/* ---- the shuffle */
 
 /* One draw of SplitMix64: advances *state and returns the number drawn. */
 uint64_t bodkinbloom_draw(uint64_t *state);
@@ -54,13 +130,13 @@ bodkinbloom_refused bodkinbloom_shuffle(uint64_t *state, uint32_t *order, size_t
 #define BODKINBLOOM_MOST_ATTRIBUTE_LISTS 65535
 #define BODKINBLOOM_MOST_LABEL_LISTS 32
 #define BODKINBLOOM_MOST_ENTRIES 1048576
-#define BODKINBLOOM_MOST_ATTRIBUTES 4194304
+#define BODKINBLOOM_MOST_ATTRIBUTES_IN_ALL 4194304
 
 /* How long a table or a buffer has to be. A path is as long as there are words; feature counts are as many as there are
  * features. (`labels` is evaluated twice.) */
 #define BODKINBLOOM_STARTS(lists) ((size_t)(lists) + 1)
-#define BODKINBLOOM_TRANSITIONS(labels) ((size_t)(labels) * (labels))
-#define BODKINBLOOM_STATES(labels, words) ((size_t)(labels) * (words))
+#define BODKINBLOOM_TRANSITIONS(labels) ((size_t)(labels) * (size_t)(labels))
+#define BODKINBLOOM_STATES(labels, words) ((size_t)(labels) * (size_t)(words))
 
 /* ---- decoding
  *
@@ -69,7 +145,7 @@ bodkinbloom_refused bodkinbloom_shuffle(uint64_t *state, uint32_t *order, size_t
  *    states         BODKINBLOOM_STATES(labels, words) of them, word by word: label l at word t at t x labels + l */
 
 /* What decoding answers.
- *    number    0, or the refusal's; then the numbers below are +0
+ *    number    0, or the refusal's; then has_lead is 0, and sum and lead are +0
  *    place     of the refusal, else 0
  *    sum       the rounded sum of the path; it may be infinite
  *    lead      by which the best final score is ahead of that of any other last label, where has_lead is 1;
@@ -89,7 +165,8 @@ bodkinbloom_decoded bodkinbloom_viterbi_decode(uint32_t labels, uint32_t words,
                                                const double *states, size_t states_length,
                                                uint32_t *path, size_t path_length);
 
-/* What scoring a path answers: number and place as above, and the score, which may be infinite. */
+/* What scoring a path answers: number and place as above, and the score, which may be infinite and is +0 where the call is
+ * refused. */
 typedef struct {
     uint32_t number;
     uint64_t place;
@@ -106,7 +183,8 @@ bodkinbloom_scored bodkinbloom_sequence_score(uint32_t labels, uint32_t words,
 /* ---- models
  *
  * A model has 1 to 32 labels and at most 65,535 features. A feature is an entry in each of these tables, at its id:
- *    kinds         0: a State, which speaks for a label at a word; 1: a Transition, which speaks for a label after another
+ *    kinds         0: a State, which speaks for a label at a word; 1: a Transition, which speaks for a label after another;
+ *                  they have names below
  *    destinations  that label; below the number of labels
  *    sources       of a Transition, the label before it; below the number of labels. Of a State it is not read
  *    weights       finite
@@ -119,6 +197,9 @@ bodkinbloom_scored bodkinbloom_sequence_score(uint32_t labels, uint32_t words,
  *
  * The counts are numbers of their own beside the lengths of the tables. Everything within the counts is tested, used or
  * not. What a table has behind them is not looked at. */
+
+#define BODKINBLOOM_KIND_STATE 0
+#define BODKINBLOOM_KIND_TRANSITION 1
 
 typedef struct {
     uint32_t features;          /* so many are needed of kinds, destinations, sources and weights */
@@ -155,26 +236,27 @@ bodkinbloom_refused bodkinbloom_set_weights(uint32_t features,
 /* ---- one line under a model
  *
  * A line has 1 to 128 words, and a word has attributes: ids with values. They lie flat as well.
- *    begins    BODKINBLOOM_STARTS(words) starts, by the rule above; the last is `attributes`, at most 4,194,304
- *    ids       `attributes` of them; one without an attribute list adds nothing
- *    values    `attributes` of them, finite
+ *    word_starts    BODKINBLOOM_STARTS(words) starts, by the rule above: where the attributes of each word begin; the last
+ *                   is `attributes`, at most 4,194,304
+ *    ids            `attributes` of them; one without an attribute list adds nothing
+ *    values         `attributes` of them, finite
  *
  * Refused, all three calls, in this order; within a number by the order of the tables, and in a table at the lowest index:
  *    1    the number of labels
  *    4    the number of words
  *    2    a count above its bound, or a table or a buffer too short
- *    3    attribute_starts, label_starts, begins; place: the first start that breaks the rule
+ *    3    attribute_starts, label_starts, word_starts; place: the first start that breaks the rule
  *    5    kinds, destinations, sources, attribute_entries, label_entries, path (where it is read); place: the index
  *    6    weights (where they are lent), values; place: the index
  *    8    what was worked out is not finite; place: see the call
  * After 1 to 6 every buffer is as it was. After 8 the part of each buffer that the call needs is 0, all of it. Behind that
  * part nothing is ever written. */
 
-/* The scores of a line, which bodkinbloom_viterbi_decode takes: BODKINBLOOM_STATES(labels, words) states, word by word, and
- * BODKINBLOOM_TRANSITIONS(labels) transitions, by previous label. All start at +0. Words, their attributes and the entries
- * of an attribute's list are taken in order, and each State adds weight times value at its destination; then label lists
- * are taken in order, as many as there are labels at the most, and each Transition adds its weight at its own source and
- * destination.
+/* The scores of a line, which bodkinbloom_viterbi_decode takes, in the same order: BODKINBLOOM_TRANSITIONS(labels)
+ * transitions, by previous label, and BODKINBLOOM_STATES(labels, words) states, word by word. All start at +0. Words, their
+ * attributes and the entries of an attribute's list are taken in order, and each State adds weight times value at its
+ * destination; then label lists are taken in order, as many as there are labels at the most, and each Transition adds its
+ * weight at its own source and destination.
  * The place of an 8: word x labels + label; words x labels + previous x labels + label for a transition. */
 bodkinbloom_refused bodkinbloom_compute_scores(uint32_t labels, bodkinbloom_counts counts,
                                                const uint8_t *kinds, size_t kinds_length,
@@ -186,16 +268,16 @@ bodkinbloom_refused bodkinbloom_compute_scores(uint32_t labels, bodkinbloom_coun
                                                const uint32_t *label_starts, size_t label_starts_length,
                                                const uint32_t *label_entries, size_t label_entries_length,
                                                uint32_t words, uint32_t attributes,
-                                               const uint32_t *begins, size_t begins_length,
+                                               const uint32_t *word_starts, size_t word_starts_length,
                                                const uint32_t *ids, size_t ids_length,
                                                const double *values, size_t values_length,
-                                               double *states, size_t states_length,
-                                               double *transitions, size_t transitions_length);
+                                               double *transitions, size_t transitions_length,
+                                               double *states, size_t states_length);
 
 /* What each feature counts in a line whose words have the labels of `path`, one for each word and each below the number of
- * labels; no weights are needed. `amounts` takes a number for each feature. All start at +0. In the order of scoring, each
- * State whose destination is the word's label adds the attribute's value; then, from the second word on, the list of the
- * label before is taken, and each Transition from that label to the word's adds 1.
+ * labels; no weights are needed. `feature_counts` takes a number for each feature. All start at +0. In the order of scoring,
+ * each State whose destination is the word's label adds the attribute's value; then, from the second word on, the list of
+ * the label before is taken, and each Transition from that label to the word's adds 1.
  * The place of an 8: the feature. */
 bodkinbloom_refused bodkinbloom_extract_features(uint32_t labels, bodkinbloom_counts counts,
                                                  const uint8_t *kinds, size_t kinds_length,
@@ -206,13 +288,13 @@ bodkinbloom_refused bodkinbloom_extract_features(uint32_t labels, bodkinbloom_co
                                                  const uint32_t *label_starts, size_t label_starts_length,
                                                  const uint32_t *label_entries, size_t label_entries_length,
                                                  uint32_t words, uint32_t attributes,
-                                                 const uint32_t *begins, size_t begins_length,
+                                                 const uint32_t *word_starts, size_t word_starts_length,
                                                  const uint32_t *ids, size_t ids_length,
                                                  const double *values, size_t values_length,
                                                  const uint32_t *path, size_t path_length,
-                                                 double *amounts, size_t amounts_length);
+                                                 double *feature_counts, size_t feature_counts_length);
 
-/* Labels a line: scores it and decodes the scores, which need no buffers of yours (they take some 50,000 bytes of stack).
+/* Labels a line: scores it and decodes the scores, which need no buffers of yours (they lie on the stack).
  * Writes the best path to the first `words` places of `path`, and answers as bodkinbloom_viterbi_decode does.
  * The place of an 8: that of the scores. */
 bodkinbloom_decoded bodkinbloom_label_line(uint32_t labels, bodkinbloom_counts counts,
@@ -225,7 +307,7 @@ bodkinbloom_decoded bodkinbloom_label_line(uint32_t labels, bodkinbloom_counts c
                                            const uint32_t *label_starts, size_t label_starts_length,
                                            const uint32_t *label_entries, size_t label_entries_length,
                                            uint32_t words, uint32_t attributes,
-                                           const uint32_t *begins, size_t begins_length,
+                                           const uint32_t *word_starts, size_t word_starts_length,
                                            const uint32_t *ids, size_t ids_length,
                                            const double *values, size_t values_length,
                                            uint32_t *path, size_t path_length);
@@ -239,16 +321,17 @@ bodkinbloom_decoded bodkinbloom_label_line(uint32_t labels, bodkinbloom_counts c
  * have to be:
  *
  *    the instances, only read:
- *    lines               BODKINBLOOM_STARTS(totals.instances)          where the words of each begin; 1 to 128 words
- *    begins              BODKINBLOOM_STARTS(totals.words)              where the attributes of each word begin
- *    ids, values         totals.attributes                             of each attribute: its id, its value
- *    references          totals.words                                  of each word: the label that is right
- *    shares              totals.instances                              of each instance: how much it weighs; usually 1
+ *    line_starts         BODKINBLOOM_STARTS(totals.instances)          where the words of each begin; 1 to 128 words
+ *    word_starts         BODKINBLOOM_STARTS(totals.words_in_all)       where the attributes of each word begin
+ *    ids, values         totals.attributes_in_all                      of each attribute: its id, its value
+ *    references          totals.words_in_all                           of each word: the label that is right
+ *    instance_weights    totals.instances                              of each instance: how much it weighs; usually 1
  *
  *    the buffers:
  *    weights             BODKINBLOOM_WEIGHTS(counts.features)          the result, a weight for each feature
- *    beside, truly,
- *    predicted           BODKINBLOOM_WEIGHTS(counts.features)          work; each is a buffer of its own
+ *    running_sums        BODKINBLOOM_WEIGHTS(counts.features)          work; AROW's is called covariance
+ *    true_counts,
+ *    predicted_counts    BODKINBLOOM_WEIGHTS(counts.features)          work; each is a buffer of its own
  *    order               BODKINBLOOM_ORDER(totals.instances)           work
  *
  * Starts keep the rule that is given above. An attribute whose id has no list is ignored.
@@ -262,13 +345,13 @@ bodkinbloom_decoded bodkinbloom_label_line(uint32_t labels, bodkinbloom_counts c
  * Refusals. The lowest number is given; of tables at fault the first in the order named here, and in it the lowest index.
  *    1  `labels` is not 1 to 32; place 0
  *    2  a count is outside its bound: at most 65,535 features, 65,535 attribute lists, 32 label lists, 1,048,576 entries of
- *       attribute lists, as many of label lists, 1,048,576 words, 4,194,304 attributes; 1 to 16,384 instances. Or a table
- *       or buffer is shorter than its count asks for. Place 0
- *    3  a start breaks its rule; place: its index in attribute_starts, label_starts, lines, begins
+ *       attribute lists, as many of label lists, 1,048,576 words in all, 4,194,304 attributes in all; 1 to 16,384
+ *       instances. Or a table or buffer is shorter than its count asks for. Place 0
+ *    3  a start breaks its rule; place: its index in attribute_starts, label_starts, line_starts, word_starts
  *    4  an instance has no words, or more than 128; place: which instance
  *    5  out of range; place: the index in kinds, destinations, sources (of Transitions), attribute_entries, label_entries,
  *       references
- *    6  not finite; place: the index in values, shares
+ *    6  not finite; place: the index in values, instance_weights
  *    7  a parameter of this call is bad; place: the first of
  *          1  epochs: not 1 to 1,000
  *          2  epsilon: below 0, or not finite
@@ -282,8 +365,11 @@ bodkinbloom_decoded bodkinbloom_label_line(uint32_t labels, bodkinbloom_counts c
  * A visit labels one instance with the weights so far, and changes them where a label is wrong. An epoch visits every
  * instance once. The order is 0, 1, 2 and so on; before each epoch the order of the epoch before is shuffled, as
  * bodkinbloom_shuffle does it, with a state that is `seed` at first and goes on from epoch to epoch (one instance alone is
- * not shuffled). So the same call gives the same weights, to the bit. Training ends after as many epochs as are allowed, or
- * after one whose loss divided by the number of instances is below epsilon; AROW also ends where the two are equal. */
+ * not shuffled). So the same call gives the same weights, to the bit.
+ *
+ * Training ends after as many epochs as are allowed, or after one whose loss divided by the number of instances is below
+ * epsilon; AROW also ends where the two are equal. The loss of an epoch starts at 0, and a visit that finds every label
+ * right adds nothing. What a visit with wrong labels adds is another thing in each of the three: see their parameters. */
 
 /* The most of each, beside those above, and how long the buffers have to be. */
 #define BODKINBLOOM_MOST_INSTANCES 16384
@@ -295,12 +381,12 @@ bodkinbloom_decoded bodkinbloom_label_line(uint32_t labels, bodkinbloom_counts c
 /* How many instances, and how many words and attributes they have in all. */
 typedef struct {
     uint32_t instances;
-    uint32_t words;
-    uint32_t attributes;
+    uint32_t words_in_all;
+    uint32_t attributes_in_all;
 } bodkinbloom_totals;
 
 /* What training answers.
- *    number    0, or the refusal's; then the numbers below are 0
+ *    number    0, or the refusal's; then epochs, visits and updates are 0
  *    place     of the refusal, else 0
  *    epochs    that were run
  *    visits    epochs x instances
@@ -315,16 +401,18 @@ typedef struct {
 
 /* Averaged perceptron.
  *    epochs    how many are allowed, 1 to 1,000
- *    epsilon   when to stop, see above; 0 or above. A line's loss is the part of its labels that is wrong, times its share
- *    seed      of the shuffle; any number */
+ *    epsilon   when to stop, see above; 0 or above
+ *    seed      of the shuffle; any number
+ * A visit with wrong labels adds (wrong labels / words) x instance weight to the loss. So with instance weights of 1 epsilon
+ * is a part of the words, between 0 and 1. */
 typedef struct {
     uint32_t epochs;
     double epsilon;
     uint64_t seed;
-} bodkinbloom_perceptron;
+} bodkinbloom_averaged_perceptron_parameters;
 
 bodkinbloom_trained bodkinbloom_averaged_perceptron(
-    bodkinbloom_perceptron parameters, uint32_t labels, bodkinbloom_counts counts,
+    bodkinbloom_averaged_perceptron_parameters parameters, uint32_t labels, bodkinbloom_counts counts,
     const uint8_t *kinds, size_t kinds_length, const uint32_t *destinations, size_t destinations_length,
     const uint32_t *sources, size_t sources_length,
     const uint32_t *attribute_starts, size_t attribute_starts_length,
@@ -332,36 +420,42 @@ bodkinbloom_trained bodkinbloom_averaged_perceptron(
     const uint32_t *label_starts, size_t label_starts_length,
     const uint32_t *label_entries, size_t label_entries_length,
     bodkinbloom_totals totals,
-    const uint32_t *lines, size_t lines_length, const uint32_t *begins, size_t begins_length,
+    const uint32_t *line_starts, size_t line_starts_length,
+    const uint32_t *word_starts, size_t word_starts_length,
     const uint32_t *ids, size_t ids_length, const double *values, size_t values_length,
-    const uint32_t *references, size_t references_length, const double *shares, size_t shares_length,
-    double *weights, size_t weights_length, double *beside, size_t beside_length,
-    double *truly, size_t truly_length, double *predicted, size_t predicted_length,
+    const uint32_t *references, size_t references_length,
+    const double *instance_weights, size_t instance_weights_length,
+    double *weights, size_t weights_length, double *running_sums, size_t running_sums_length,
+    double *true_counts, size_t true_counts_length,
+    double *predicted_counts, size_t predicted_counts_length,
     uint32_t *order, size_t order_length);
 
 /* Passive-aggressive.
- *    epochs, epsilon, seed   as above
+ *    epochs, epsilon, seed   as above, but for the loss
  *    variant                 0 Pa, 1 PaI, 2 PaII, which have names below
  *    c                       above 0: the larger, the larger the steps of PaI and PaII. It is tested for Pa too
- *    sensitive               switch: several wrong labels in a line cost the root of their number, instead of 1
+ *    error_sensitive         switch: several wrong labels in a line cost the root of their number, instead of 1
  *    averaging               switch: the weights are averaged in the end
- * A switch is off if it is 0, and on if it is anything else. */
+ * A switch is off if it is 0, and on if it is anything else.
+ * A visit with wrong labels adds cost x instance weight to the loss, where cost is
+ *    (path score of the labels found - path score of the references) + the root of the number of wrong labels
+ * by the weights before the visit; with error_sensitive off the root is 1. So epsilon is on the scale of the scores. */
 typedef struct {
     uint32_t epochs;
     double epsilon;
     uint64_t seed;
     uint32_t variant;
     double c;
-    uint32_t sensitive;
+    uint32_t error_sensitive;
     uint32_t averaging;
-} bodkinbloom_passive;
+} bodkinbloom_passive_aggressive_parameters;
 
 #define BODKINBLOOM_PA 0
 #define BODKINBLOOM_PA_I 1
 #define BODKINBLOOM_PA_II 2
 
 bodkinbloom_trained bodkinbloom_passive_aggressive(
-    bodkinbloom_passive parameters, uint32_t labels, bodkinbloom_counts counts,
+    bodkinbloom_passive_aggressive_parameters parameters, uint32_t labels, bodkinbloom_counts counts,
     const uint8_t *kinds, size_t kinds_length, const uint32_t *destinations, size_t destinations_length,
     const uint32_t *sources, size_t sources_length,
     const uint32_t *attribute_starts, size_t attribute_starts_length,
@@ -369,17 +463,23 @@ bodkinbloom_trained bodkinbloom_passive_aggressive(
     const uint32_t *label_starts, size_t label_starts_length,
     const uint32_t *label_entries, size_t label_entries_length,
     bodkinbloom_totals totals,
-    const uint32_t *lines, size_t lines_length, const uint32_t *begins, size_t begins_length,
+    const uint32_t *line_starts, size_t line_starts_length,
+    const uint32_t *word_starts, size_t word_starts_length,
     const uint32_t *ids, size_t ids_length, const double *values, size_t values_length,
-    const uint32_t *references, size_t references_length, const double *shares, size_t shares_length,
-    double *weights, size_t weights_length, double *beside, size_t beside_length,
-    double *truly, size_t truly_length, double *predicted, size_t predicted_length,
+    const uint32_t *references, size_t references_length,
+    const double *instance_weights, size_t instance_weights_length,
+    double *weights, size_t weights_length, double *running_sums, size_t running_sums_length,
+    double *true_counts, size_t true_counts_length,
+    double *predicted_counts, size_t predicted_counts_length,
     uint32_t *order, size_t order_length);
 
 /* AROW.
- *    epochs, epsilon, seed   as above
+ *    epochs, epsilon, seed   as above, but for the loss
  *    variance                above 0: at which the covariance of every feature starts
- *    gamma                   above 0: the larger, the smaller the steps */
+ *    gamma                   above 0: the larger, the smaller the steps
+ * A visit with wrong labels adds cost x instance weight to the loss, where cost is
+ *    (path score of the labels found - path score of the references) + the number of wrong labels
+ * by the weights before the visit. So epsilon is on the scale of the scores here too. */
 typedef struct {
     uint32_t epochs;
     double epsilon;
@@ -397,11 +497,14 @@ bodkinbloom_trained bodkinbloom_arow(
     const uint32_t *label_starts, size_t label_starts_length,
     const uint32_t *label_entries, size_t label_entries_length,
     bodkinbloom_totals totals,
-    const uint32_t *lines, size_t lines_length, const uint32_t *begins, size_t begins_length,
+    const uint32_t *line_starts, size_t line_starts_length,
+    const uint32_t *word_starts, size_t word_starts_length,
     const uint32_t *ids, size_t ids_length, const double *values, size_t values_length,
-    const uint32_t *references, size_t references_length, const double *shares, size_t shares_length,
-    double *weights, size_t weights_length, double *beside, size_t beside_length,
-    double *truly, size_t truly_length, double *predicted, size_t predicted_length,
+    const uint32_t *references, size_t references_length,
+    const double *instance_weights, size_t instance_weights_length,
+    double *weights, size_t weights_length, double *covariance, size_t covariance_length,
+    double *true_counts, size_t true_counts_length,
+    double *predicted_counts, size_t predicted_counts_length,
     uint32_t *order, size_t order_length);
 
 #ifdef __cplusplus

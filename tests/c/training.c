@@ -20,7 +20,8 @@ static const char *const trainers[TRAINERS] = {"averaged perceptron", "passive-a
 
 enum {
     KINDS, DESTINATIONS, SOURCES, ATTRIBUTE_STARTS, ATTRIBUTE_ENTRIES, LABEL_STARTS, LABEL_ENTRIES,
-    LINES, BEGINS, IDS, VALUES, REFERENCES, SHARES, WEIGHTS, BESIDE, TRULY, PREDICTED, ORDER, TABLES
+    LINE_STARTS, WORD_STARTS, IDS, VALUES, REFERENCES, INSTANCE_WEIGHTS, WEIGHTS, RUNNING_SUMS, TRUE_COUNTS,
+    PREDICTED_COUNTS, ORDER, TABLES
 };
 
 typedef struct {
@@ -41,26 +42,28 @@ enum { F = 4, N = 16384, BEHIND = 3 };
 static struct {
     uint8_t kinds[F];
     uint32_t destinations[F], sources[F], attribute_starts[3], attribute_entries[F], label_starts[3], label_entries[2];
-    uint32_t lines[N + 1], begins[N + 1], ids[N], references[N];
-    double values[N], shares[N];
+    uint32_t line_starts[N + 1], word_starts[N + 1], ids[N], references[N];
+    double values[N], instance_weights[N];
 } in, before;
 
 static struct {
-    double weights[F + BEHIND], beside[F + BEHIND], truly[F + BEHIND], predicted[F + BEHIND];
+    double weights[F + BEHIND], running_sums[F + BEHIND], true_counts[F + BEHIND], predicted_counts[F + BEHIND];
     uint32_t order[N + BEHIND];
 } out;
 
-/* what the buffers are full of at entry */
-static unsigned char fill = 0x5A;
+/* what the buffers are full of at entry: a number, then NaNs of both signs, quiet and signalling, each with a payload */
+static const uint64_t fills[] = {UINT64_C(0x5A5A5A5A5A5A5A5A), UINT64_C(0xFFFFFFFFFFFFFFFF), UINT64_C(0x7FF8C0DEC0DEC0DE),
+                                 UINT64_C(0x7FF0000000000001), UINT64_C(0xFFF5BADBADBADBAD)};
+static uint64_t fill;
 
 static const struct {
     void *at;
     size_t bytes, each;
 } buffers[TABLES] = {
     [WEIGHTS] = {out.weights, sizeof out.weights, sizeof(double)},
-    [BESIDE] = {out.beside, sizeof out.beside, sizeof(double)},
-    [TRULY] = {out.truly, sizeof out.truly, sizeof(double)},
-    [PREDICTED] = {out.predicted, sizeof out.predicted, sizeof(double)},
+    [RUNNING_SUMS] = {out.running_sums, sizeof out.running_sums, sizeof(double)},
+    [TRUE_COUNTS] = {out.true_counts, sizeof out.true_counts, sizeof(double)},
+    [PREDICTED_COUNTS] = {out.predicted_counts, sizeof out.predicted_counts, sizeof(double)},
     [ORDER] = {out.order, sizeof out.order, sizeof(uint32_t)},
 };
 
@@ -72,11 +75,12 @@ static size_t needed(const call *c, int table) {
         [ATTRIBUTE_STARTS] = BODKINBLOOM_STARTS(counts->attribute_lists),
         [ATTRIBUTE_ENTRIES] = counts->attribute_entries,
         [LABEL_STARTS] = BODKINBLOOM_STARTS(counts->label_lists), [LABEL_ENTRIES] = counts->label_entries,
-        [LINES] = BODKINBLOOM_STARTS(totals->instances), [BEGINS] = BODKINBLOOM_STARTS(totals->words),
-        [IDS] = totals->attributes, [VALUES] = totals->attributes, [REFERENCES] = totals->words,
-        [SHARES] = totals->instances, [WEIGHTS] = BODKINBLOOM_WEIGHTS(counts->features),
-        [BESIDE] = BODKINBLOOM_WEIGHTS(counts->features), [TRULY] = BODKINBLOOM_WEIGHTS(counts->features),
-        [PREDICTED] = BODKINBLOOM_WEIGHTS(counts->features), [ORDER] = BODKINBLOOM_ORDER(totals->instances),
+        [LINE_STARTS] = BODKINBLOOM_STARTS(totals->instances),
+        [WORD_STARTS] = BODKINBLOOM_STARTS(totals->words_in_all),
+        [IDS] = totals->attributes_in_all, [VALUES] = totals->attributes_in_all, [REFERENCES] = totals->words_in_all,
+        [INSTANCE_WEIGHTS] = totals->instances, [WEIGHTS] = BODKINBLOOM_WEIGHTS(counts->features),
+        [RUNNING_SUMS] = BODKINBLOOM_WEIGHTS(counts->features), [TRUE_COUNTS] = BODKINBLOOM_WEIGHTS(counts->features),
+        [PREDICTED_COUNTS] = BODKINBLOOM_WEIGHTS(counts->features), [ORDER] = BODKINBLOOM_ORDER(totals->instances),
     };
     return lengths[table];
 }
@@ -84,8 +88,9 @@ static size_t needed(const call *c, int table) {
 /* Every table as long as it has to be, NULL where that is 0; buffers that are needed are one longer. */
 static void fit(call *c) {
     void *const tables[TABLES] = {in.kinds, in.destinations, in.sources, in.attribute_starts, in.attribute_entries,
-                                  in.label_starts, in.label_entries, in.lines, in.begins, in.ids, in.values,
-                                  in.references, in.shares, out.weights, out.beside, out.truly, out.predicted, out.order};
+                                  in.label_starts, in.label_entries, in.line_starts, in.word_starts, in.ids, in.values,
+                                  in.references, in.instance_weights, out.weights, out.running_sums, out.true_counts,
+                                  out.predicted_counts, out.order};
     for (int i = 0; i < TABLES; i++) {
         size_t length = needed(c, i);
         c->table[i].at = length == 0 ? NULL : tables[i];
@@ -94,16 +99,18 @@ static void fit(call *c) {
 }
 
 static bodkinbloom_trained train(const call *c) {
-    const bodkinbloom_perceptron perceptron = {.epochs = c->epochs, .epsilon = c->epsilon, .seed = c->seed};
-    const bodkinbloom_passive passive = {.epochs = c->epochs, .epsilon = c->epsilon, .seed = c->seed, .c = c->c,
-                                         .variant = c->variant, .sensitive = c->sensitive, .averaging = c->averaging};
+    const bodkinbloom_averaged_perceptron_parameters perceptron = {
+        .epochs = c->epochs, .epsilon = c->epsilon, .seed = c->seed};
+    const bodkinbloom_passive_aggressive_parameters passive = {
+        .epochs = c->epochs, .epsilon = c->epsilon, .seed = c->seed, .c = c->c,
+        .variant = c->variant, .error_sensitive = c->sensitive, .averaging = c->averaging};
     const bodkinbloom_arow_parameters arow = {.epochs = c->epochs, .epsilon = c->epsilon, .seed = c->seed,
                                               .variance = c->variance, .gamma = c->gamma};
 #define T(i) c->table[i].at, c->table[i].length
 #define ALL                                                                                                                  \
     c->labels, c->counts, T(KINDS), T(DESTINATIONS), T(SOURCES), T(ATTRIBUTE_STARTS), T(ATTRIBUTE_ENTRIES), T(LABEL_STARTS), \
-        T(LABEL_ENTRIES), c->totals, T(LINES), T(BEGINS), T(IDS), T(VALUES), T(REFERENCES), T(SHARES), T(WEIGHTS),           \
-        T(BESIDE), T(TRULY), T(PREDICTED), T(ORDER)
+        T(LABEL_ENTRIES), c->totals, T(LINE_STARTS), T(WORD_STARTS), T(IDS), T(VALUES), T(REFERENCES), T(INSTANCE_WEIGHTS),  \
+        T(WEIGHTS), T(RUNNING_SUMS), T(TRUE_COUNTS), T(PREDICTED_COUNTS), T(ORDER)
     switch (c->trainer) {
     case PERCEPTRON:
         return bodkinbloom_averaged_perceptron(perceptron, ALL);
@@ -128,14 +135,16 @@ static void holds(const char *what, const call *c, int yes) {
 
 static bodkinbloom_trained run(const char *what, const call *c) {
     memcpy(&before, &in, sizeof in);
-    memset(&out, fill, sizeof out);
+    for (size_t i = 0; i < sizeof out; i += sizeof fill)
+        memcpy((unsigned char *)&out + i, &fill, sizeof fill);
     bodkinbloom_trained answer = train(c);
     holds(what, c, memcmp(&before, &in, sizeof in) == 0);
     return answer;
 }
 
-static int full_of(unsigned char byte, const unsigned char *at, size_t from, size_t to) {
-    while (from < to && at[from] == byte)
+/* By the bits, from one byte up to another. */
+static int full_of(uint64_t bits, const unsigned char *at, size_t from, size_t to) {
+    while (from < to && at[from] == ((const unsigned char *)&bits)[from % sizeof bits])
         from++;
     return from == to;
 }
@@ -178,8 +187,8 @@ static call alike(int trainer, uint32_t lists, uint32_t instances) {
     for (uint32_t i = 0; i <= lists; i++)
         in.attribute_starts[i] = 2 * i;
     for (uint32_t i = 0; i < instances; i++) {
-        in.lines[i + 1] = in.begins[i + 1] = i + 1;
-        in.values[i] = in.shares[i] = 1;
+        in.line_starts[i + 1] = in.word_starts[i + 1] = i + 1;
+        in.values[i] = in.instance_weights[i] = 1;
     }
     call c = {.trainer = trainer, .epochs = 1, .variant = BODKINBLOOM_PA_I, .sensitive = 1, .labels = 2, .c = 1,
               .variance = 0.5, .gamma = 1, .counts = {.features = 2 * lists, .attribute_lists = lists,
@@ -227,7 +236,7 @@ static void desk(void) {
 /* One instance of so many words. */
 static call line_of(int trainer, uint32_t words) {
     call c = alike(trainer, 1, words == 0 ? 1 : words);
-    in.lines[1] = words;
+    in.line_starts[1] = words;
     c.totals = (bodkinbloom_totals){1, words, words};
     fit(&c);
     return c;
@@ -252,7 +261,7 @@ static void run_only(int trainer) {
     accepted("128 words", &c, (double[]){with_128[trainer], -with_128[trainer]}, 1, 1);
     c = alike(trainer, 1, 130);
     c.totals.instances = 2;
-    in.lines[2] = 130;
+    in.line_starts[2] = 130;
     fit(&c);
     refused("129 words in the second instance", &c, 4, 1);
 
@@ -288,8 +297,9 @@ static void parameters(double bad) {
 
 static call two(int trainer, uint32_t epochs) {
     call c = alike(trainer, 2, 2);
-    in.begins[2] = c.totals.attributes = 3;
-    in.ids[2] = in.references[1] = in.values[2] = 1;
+    in.word_starts[2] = c.totals.attributes_in_all = 3;
+    in.ids[2] = in.references[1] = 1;
+    in.values[2] = 1;
     c.epochs = epochs;
     fit(&c);
     return c;
@@ -335,7 +345,7 @@ static void two_instances(void) {
 }
 
 /* "Only AROW and the perceptron weight the difference." */
-static void shares(void) {
+static void instance_weights(void) {
     static const struct {
         int trainer;
         uint32_t variant;
@@ -344,7 +354,7 @@ static void shares(void) {
     for (size_t i = 0; i < sizeof cases / sizeof *cases; i++) {
         call c = p9(cases[i].trainer);
         c.variant = cases[i].variant;
-        in.shares[0] = 2;
+        in.instance_weights[0] = 2;
         accepted("an instance of weight 2", &c, (double[]){cases[i].weight, -cases[i].weight}, 1, 1);
     }
 }
@@ -386,7 +396,8 @@ static void switches(void) {
 /* Two instances of two words over a model with something in every table. */
 static call whole(int trainer) {
     call c = alike(trainer, 2, 4);
-    in.kinds[2] = in.kinds[3] = in.destinations[2] = in.sources[3] = 1;
+    in.kinds[2] = in.kinds[3] = BODKINBLOOM_KIND_TRANSITION;
+    in.destinations[2] = in.sources[3] = 1;
     in.sources[0] = in.sources[1] = 99; /* of State features: not read */
     in.destinations[3] = in.sources[2] = 0;
     in.attribute_entries[2] = 0;
@@ -395,8 +406,8 @@ static call whole(int trainer) {
     in.label_starts[2] = 2;
     in.label_entries[0] = 2;
     in.label_entries[1] = 3;
-    in.lines[1] = 2;
-    in.lines[2] = 4;
+    in.line_starts[1] = 2;
+    in.line_starts[2] = 4;
     in.ids[1] = in.references[1] = in.references[2] = 1;
     in.ids[3] = 70; /* has no list: ignored */
     c.counts.label_lists = c.counts.label_entries = c.totals.instances = 2;
@@ -405,8 +416,8 @@ static call whole(int trainer) {
 }
 
 enum {
-    LABELS_33, TOO_SHORT, ATTRIBUTE_STARTS_END, LABEL_STARTS_BEGIN, LINES_END, BEGINS_FALL, WORDLESS, BAD_KIND,
-    BAD_DESTINATION, BAD_SOURCE, BAD_ATTRIBUTE_ENTRY, BAD_LABEL_ENTRY, BAD_REFERENCE, BAD_VALUE, BAD_SHARE,
+    LABELS_33, TOO_SHORT, ATTRIBUTE_STARTS_END, LABEL_STARTS_BEGIN, LINE_STARTS_END, WORD_STARTS_FALL, WORDLESS, BAD_KIND,
+    BAD_DESTINATION, BAD_SOURCE, BAD_ATTRIBUTE_ENTRY, BAD_LABEL_ENTRY, BAD_REFERENCE, BAD_VALUE, BAD_INSTANCE_WEIGHT,
     NO_EPOCHS, BAD_EPSILON, BAD_C, BAD_GAMMA, BAD_VARIANT, FAULTS
 };
 
@@ -415,37 +426,37 @@ static const struct {
     uint32_t number;
     uint64_t place;
 } faults[FAULTS] = {
-    [LABELS_33] = {"33 labels", 1, 0},
-    [TOO_SHORT] = {"a buffer that is too short", 2, 0},
-    [ATTRIBUTE_STARTS_END] = {"attribute lists that do not end at their count", 3, 2},
-    [LABEL_STARTS_BEGIN] = {"label lists that do not begin at 0", 3, 0},
-    [LINES_END] = {"instances that do not end at their count", 3, 2},
-    [BEGINS_FALL] = {"starts of attributes that fall", 3, 3},
-    [WORDLESS] = {"an instance without words", 4, 1},
-    [BAD_KIND] = {"a kind of 2", 5, 3},
-    [BAD_DESTINATION] = {"a destination at L", 5, 1},
-    [BAD_SOURCE] = {"a source at L", 5, 2},
-    [BAD_ATTRIBUTE_ENTRY] = {"a feature at F in an attribute list", 5, 3},
-    [BAD_LABEL_ENTRY] = {"a feature at F in a label list", 5, 1},
-    [BAD_REFERENCE] = {"a reference at L", 5, 2},
-    [BAD_VALUE] = {"a value that is not finite", 6, 3},
-    [BAD_SHARE] = {"an instance weight that is not finite", 6, 1},
-    [NO_EPOCHS] = {"no epochs", 7, 1},
-    [BAD_EPSILON] = {"epsilon below 0", 7, 2},
-    [BAD_C] = {"C or variance of 0", 7, 3},
-    [BAD_GAMMA] = {"gamma of NaN", 7, 4},
-    [BAD_VARIANT] = {"a variant of 3", 7, 5},
+    [LABELS_33] = {"33 labels", BODKINBLOOM_REFUSED_LABELS, 0},
+    [TOO_SHORT] = {"a buffer that is too short", BODKINBLOOM_REFUSED_SIZE, 0},
+    [ATTRIBUTE_STARTS_END] = {"attribute lists that do not end at their count", BODKINBLOOM_REFUSED_STARTS, 2},
+    [LABEL_STARTS_BEGIN] = {"label lists that do not begin at 0", BODKINBLOOM_REFUSED_STARTS, 0},
+    [LINE_STARTS_END] = {"instances that do not end at their count", BODKINBLOOM_REFUSED_STARTS, 2},
+    [WORD_STARTS_FALL] = {"starts of attributes that fall", BODKINBLOOM_REFUSED_STARTS, 3},
+    [WORDLESS] = {"an instance without words", BODKINBLOOM_REFUSED_WORDS, 1},
+    [BAD_KIND] = {"a kind of 2", BODKINBLOOM_REFUSED_RANGE, 3},
+    [BAD_DESTINATION] = {"a destination at L", BODKINBLOOM_REFUSED_RANGE, 1},
+    [BAD_SOURCE] = {"a source at L", BODKINBLOOM_REFUSED_RANGE, 2},
+    [BAD_ATTRIBUTE_ENTRY] = {"a feature at F in an attribute list", BODKINBLOOM_REFUSED_RANGE, 3},
+    [BAD_LABEL_ENTRY] = {"a feature at F in a label list", BODKINBLOOM_REFUSED_RANGE, 1},
+    [BAD_REFERENCE] = {"a reference at L", BODKINBLOOM_REFUSED_RANGE, 2},
+    [BAD_VALUE] = {"a value that is not finite", BODKINBLOOM_REFUSED_NOT_FINITE, 3},
+    [BAD_INSTANCE_WEIGHT] = {"an instance weight that is not finite", BODKINBLOOM_REFUSED_NOT_FINITE, 1},
+    [NO_EPOCHS] = {"no epochs", BODKINBLOOM_REFUSED_PARAMETER, 1},
+    [BAD_EPSILON] = {"epsilon below 0", BODKINBLOOM_REFUSED_PARAMETER, 2},
+    [BAD_C] = {"C or variance of 0", BODKINBLOOM_REFUSED_PARAMETER, 3},
+    [BAD_GAMMA] = {"gamma of NaN", BODKINBLOOM_REFUSED_PARAMETER, 4},
+    [BAD_VARIANT] = {"a variant of 3", BODKINBLOOM_REFUSED_PARAMETER, 5},
 };
 
 static void damage(call *c, int fault) {
     switch (fault) {
     case LABELS_33: c->labels = 33; break;
-    case TOO_SHORT: c->table[PREDICTED].length = F - 1; break;
+    case TOO_SHORT: c->table[PREDICTED_COUNTS].length = F - 1; break;
     case ATTRIBUTE_STARTS_END: in.attribute_starts[2] = 3; break;
     case LABEL_STARTS_BEGIN: in.label_starts[0] = 1; break;
-    case LINES_END: in.lines[2] = 5; break;
-    case BEGINS_FALL: in.begins[3] = 1; break;
-    case WORDLESS: in.lines[1] = 4; break;
+    case LINE_STARTS_END: in.line_starts[2] = 5; break;
+    case WORD_STARTS_FALL: in.word_starts[3] = 1; break;
+    case WORDLESS: in.line_starts[1] = 4; break;
     case BAD_KIND: in.kinds[3] = 2; break;
     case BAD_DESTINATION: in.destinations[1] = 2; break;
     case BAD_SOURCE: in.sources[2] = 2; break;
@@ -453,7 +464,7 @@ static void damage(call *c, int fault) {
     case BAD_LABEL_ENTRY: in.label_entries[1] = F; break;
     case BAD_REFERENCE: in.references[2] = 2; break;
     case BAD_VALUE: in.values[3] = NAN; break;
-    case BAD_SHARE: in.shares[1] = -INFINITY; break;
+    case BAD_INSTANCE_WEIGHT: in.instance_weights[1] = -INFINITY; break;
     case NO_EPOCHS: c->epochs = 0; break;
     case BAD_EPSILON: c->epsilon = -1; break;
     case BAD_C: c->c = c->variance = 0; break;
@@ -499,7 +510,7 @@ static void lengths(int trainer) {
         call c = whole(trainer);
         uint32_t *const counts[] = {&c.counts.features, &c.counts.attribute_lists, &c.counts.label_lists,
                                     &c.counts.attribute_entries, &c.counts.label_entries, &c.totals.instances,
-                                    &c.totals.words, &c.totals.attributes};
+                                    &c.totals.words_in_all, &c.totals.attributes_in_all};
         *counts[count] = UINT32_MAX;
         refused("a count of 2^32 - 1", &c, 2, 0);
     }
@@ -513,14 +524,14 @@ static void null_tables(int trainer) {
     }
     refused("all NULL", &c, 2, 0);
     c.counts = (bodkinbloom_counts){0, 0, 0, 0, 0};
-    c.totals.words = c.totals.attributes = 0;
+    c.totals.words_in_all = c.totals.attributes_in_all = 0;
     refused("all NULL, and all counts 0", &c, 2, 0);
     c.labels = 0;
     refused("all NULL, no labels", &c, 1, 0);
 
     /* without features and attributes: starts, references, instance weights and the order are all that is needed */
     c = alike(trainer, 0, 1);
-    c.totals.attributes = in.begins[1] = 0;
+    c.totals.attributes_in_all = in.word_starts[1] = 0;
     fit(&c);
     int given = 0;
     for (int i = 0; i < TABLES; i++)
@@ -535,65 +546,64 @@ static void not_finite(int trainer) {
     /* the first instance has the label that is found; the second an attribute twice */
     call c = alike(trainer, 1, 3);
     in.references[0] = 1;
-    in.begins[2] = 3;
+    in.word_starts[2] = 3;
     in.values[1] = in.values[2] = DBL_MAX;
-    c.totals.instances = c.totals.words = 2;
+    c.totals.instances = c.totals.words_in_all = 2;
     fit(&c);
-    refused("a true count overflows", &c, 8, 1);
+    refused("a true count overflows", &c, BODKINBLOOM_REFUSED_RESULT, 1);
     in.attribute_starts[1] = c.counts.attribute_entries = 1;
     in.attribute_entries[0] = 1;
     fit(&c);
-    refused("a predicted count overflows", &c, 8, 1);
+    refused("a predicted count overflows", &c, BODKINBLOOM_REFUSED_RESULT, 1);
 
     c = alike(trainer, 0, 2);
-    in.shares[0] = in.shares[1] = 1.5e308;
-    refused("the loss overflows", &c, 9, 1);
+    in.instance_weights[0] = in.instance_weights[1] = 1.5e308;
+    refused("the loss overflows", &c, BODKINBLOOM_REFUSED_TRAINING, 1);
 
     c = p9(trainer);
     in.values[0] = trainer == PASSIVE ? 1e-150 : DBL_MAX;
-    in.shares[0] = trainer == PASSIVE ? 1e10 : 2;
+    in.instance_weights[0] = trainer == PASSIVE ? 1e10 : 2;
     c.variant = BODKINBLOOM_PA;
-    refused("a weight overflows", &c, 9, 0);
+    refused("a weight overflows", &c, BODKINBLOOM_REFUSED_TRAINING, 0);
 }
 
 static void not_finite_alone(void) {
     call c = p9(PERCEPTRON);
     c.epochs = 2;
     in.values[0] = -1e308;
-    refused("a state score overflows in the second epoch", &c, 8, 1);
+    refused("a state score overflows in the second epoch", &c, BODKINBLOOM_REFUSED_RESULT, 1);
 
     /* a Transition from label 1 to itself, twice in its list; two words */
     c = line_of(PERCEPTRON, 2);
     c.epochs = 2;
-    in.kinds[0] = in.sources[0] = in.destinations[0] = 1;
+    in.kinds[0] = BODKINBLOOM_KIND_TRANSITION;
+    in.sources[0] = in.destinations[0] = 1;
     in.label_starts[2] = 2;
-    in.shares[0] = 0.4 * DBL_MAX;
+    in.instance_weights[0] = 0.4 * DBL_MAX;
     c.counts = (bodkinbloom_counts){.features = 1, .label_lists = 2, .label_entries = 2};
     fit(&c);
-    refused("a transition score overflows in the second epoch", &c, 8, 1);
+    refused("a transition score overflows in the second epoch", &c, BODKINBLOOM_REFUSED_RESULT, 1);
 
     c = alike(PERCEPTRON, 1, 2);
     in.references[0] = 1;
-    in.shares[1] = 0.75 * DBL_MAX;
-    refused("a running sum overflows", &c, 9, 1);
+    in.instance_weights[1] = 0.75 * DBL_MAX;
+    refused("a running sum overflows", &c, BODKINBLOOM_REFUSED_TRAINING, 1);
 
     /* features in no list: 1 / (1 / variance) */
     c = p9(AROW);
     c.variance = DBL_MAX;
     c.counts = (bodkinbloom_counts){.features = 2};
     fit(&c);
-    refused("a covariance overflows", &c, 9, 0);
+    refused("a covariance overflows", &c, BODKINBLOOM_REFUSED_TRAINING, 0);
 }
 
-int main(void) {
+static void everything(void) {
     const double bad[] = {0, -0.0, -1, -DBL_MIN, NAN, INFINITY, -INFINITY};
     desk();
     for (size_t i = 0; i < sizeof bad / sizeof *bad; i++)
         parameters(bad[i]);
     two_instances();
-    fill = 0xFF; /* what the buffers hold at entry makes no difference */
-    two_instances();
-    shares();
+    instance_weights();
     switches();
     for (int trainer = 0; trainer < TRAINERS; trainer++) {
         run_only(trainer);
@@ -603,6 +613,15 @@ int main(void) {
         not_finite(trainer);
     }
     not_finite_alone();
+}
+
+/* What the buffers hold at entry makes no difference. */
+int main(void) {
+    _Static_assert(sizeof out % sizeof fill == 0, "buffers are filled by the word");
+    for (size_t i = 0; i < sizeof fills / sizeof *fills; i++) {
+        fill = fills[i];
+        everything();
+    }
     printf("%d checks of training from C: %d failed\n", checks, failures);
     return failures != 0;
 }

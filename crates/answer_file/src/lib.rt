@@ -1,12 +1,15 @@
 // From an open file to its answer line on standard output. What is read and written stands in no contract: everything
-// between is `print_sheet`.
-ghost use Prim.Native.Nat.{_≤_};
+// between is `answer_front`.
+ghost use Prim.Native.Nat.{_≤_, _<_};
 ghost use lib.ListN.{length};
+ghost use Rattle.decode_sheet.specs.Front.{longestSheet};
+ghost use Rattle.answer_file.specs.EveryFile.{PrintedOfEvery};
 use libc::STDOUT_FILENO;
 
-// The bytes of a file, as many as the buffer holds: how many there are, or none where a read fails, since the end of the
-// file was never seen then.
+// The bytes of a file, as many as the buffer holds, which is more than the longest sheet: how many there are, or none where
+// a read fails, since the end of the file was never seen then.
 fn read_bytes(fd: i32, bytes: &mut [u8]) -> usize
+    requires { ⌜ longestSheet < length (now bytes) ⌝ }
     ensures { λ r. ⌜ r ≤ length (now (bytes .exit)) ⌝ }
 {
     let mut done = 0usize;
@@ -24,15 +27,25 @@ fn read_bytes(fd: i32, bytes: &mut [u8]) -> usize
     done
 }
 
+// The line of the whole file, from the n bytes of it that were read into a buffer longer than any sheet: the rest of a
+// longer file would change nothing.
+fn answer_front(bytes: &[u8], n: usize, line: &mut [u8; 406]) -> usize
+    requires { ⌜ n ≤ length (now bytes) ⌝ }
+    requires { ⌜ longestSheet < length (now bytes) ⌝ }
+    ensures { λ r. ⌜ PrintedOfEvery (now (bytes .entry)) n (now (line .entry)) r (now (line .exit)) ⌝ }
+{
+    decode_sheet::print_sheet(&bytes[..n], line)
+}
+
 // The buffer has one byte more than the longest sheet, 8 + 8·(32·32 + 128·32) bytes, by which a longer file is known. The
-// answer is how many bytes the line speaks of.
+// answer is how many bytes were read.
 pub fn answer_file(fd: i32) -> usize
     ensures { λ r. ⌜ r ≤ 40969 ⌝ }
 {
     let mut bytes = [0u8; 40969];
     let n = read_bytes(fd, &mut bytes);
     let mut line = [0u8; 406];
-    let size = decode_sheet::print_sheet(&bytes[..n], &mut line);
+    let size = answer_front(&bytes, n, &mut line);
     io::write_all(STDOUT_FILENO, &line[..size]);
     n
 }

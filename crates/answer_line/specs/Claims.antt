@@ -1,4 +1,4 @@
--- What is claimed of the answer line: its numbers read back, and how long it can be. The proofs are in proofs/ReadBack and proofs/Longest.
+-- What is claimed of the answer line: its numbers read back, it says one thing only, and how long it can be. The proofs are in proofs/ReadBack, proofs/OneSaying and proofs/Longest.
 use Prim.Native.Nat.{ℕ, _^_, _≤_, _<_}
 use mathlib.Core.Path.{_≡_}
 use mathlib.Core.List.{List}
@@ -16,6 +16,18 @@ pub record ReadBack : Type 0 where
   pub number : (n : ℕ) → n < 2 ^ 64 → read 10 (decimal n) ≡ n
   -- no zero stands in front of another digit
   pub shortest : (n : ℕ) → n < 2 ^ 64 → 9 < n → getD (decimal n) 0 0 ≡ 48 → ⊥
+
+-- what a path's line can say: a binary64, and at least one label, each a number of 64 bits
+pub record Sayable (sum : Float) (labels : List ℕ) : Type 0 where
+  pub binary : T (fits binary64 sum)
+  pub some : 0 < length labels
+  pub small : (i : ℕ) → i < length labels → getD labels i 0 < 2 ^ 64
+
+-- no line says two things
+pub record OneSaying : Type 0 where
+  pub path : (x y : Float) (a b : List ℕ) → Sayable x a → Sayable y b → pathLine x a ≡ pathLine y b → (x ≡ y) × (a ≡ b)
+  pub refused : (number place m p : ℕ) → number < 2 ^ 64 → place < 2 ^ 64 → m < 2 ^ 64 → p < 2 ^ 64 → refusedLine number place ≡ refusedLine m p → (number ≡ m) × (place ≡ p)
+  pub either : (x : Float) (labels : List ℕ) (number place : ℕ) → pathLine x labels ≡ refusedLine number place → ⊥
 
 pub record Longest : Type 0 where
   -- with 128 labels of two digits: 4 + 1 + 16 + 1 + (256 + 127) + 1

@@ -1,10 +1,11 @@
-// How a training begins and ends: the tables at the start, the final averaging, the answer, and the zeroing of what is not the
-// result.
+// How a training begins and ends: the tables at the start, the order of an epoch, the final averaging, the answer, and the
+// zeroing of what is not the result.
 ghost use mathlib.Core.Path.{_≡_};
 ghost use mathlib.Core.Bool.{cond};
-ghost use Prim.Native.Nat.{ℕ, _≤_};
+ghost use Prim.Native.Nat.{ℕ, _≤_, _<_};
 ghost use lib.ListN.{length};
 ghost use lib.Ieee.{Float};
+ghost use Rattle.shuffle.specs.Shuffle.{Deal, shuffled};
 ghost use Rattle.lines.specs.Passes.{through};
 ghost use Rattle.lines.specs.Tables.{Model};
 ghost use Rattle.training.specs.Data.{Data};
@@ -51,6 +52,14 @@ pub fn begin(
     training_tables::count_up(order, instances as u32);
     training_tables::fill(weights, features, 0.0);
     training_tables::fill(beside, features, first_beside(trainer));
+}
+
+// An epoch begins: the order of the epoch before is shuffled. The answer is the generator's state to go on with.
+pub fn deal(state: u64, n: usize, order: &mut [u32]) -> u64
+    requires { ⌜ (0 < n) × (n ≤ 16384) × (n ≤ length (now order)) ⌝ }
+    ensures { λ r. ⌜ _≡_ {A = Deal} (record { state = r; order = now (order .exit) }) (shuffled n (record { state = state; order = now (order .entry) })) ⌝ }
+{
+    shuffle::shuffle(state, n, order)
 }
 
 // Whether the trained weights are averaged.

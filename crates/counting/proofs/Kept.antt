@@ -14,9 +14,13 @@ use Rattle.finished.proofs.Laws.{front-checked, contents-kept}
 use Rattle.counting.specs.Promise.{Given, needed, countsOfLine, checkedOf, finishedOf, answerTo, amountsAfter, Promised}
 
 -- a refusal beforehand leaves the buffer
-pub refused-kept : (given : Given) (before : List Float) (why : Refusal) → checkedOf given before ≡ Refused why → Promised given before (record { answer = Refused why; amounts = before })
+pub refused-kept : (given : Given) (before : List Float) {answer : Checked} {amounts : List Float} (why : Refusal) →
+    checkedOf given before ≡ Refused why →
+    answer ≡ Refused why →
+    amounts ≡ before →
+    Promised given before (record { answer = answer; amounts = amounts })
 unfolding answerTo amountsAfter orNext
-refused-kept given before why h = record { answers = rw h; amounts = rw h }
+refused-kept given before why h e p = record { answers = rw (h, e); amounts = rw h p }
 
 -- the counts were made, and cleared where 8 is given
 module _ (given : Given) (before : List Float) (accepted : checkedOf given before ≡ Accepted) where

@@ -47,7 +47,7 @@ pub fn extract_features(
         amounts.len(),
     );
     if let Checked::Refused(why) = checked {
-        return Checked::Refused(why);
+        return finished::refuse_counts(why, amounts);
     }
     extract_features::count_line(
         features,

@@ -8,5 +8,5 @@ use Rattle.counting_exports.specs.Counts.{Outcome, Counted}
 pub one-counted : (given : Given) (before : List Float) (a b : Outcome) → Counted given before a → Counted given before b → a ≡ b
 one-counted given before a b p q =
     let e : a .answer ≡ b .answer = p .answers ∙ sym (q .answers) in
-    let n : a .amounts ≡ b .amounts = p .amounts ∙ sym (q .amounts) in
-    λ i. record { answer = e i; amounts = n i }
+    let n : a .counts ≡ b .counts = p .counts ∙ sym (q .counts) in
+    λ i. record { answer = e i; counts = n i }

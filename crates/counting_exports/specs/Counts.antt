@@ -9,9 +9,9 @@ use Rattle.answers.specs.Numbers.{numbers}
 -- the answer, and what the buffer for the counts holds afterwards
 pub record Outcome : Type 0 where
   pub answer : Refused
-  pub amounts : List Float
+  pub counts : List Float
 
 -- the promise of a counted line
 pub record Counted (given : Given) (before : List Float) (outcome : Outcome) : Type 0 where
   pub answers : outcome .answer ≡ numbers (answerTo given before)
-  pub amounts : outcome .amounts ≡ amountsAfter given before
+  pub counts : outcome .counts ≡ amountsAfter given before

@@ -4,7 +4,7 @@ ghost use Rattle.counting_exports.specs.Counts.{Counted};
 use answers::checks::Refused;
 use feature_gen::Counts;
 
-// The feature counts of a line under the labels of `path`, in the front of `amounts`.
+// The feature counts of a line under the labels of `path`, in the front of `feature_counts`.
 #[no_mangle]
 pub extern "C" fn bodkinbloom_extract_features(
     labels: u32,
@@ -18,13 +18,13 @@ pub extern "C" fn bodkinbloom_extract_features(
     label_entries: &[u32],
     words: u32,
     attributes: u32,
-    begins: &[u32],
+    word_starts: &[u32],
     ids: &[u32],
     values: &[f64],
     path: &[u32],
-    amounts: &mut [f64],
+    feature_counts: &mut [f64],
 ) -> Refused
-    ensures { λ r. ⌜ Counted (record { model = modelOf labels counts (now (kinds .entry)) (now (destinations .entry)) (now (sources .entry)) (now («attribute_starts» .entry)) (now («attribute_entries» .entry)) (now («label_starts» .entry)) (now («label_entries» .entry)); words = words; line = record { starts = now (begins .entry); size = attributes; ids = now (ids .entry); values = now (values .entry) }; path = now (path .entry) }) (now (amounts .entry)) (record { answer = r; amounts = now (amounts .exit) }) ⌝ }
+    ensures { λ r. ⌜ Counted (record { model = modelOf labels counts (now (kinds .entry)) (now (destinations .entry)) (now (sources .entry)) (now («attribute_starts» .entry)) (now («attribute_entries» .entry)) (now («label_starts» .entry)) (now («label_entries» .entry)); words = words; line = record { starts = now («word_starts» .entry); size = attributes; ids = now (ids .entry); values = now (values .entry) }; path = now (path .entry) }) (now («feature_counts» .entry)) (record { answer = r; counts = now («feature_counts» .exit) }) ⌝ }
 {
     let answer = counting::extract_features(
         labels,
@@ -38,11 +38,11 @@ pub extern "C" fn bodkinbloom_extract_features(
         label_starts,
         label_entries,
         attributes,
-        begins,
+        word_starts,
         ids,
         values,
         path,
-        amounts,
+        feature_counts,
     );
     answers::checks::numbers_of_check(answer)
 }

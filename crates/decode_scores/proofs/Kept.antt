@@ -38,14 +38,14 @@ fronts-ready {n = n} {m} {transitions} {states} p q r =
 pub fronts-answered : (labels words : ℕ) {n m : ℕ} (transitions states : List Float) (before : List ℕ) (found : Found) (after : List ℕ) → n ≡ words * labels → m ≡ labels * labels → Answered labels words (take m transitions) (take n states) before found after → Answered labels words (take (labels * labels) transitions) (take (words * labels) states) before found after
 fronts-answered labels words transitions states before found after p q a = rw (p, q) at a
 
-module _ (labels words : ℕ) (states transitions : List Float) (before : List ℕ) {after : List ℕ} {r : Checked} (f : r ≡ scoresFinished labels words states transitions) where
+module _ (labels words : ℕ) (transitions states : List Float) (before : List ℕ) {after : List ℕ} {r : Checked} (f : r ≡ scoresFinished labels words states transitions) where
   -- 8 clears the path
-  pub eight : (why : Refusal) → r ≡ Refused why → after ≡ cleared 0 words before → Finished labels words states transitions before (Decoding.Refused why) after
+  pub eight : (why : Refusal) → r ≡ Refused why → after ≡ cleared 0 words before → Finished labels words transitions states before (Decoding.Refused why) after
   eight why h c =
       let e : scoresFinished labels words states transitions ≡ Refused why = sym f ∙ h in
       record { answers = rw e; path = rw e c }
 
-  pub path-found : (found : Found) → r ≡ Accepted → Answered labels words (take (labels * labels) transitions) (take (words * labels) states) before found after → Finished labels words states transitions before (Decoding.Decoded found) after
+  pub path-found : (found : Found) → r ≡ Accepted → Answered labels words (take (labels * labels) transitions) (take (words * labels) states) before found after → Finished labels words transitions states before (Decoding.Decoded found) after
   path-found found h a =
       let e : scoresFinished labels words states transitions ≡ Accepted = sym f ∙ h in
       record { answers = rw (e, a .sum, a .lead-is); path = rw e (a .path) }

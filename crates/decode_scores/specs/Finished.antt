@@ -16,9 +16,9 @@ use Rattle.finished.specs.After.{contents}
 
 -- the needed fronts of the buffers
 abbrev pub frontsOf : ℕ → ℕ → List Float → List Float → Scores
-frontsOf labels words states transitions = tabled labels (take (labels * labels) transitions) (take (words * labels) states)
+frontsOf labels words transitions states = tabled labels (take (labels * labels) transitions) (take (words * labels) states)
 
 -- "The answer is the path and its rounded sum", with the lead; "After 8 .. the needed front of every result .. buffer is zero"
-pub record Finished (labels words : ℕ) (states transitions : List Float) (before : List ℕ) (answer : Decoding) (after : List ℕ) : Type 0 where
-  pub answers : said answer ≡ orRefused (scoresFinished labels words states transitions) (decoded (decodedSum (frontsOf labels words states transitions) words) (lead (frontsOf labels words states transitions) words))
-  pub path : after ≡ contents Accepted (scoresFinished labels words states transitions) 0 words before (decodedPath (frontsOf labels words states transitions) words)
+pub record Finished (labels words : ℕ) (transitions states : List Float) (before : List ℕ) (answer : Decoding) (after : List ℕ) : Type 0 where
+  pub answers : said answer ≡ orRefused (scoresFinished labels words states transitions) (decoded (decodedSum (frontsOf labels words transitions states) words) (lead (frontsOf labels words transitions states) words))
+  pub path : after ≡ contents Accepted (scoresFinished labels words states transitions) 0 words before (decodedPath (frontsOf labels words transitions states) words)

@@ -25,8 +25,8 @@ fn clear_path(path: &mut [u32], n: usize)
 fn decode_front(
     labels: u32,
     words: u32,
-    states: &[f64],
     transitions: &[f64],
+    states: &[f64],
     path: &mut [u32],
 ) -> Found
     requires { ⌜ Ready labels words (now transitions) (now states) (now path) ⌝ }
@@ -42,17 +42,17 @@ fn decode_front(
 pub fn decode_scores(
     labels: u32,
     words: u32,
-    states: &[f64],
     transitions: &[f64],
+    states: &[f64],
     path: &mut [u32],
 ) -> Decoding
     requires { ⌜ Ready labels words (now transitions) (now states) (now path) ⌝ }
-    ensures { λ r. ⌜ Finished labels words (now (states .entry)) (now (transitions .entry)) (now (path .entry)) r (now (path .exit)) ⌝ }
+    ensures { λ r. ⌜ Finished labels words (now (transitions .entry)) (now (states .entry)) (now (path .entry)) r (now (path .exit)) ⌝ }
 {
-    let finished = finished::check_scores(labels, words, states, transitions);
+    let finished = finished::check_scores(labels, words, transitions, states);
     if let Checked::Refused(late) = finished {
         clear_path(path, words as usize);
         return Decoding::Refused(late);
     }
-    Decoding::Decoded(decode_front(labels, words, states, transitions, path))
+    Decoding::Decoded(decode_front(labels, words, transitions, states, path))
 }

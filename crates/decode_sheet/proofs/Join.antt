@@ -1,29 +1,26 @@
 -- From what the reader promises of the bytes to what is promised of the line. Assumes nothing.
-use mathlib.Core.Path.{_≡_, sym, _∙_}
-use mathlib.Core.List.{List, [], _∷_, _++_, append-assoc, append-nil}
+use mathlib.Core.Path.{_≡_, sym, _∙_, ap}
+use mathlib.Core.List.{List, [], _++_, append-assoc, append-nil}
 use Prim.Native.Nat.{ℕ, _*_, _<_, _≤_}
 use native.Mathlib.Omega.{arith}
-use borrow.Author.Tests.{ltb-false}
 use lib.ListN.{length, take, drop, length-append}
 use lib.Seq.{take-at, length-take-le}
 use lib.Ieee.{Float}
 use Rattle.refusals.specs.declared.Refusal.{Refusal}
 use Rattle.refusals.specs.declared.Checked.the-variants.{Accepted, Refused}
-use Rattle.refusals.specs.Refusals.{refuse}
-use Rattle.refusals.specs.Tables.{short}
-use Rattle.refusals.proofs.Laws.{all-accepted, passes}
-use Rattle.score_tables.specs.Rows.{one, four, sixes}
 use Rattle.score_tables.specs.Sound.{Sound}
 use Rattle.sheet.specs.declared.Reading.{Reading}
 use Rattle.sheet_bytes.specs.Fields.{labelsIn, wordsIn, transitionsIn, statesIn}
-use Rattle.sheet_check.specs.Rows.{Lent, wrongHead, wrongLength, sheetChecked}
+use Rattle.sheet_check.specs.Rows.{Lent, sheetChecked}
 use Rattle.sheet.specs.Promise as reader
+use Rattle.sheet.proofs.Meant.{refused-by}
 use Rattle.sheet_check.proofs.Rows.{accepts}
+use Rattle.sheet_check.proofs.Meant.{file-means}
 use Rattle.answer_line.specs.Line as line
 use Rattle.decode_sheet.specs.declared.Written.{Written}
 use Rattle.decode_sheet.specs.Answer.{pathLineOf, lineChecked}
 use Rattle.decode_sheet.specs.Promise.{answerTo, lineAfter, Promised}
-use Rattle.decode_sheet.proofs.Rows.{Lends, rows, refused-by, read-by, transitions-size, states-size, sound-in}
+use Rattle.decode_sheet.proofs.Rows.{Lends, rows, line-means, read-by, transitions-size, states-size, sound-in}
 
 -- the room that is lent of the transitions: none where the line is too short, else all
 pub record Chosen (before : List ℕ) (transitions states : List Float) (room : ℕ) : Type 0 where
@@ -48,10 +45,7 @@ module _ (bytes before : List ℕ) where
 
   -- a line that is accepted has its room
   roomy : lineChecked bytes (length before) ≡ Accepted → 406 ≤ length before
-  unfolding lineChecked
-  roomy h =
-      let a = all-accepted Accepted (refuse 10 0 (wrongHead bytes) ∷ one (labelsIn bytes) ∷ four (wordsIn bytes) ∷ refuse 2 0 (short (length before) 406) ∷ refuse 10 0 (wrongLength bytes) ∷ sixes (labelsIn bytes) (wordsIn bytes) (transitionsIn bytes) (statesIn bytes)) h .1 in
-      ltb-false (length before) 406 (passes 2 0 _ (a .1 .1 .1 .0))
+  roomy h = file-means bytes (line-means (length before)) .accepted .0 h .1
 
 -- what a file that is read gives to the decoder
 pub record Tables (bytes before : List ℕ) (transitions states : List Float) (room labels words : ℕ) (o : reader.Outcome) : Type 0 where
@@ -85,7 +79,7 @@ module _ (bytes before : List ℕ) (transitions states : List Float) (room : ℕ
 
   pub read-refused : (o : reader.Outcome) → reader.Promised (record { bytes = bytes }) (lent transitions states room) o → (why : Refusal) → o .answer ≡ Reading.Refused why → Promised (record { bytes = bytes }) before (record { answer = Written.Refused why; line = before })
   unfolding reader.answerTo
-  read-refused o p why h = promised-refused bytes before why (sym checked ∙ refused-by bytes _ why (rw h at (p .answers)))
+  read-refused o p why h = promised-refused bytes before why (sym checked ∙ refused-by bytes _ _ (p .answers) (why .number) (why .place) .0 (ap reader.said h))
 
   pub read-tables : (o : reader.Outcome) → reader.Promised (record { bytes = bytes }) (lent transitions states room) o → (labels words : ℕ) → o .answer ≡ Reading.Read labels words → Tables bytes before transitions states room labels words o
   unfolding reader.answerTo reader.transitionsAfter reader.statesAfter

@@ -4,3 +4,7 @@ pub mod Join
 pub mod Print
 pub mod Once
 pub mod Prints
+pub mod Front
+pub mod Meant
+pub mod Best
+pub mod Longest

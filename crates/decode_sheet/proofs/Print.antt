@@ -21,11 +21,11 @@ pub refused-room : (number place : ℕ) (l : List ℕ) → length l ≡ 406 → 
 refused-room number place l e = record { room = omega (arith, longest .refused number place) }
 
 -- what the answer says of the rows
-path-by : (text : List ℕ) (c : Checked) (size : ℕ) → path size ≡ answerBy c text → (c ≡ Accepted) × (size ≡ length text)
+pub path-by : (text : List ℕ) (c : Checked) (size : ℕ) → path size ≡ answerBy c text → (c ≡ Accepted) × (size ≡ length text)
 path-by text Accepted size h = (refl, cc)
 path-by text (Refused why) size h = let z : _≡_ {A = ℕ} 0 1 = cc in absurd (omega arith)
 
-refused-by : (text : List ℕ) (c : Checked) (why : Refusal) → refused (why .number) (why .place) ≡ answerBy c text → c ≡ Refused why
+pub refused-by : (text : List ℕ) (c : Checked) (why : Refusal) → refused (why .number) (why .place) ≡ answerBy c text → c ≡ Refused why
 refused-by text Accepted why h = let z : _≡_ {A = ℕ} 0 1 = cc in absurd (omega arith)
 refused-by text (Refused other) why h = ap Refused (same-refusal other why (cc) (cc))
 

@@ -1,35 +1,30 @@
 -- The rows of a sheet that is decoded into a line, by way of the reader's rows over tables with room for every sheet. Assumes nothing.
-use mathlib.Core.Path.{_≡_, refl, ap}
+use mathlib.Core.Path.{_≡_, refl}
 use mathlib.Core.Bool.{Bool, true, false}
-use mathlib.Core.List.{List, [], _∷_}
+use mathlib.Core.List.{List}
 use Prim.Native.Nat.{ℕ, _*_, _<_, _≤_}
 use native.Mathlib.Nat.{mul-le-mul}
 use native.Mathlib.Omega.{arith}
 use borrow.Author.Tests.{lt-ltb, le-ltb, ltb-true, ltb-false}
 use lib.Dec.{ltb}
 use lib.ListN.{length}
-use Rattle.refusals.specs.declared.Refusal.{Refusal}
 use Rattle.refusals.specs.declared.Checked.{Checked}
 use Rattle.refusals.specs.declared.Checked.the-variants.{Accepted, Refused}
-use Rattle.refusals.specs.Refusals.{refuse, orNext, firstFrom}
+use Rattle.refusals.specs.Refusals.{refuse}
 use Rattle.refusals.specs.Tables.{short}
-use Rattle.refusals.proofs.Laws.{all-accepted}
-use Rattle.score_tables.specs.Rows.{one, four, two, sixes}
+use Rattle.refusals.proofs.Laws.{passes}
+use Rattle.score_tables.specs.Rows.{two}
 use Rattle.score_tables.specs.Sound.{LabelsIn, WordsIn, Sound}
-use Rattle.score_tables.proofs.Laws.{labels-in, words-in, all-finite}
+use Rattle.score_tables.proofs.Laws.{all-finite}
+use Rattle.score_tables.specs.Meaning.{Row}
+use Rattle.score_tables.proofs.Order.{row}
 use Rattle.sheet_bytes.specs.Fields.{labelsIn, wordsIn, transitionsIn, statesIn}
-use Rattle.sheet_check.specs.Rows.{Lent, wrongHead, wrongLength, sheetChecked}
-use Rattle.sheet.specs.Promise.{read, refused, answerBy}
+use Rattle.sheet_check.specs.Rows.{Lent, tablesShort, sheetChecked}
+use Rattle.sheet.specs.Promise.{read, answerBy}
 use Rattle.sheet_bytes.proofs.Laws.{length-numbers}
 use Rattle.sheet_check.proofs.Rows.{Accepts}
-use Rattle.sheet.proofs.Once.{same-refusal}
-use Rattle.decode_sheet.specs.Answer.{lineChecked}
-
--- a row that is only reached where the answer so far accepts
-same-row : (answer x y : Checked) (rest : List Checked) → (answer ≡ Accepted → x ≡ y) → firstFrom (orNext answer x) rest ≡ firstFrom (orNext answer y) rest
-unfolding orNext
-same-row Accepted x y rest h = ap (λ (c : Checked). firstFrom c rest) (h refl)
-same-row (Refused why) x y rest h = refl
+use Rattle.sheet_check.proofs.Meant.{same-file}
+use Rattle.decode_sheet.specs.Answer.{lineShort, lineChecked}
 
 -- the room of the tables that are lent: none for a line that is too short
 pub record Lends (room : ℕ) (before : Lent) : Type 0 where
@@ -52,18 +47,13 @@ module _ (bytes : List ℕ) (room : ℕ) (before : Lent) (lends : Lends room bef
 
   -- the reader's rows are the line's
   pub rows : sheetChecked (record { bytes = bytes }) before ≡ lineChecked bytes room
-  unfolding sheetChecked lineChecked
-  rows =
-      same-row _ _ _ (refuse 10 0 (wrongLength bytes) ∷ sixes (labelsIn bytes) (wordsIn bytes) (transitionsIn bytes) (statesIn bytes))
-      (λ h.
-      let a = all-accepted Accepted (refuse 10 0 (wrongHead bytes) ∷ one (labelsIn bytes) ∷ four (wordsIn bytes) ∷ []) h .1 in
-      two-row (labels-in (a .1 .0)) (words-in (a .1 .1 .0)))
+  rows = same-file bytes (tablesShort bytes before) (lineShort room) (λ b. two-row (b .labels) (b .words))
+
+-- 2 does not apply where the line has room for the longest
+pub line-means : (room : ℕ) → Row (lineShort room) 2 (406 ≤ room)
+line-means room = row 2 _ (λ h. ltb-false room 406 (passes 2 0 _ h)) (λ l. le-ltb room 406 l)
 
 -- ---- what the reader answers
-
-pub refused-by : (bytes : List ℕ) (c : Checked) (why : Refusal) → refused (why .number) (why .place) ≡ answerBy c bytes → c ≡ Refused why
-refused-by bytes Accepted why h = let z : _≡_ {A = ℕ} 0 1 = cc in absurd (omega arith)
-refused-by bytes (Refused other) why h = ap Refused (same-refusal other why (cc) (cc))
 
 pub record ReadBy (bytes : List ℕ) (c : Checked) (labels words : ℕ) : Type 0 where
   pub accepted : c ≡ Accepted

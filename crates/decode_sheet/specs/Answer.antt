@@ -1,14 +1,13 @@
 -- What document 01 says of a sheet's bytes: the line of its path, and the rows of refusals. Assumes nothing.
-use mathlib.Core.List.{List, _∷_}
+use mathlib.Core.List.{List}
 use Prim.Native.Nat.{ℕ}
 use Rattle.refusals.specs.declared.Checked.{Checked}
-use Rattle.refusals.specs.Refusals.{first, refuse}
+use Rattle.refusals.specs.Refusals.{refuse}
 use Rattle.refusals.specs.Tables.{short}
 use Rattle.best_path.specs.Scores.{Scores, tabled}
 use Rattle.best_path.specs.Decoded.{decodedPath, decodedSum}
-use Rattle.score_tables.specs.Rows.{one, four, sixes}
 use Rattle.sheet_bytes.specs.Fields.{labelsIn, wordsIn, transitionsIn, statesIn}
-use Rattle.sheet_check.specs.Rows.{wrongHead, wrongLength}
+use Rattle.sheet_check.specs.Rows.{fileChecked}
 use Rattle.answer_line.specs.Line.{pathLine}
 
 -- the score tables that the bytes hold
@@ -19,13 +18,10 @@ scoresIn bytes = tabled (labelsIn bytes) (transitionsIn bytes) (statesIn bytes)
 unfoldable pub pathLineOf : List ℕ → List ℕ
 pathLineOf bytes = pathLine (decodedSum (scoresIn bytes) (wordsIn bytes)) (decodedPath (scoresIn bytes) (wordsIn bytes))
 
--- "Check 10 on mark, version and the eight bytes of head, then 1, 4, then 10 on length, then 6"; 2 stands after 4, for a lent line with no room for the longest
-unfoldable pub lineChecked : List ℕ → ℕ → Checked
-lineChecked bytes room =
-    first
-    (refuse 10 0 (wrongHead bytes)
-    ∷ one (labelsIn bytes)
-    ∷ four (wordsIn bytes)
-    ∷ refuse 2 0 (short room 406)
-    ∷ refuse 10 0 (wrongLength bytes)
-    ∷ sixes (labelsIn bytes) (wordsIn bytes) (transitionsIn bytes) (statesIn bytes))
+-- 2 | "a lent buffer too short": the line has no room for the longest | 0
+abbrev pub lineShort : ℕ → Checked
+lineShort room = refuse 2 0 (short room 406)
+
+-- the rows of the file, 2 for the lent line
+abbrev pub lineChecked : List ℕ → ℕ → Checked
+lineChecked bytes room = fileChecked bytes (lineShort room)

@@ -102,11 +102,14 @@ cases =
     ∷ (train perceptron 0 1 says trained 1 1 1 (half ∷ minus half ∷ []))
     -- P10: "3 epochs: 0.75, −0.75"
     ∷ (train perceptron 0 3 says trained 3 3 1 (threeQuarters ∷ minus threeQuarters ∷ []))
-    -- P11: "PaI, C=1, no averaging, 1 epoch: 0.5, −0.5; averaging: 0.25, −0.25"
+    -- P11: "PaI, C=1, no averaging, 1 epoch: 0.5, −0.5; averaging: 0.25, −0.25", with the error-sensitive switch on and off
     ∷ (train (passive 1 (number one) true false) 0 1 says trained 1 1 1 (half ∷ minus half ∷ []))
+    ∷ (train (passive 1 (number one) false false) 0 1 says trained 1 1 1 (half ∷ minus half ∷ []))
     ∷ (train (passive 1 (number one) true true) 0 1 says trained 1 1 1 (quarter ∷ minus quarter ∷ []))
-    -- P12: "PaII, C=1, no averaging, 1 epoch: nearest to 0.4 and −0.4"
+    ∷ (train (passive 1 (number one) false true) 0 1 says trained 1 1 1 (quarter ∷ minus quarter ∷ []))
+    -- P12: "PaII, C=1, no averaging, 1 epoch: nearest to 0.4 and −0.4", with the switch on and off
     ∷ (train (passive 2 (number one) true false) 0 1 says trained 1 1 1 (twoFifths ∷ minus twoFifths ∷ []))
+    ∷ (train (passive 2 (number one) false false) 0 1 says trained 1 1 1 (twoFifths ∷ minus twoFifths ∷ []))
     -- P13: "AROW, variance 0.5, gamma 1, 1 epoch: 0.25, −0.25"
     ∷ (train (arow (number half) (number one)) 0 1 says trained 1 1 1 (quarter ∷ minus quarter ∷ []))
     -- P14: "reference 1, 100 epochs allowed: AROW runs 1, the others 100, weights 0"

@@ -61,7 +61,7 @@ pub fn run(
     let mut g = seed;
     let mut e = 0u64;
     while e < allowed {
-        g = shuffle::shuffle(g, n, order);
+        g = begin_and_end::deal(g, n, order);
         step = one_epoch::epoch(
             trainer,
             sizes,

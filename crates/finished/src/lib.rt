@@ -1,14 +1,15 @@
 // Refusal 8 of a call on a single line: the finished scores, or the finished counts, are looked at, and where one of them is not
-// finite the needed front of what was made is zero again.
+// finite the needed front of what was made is zero again. A refusal that comes before them is handed on, and leaves the buffers.
 ghost use mathlib.Core.Bool.{true};
 ghost use mathlib.Core.Path.{_≡_};
 ghost use Prim.Native.Nat.{_+_, _*_, _≤_};
 ghost use lib.ListN.{length};
-ghost use Rattle.refusals.specs.declared.Checked.the-variants.{Accepted};
+ghost use Rattle.refusals.specs.declared.Checked.the-variants.{Accepted, Refused};
 ghost use Rattle.score_tables.specs.Sound.{Sized};
 ghost use Rattle.finished.specs.Rows.{placedAfter, finishedChecked, scoresFinished};
 ghost use Rattle.finished.specs.After.{clearedWhere};
 use refusals::Checked;
+use refusals::Refusal;
 
 // Both halves of the front are finite. One comparison tells of two entries, and the loop has no way out in the middle: it costs
 // less than half of a branch at each entry.
@@ -55,7 +56,7 @@ fn check_finished(numbers: &[f64], n: usize, others: usize) -> Checked
 }
 
 // 8 of a line's scores: states, then transitions.
-pub fn check_scores(labels: u32, words: u32, states: &[f64], transitions: &[f64]) -> Checked
+pub fn check_scores(labels: u32, words: u32, transitions: &[f64], states: &[f64]) -> Checked
     requires { ⌜ Sized labels words (now transitions) (now states) ⌝ }
     ensures { λ r. ⌜ r ≡ scoresFinished labels words (now (states .entry)) (now (transitions .entry)) ⌝ }
 {
@@ -65,25 +66,43 @@ pub fn check_scores(labels: u32, words: u32, states: &[f64], transitions: &[f64]
     refusals::or_next(first, then)
 }
 
+// "After 1 to 7 .. every lent buffer holds its entry contents": a refusal that comes before a line is scored, handed on past
+// the buffers of its scores.
+pub fn refuse_scores(unscored: Refusal, states: &mut [f64], transitions: &mut [f64]) -> Checked
+    ensures { λ r. ⌜ r ≡ Refused unscored ⌝ }
+    ensures { λ _. ⌜ now (states .exit) ≡ now (states .entry) ⌝ }
+    ensures { λ _. ⌜ now (transitions .exit) ≡ now (transitions .entry) ⌝ }
+{
+    Checked::Refused(unscored)
+}
+
 // 8 of a line's scores, which are cleared where it is given.
 pub fn finish_scores(
     labels: u32,
     words: u32,
-    states: &mut [f64],
     transitions: &mut [f64],
+    states: &mut [f64],
 ) -> Checked
     requires { ⌜ Sized labels words (now transitions) (now states) ⌝ }
     ensures { λ r. ⌜ r ≡ scoresFinished labels words (now (states .entry)) (now (transitions .entry)) ⌝ }
-    ensures { λ r. ⌜ now (states .exit) ≡ clearedWhere r (words * labels) (now (states .entry)) ⌝ }
     ensures { λ r. ⌜ now (transitions .exit) ≡ clearedWhere r (labels * labels) (now (transitions .entry)) ⌝ }
+    ensures { λ r. ⌜ now (states .exit) ≡ clearedWhere r (words * labels) (now (states .entry)) ⌝ }
 {
-    let finished = check_scores(labels, words, states, transitions);
+    let finished = check_scores(labels, words, transitions, states);
     if let Checked::Refused(why) = finished {
         lines::clear_front(states, score_tables::entries(words, labels));
         lines::clear_front(transitions, score_tables::entries(labels, labels));
         return Checked::Refused(why);
     }
     Checked::Accepted
+}
+
+// The same for a refusal that comes before features are counted.
+pub fn refuse_counts(uncounted: Refusal, counts: &mut [f64]) -> Checked
+    ensures { λ r. ⌜ r ≡ Refused uncounted ⌝ }
+    ensures { λ _. ⌜ now (counts .exit) ≡ now (counts .entry) ⌝ }
+{
+    Checked::Refused(uncounted)
 }
 
 // 8 of feature counts, which are cleared where it is given.

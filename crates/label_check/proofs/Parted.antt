@@ -41,15 +41,15 @@ module _ (given : Given) (path : ℕ) where
     weights = given .weights;
     words = given .words;
     line = given .line;
-    states = 4096;
     transitions = 1024;
+    states = 4096;
   }
 
   abbrev tables : List Limit
   tables = modelLimits (given .model) ++ weightLimits (given .model) (given .weights) ++ lineLimits (given .words) (given .line)
 
   abbrev scores : List Limit
-  scores = scoreLimits (given .model .labels) (given .words) 4096 1024
+  scores = scoreLimits (given .model .labels) (given .words) 1024 4096
 
   abbrev bounds : Checked
   bounds = boundsChecked (given .model .labels) (given .words)
@@ -61,7 +61,7 @@ module _ (given : Given) (path : ℕ) where
       let b = both (one (given .model .labels)) (four (given .words)) h in
       let l = labels-in (b .0) in
       let w = words-in (b .1) in
-      rw (le-ltb 4096 (given .words * given .model .labels) (mul-le-mul (w .high) (l .high)), le-ltb 1024 (given .model .labels * given .model .labels) (mul-le-mul (l .high) (l .high)))
+      rw (le-ltb 1024 (given .model .labels * given .model .labels) (mul-le-mul (l .high) (l .high)), le-ltb 4096 (given .words * given .model .labels) (mul-le-mul (w .high) (l .high)))
 
   limits-parted : bounds ≡ Accepted → anyBroken (labelLimits given path) ≡ (short path (given .words) || anyBroken (scoringLimits own))
   limits-parted h =

@@ -49,8 +49,8 @@ pub fn check_line(
         begins,
         ids,
         values,
-        MOST_STATES,
         MOST_TRANSITIONS,
+        MOST_STATES,
     );
     refusals::or_next(room, scoring)
 }

@@ -20,12 +20,12 @@ pub extern "C" fn bodkinbloom_label_line(
     label_entries: &[u32],
     words: u32,
     attributes: u32,
-    begins: &[u32],
+    word_starts: &[u32],
     ids: &[u32],
     values: &[f64],
     path: &mut [u32],
 ) -> Decoded
-    ensures { λ r. ⌜ Labels (record { model = modelOf labels counts (now (kinds .entry)) (now (destinations .entry)) (now (sources .entry)) (now («attribute_starts» .entry)) (now («attribute_entries» .entry)) (now («label_starts» .entry)) (now («label_entries» .entry)); weights = now (weights .entry); words = words; line = record { starts = now (begins .entry); size = attributes; ids = now (ids .entry); values = now (values .entry) } }) (now (path .entry)) (record { answer = r; path = now (path .exit) }) ⌝ }
+    ensures { λ r. ⌜ Labels (record { model = modelOf labels counts (now (kinds .entry)) (now (destinations .entry)) (now (sources .entry)) (now («attribute_starts» .entry)) (now («attribute_entries» .entry)) (now («label_starts» .entry)) (now («label_entries» .entry)); weights = now (weights .entry); words = words; line = record { starts = now («word_starts» .entry); size = attributes; ids = now (ids .entry); values = now (values .entry) } }) (now (path .entry)) (record { answer = r; path = now (path .exit) }) ⌝ }
 {
     let answer = label_line::label_line(
         labels,
@@ -40,7 +40,7 @@ pub extern "C" fn bodkinbloom_label_line(
         label_starts,
         label_entries,
         attributes,
-        begins,
+        word_starts,
         ids,
         values,
         path,

@@ -24,7 +24,7 @@ module _ (given : Given) (lent : Buffers) {states transitions : List Float} (p :
   transitions-are = rw q (take-at (transitionsOfLine given) _ (transitionEntries given) (length-transitions (given .model) (given .weights)))
 
   -- so what they give is the labelling
-  pub finished-labelled : (before : List ℕ) (answer : Decoding) {after : List ℕ} → Finished (given .model .labels) (given .words) states transitions before answer after → Labelled given before (record { answer = answer; path = after })
+  pub finished-labelled : (before : List ℕ) (answer : Decoding) {after : List ℕ} → Finished (given .model .labels) (given .words) transitions states before answer after → Labelled given before (record { answer = answer; path = after })
   finished-labelled before answer f =
       let e = finished-is given lent p q in
       record {

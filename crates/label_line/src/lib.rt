@@ -27,11 +27,11 @@ fn label_accepted(
     begins: &[u32],
     ids: &[u32],
     values: &[f64],
-    states: &mut [f64],
     transitions: &mut [f64],
+    states: &mut [f64],
     path: &mut [u32],
 ) -> Decoding
-    requires { ⌜ SoundScoring (record { model = modelOf labels counts (now kinds) (now destinations) (now sources) (now «attribute_starts») (now «attribute_entries») (now «label_starts») (now «label_entries»); weights = now weights; words = words; line = record { starts = now begins; size = attributes; ids = now ids; values = now values }; states = length (now states); transitions = length (now transitions) }) ⌝ }
+    requires { ⌜ SoundScoring (record { model = modelOf labels counts (now kinds) (now destinations) (now sources) (now «attribute_starts») (now «attribute_entries») (now «label_starts») (now «label_entries»); weights = now weights; words = words; line = record { starts = now begins; size = attributes; ids = now ids; values = now values }; transitions = length (now transitions); states = length (now states) }) ⌝ }
     requires { ⌜ words ≤ length (now path) ⌝ }
     ensures { λ r. ⌜ Labelled (record { model = modelOf labels counts (now (kinds .entry)) (now (destinations .entry)) (now (sources .entry)) (now («attribute_starts» .entry)) (now («attribute_entries» .entry)) (now («label_starts» .entry)) (now («label_entries» .entry)); weights = now (weights .entry); words = words; line = record { starts = now (begins .entry); size = attributes; ids = now (ids .entry); values = now (values .entry) } }) (now (path .entry)) (record { answer = r; path = now (path .exit) }) ⌝ }
 {
@@ -51,10 +51,10 @@ fn label_accepted(
         begins,
         ids,
         values,
-        states,
         transitions,
+        states,
     );
-    decode_scores::decode_scores(labels, words, states, transitions, path)
+    decode_scores::decode_scores(labels, words, transitions, states, path)
 }
 
 // The labels of a line, at the front of `path`, with the sum and the lead; or the refusal.
@@ -99,8 +99,8 @@ pub fn label_line(
     if let Checked::Refused(why) = checked {
         return Decoding::Refused(why);
     }
-    let mut states = [0.0; MOST_STATES];
     let mut transitions = [0.0; MOST_TRANSITIONS];
+    let mut states = [0.0; MOST_STATES];
     label_accepted(
         labels,
         words,
@@ -117,8 +117,8 @@ pub fn label_line(
         begins,
         ids,
         values,
-        &mut states,
         &mut transitions,
+        &mut states,
         path,
     )
 }

@@ -42,7 +42,7 @@ module _ (s : Scoring) where
   line = lineLimits (s .words) (s .line)
 
   abbrev scores : List Limit
-  scores = scoreLimits (s .model .labels) (s .words) (s .states) (s .transitions)
+  scores = scoreLimits (s .model .labels) (s .words) (s .transitions) (s .states)
 
   -- sizes that are tested part by part
   pub scoring-sized : sizesTested (s .model .labels) (s .words) (anyBroken tables || anyBroken line || anyBroken scores) ≡ scoringSized s
@@ -74,8 +74,8 @@ module _ (s : Scoring) where
         model = sized (s .model) (t .0);
         weights = t .1 .0;
         line = line-sized (s .words) (s .line) (q .1);
-        states = p .1 .0;
-        transitions = p .1 .1 .0;
+        transitions = p .1 .0;
+        states = p .1 .1 .0;
       }
 
   pub scoring-fits : (r : Checked) → r ≡ scoringSized s → r ≡ Accepted → ScoringFits s

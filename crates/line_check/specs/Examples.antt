@@ -25,8 +25,8 @@ scored entries words id value states = record {
   weights = nought ∷ nought ∷ [];
   words = words;
   line = record { starts = 0 ∷ 1 ∷ []; size = 1; ids = id ∷ []; values = value ∷ [] };
-  states = states;
   transitions = 4;
+  states = states;
 }
 
 accepted : scoringChecked (scored (0 ∷ []) 1 0 nought 2) ≡ Accepted

@@ -18,8 +18,8 @@ pub record Scoring : Type 0 where
   pub weights : List Float
   pub words : ℕ
   pub line : Words
-  pub states : ℕ
   pub transitions : ℕ
+  pub states : ℕ
 
 -- what a call that counts features is given: a label for each word, and how long the buffer for the counts is; "Feature counts .. are lent no weight table"
 pub record Counting : Type 0 where
@@ -44,11 +44,11 @@ lineLimits words line =
     ∷ room (length (line .values)) (line .size)
     ∷ []
 
--- the buffers for the scores: T·L states, L·L transitions
+-- the buffers for the scores: L·L transitions, T·L states
 abbrev pub scoreLimits : ℕ → ℕ → ℕ → ℕ → List Limit
-scoreLimits labels words states transitions =
-    room states (words * labels)
-    ∷ room transitions (labels * labels)
+scoreLimits labels words transitions states =
+    room transitions (labels * labels)
+    ∷ room states (words * labels)
     ∷ []
 
 abbrev pub scoringLimits : Scoring → List Limit
@@ -56,7 +56,7 @@ scoringLimits s =
     modelLimits (s .model)
     ++ weightLimits (s .model) (s .weights)
     ++ lineLimits (s .words) (s .line)
-    ++ scoreLimits (s .model .labels) (s .words) (s .states) (s .transitions)
+    ++ scoreLimits (s .model .labels) (s .words) (s .transitions) (s .states)
 
 -- the labels, and the buffer for the counts
 abbrev pub countLimits : Counting → List Limit

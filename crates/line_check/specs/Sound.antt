@@ -28,8 +28,8 @@ pub record ScoringFits (s : Scoring) : Type 0 where
   pub model : Sized (s .model)
   pub weights : s .model .features .count ≤ length (s .weights)
   pub line : LineSized (s .words) (s .line)
-  pub states : s .words * s .model .labels ≤ s .states
   pub transitions : s .model .labels * s .model .labels ≤ s .transitions
+  pub states : s .words * s .model .labels ≤ s .states
 
 pub record CountingFits (c : Counting) : Type 0 where
   pub model : Sized (c .model)

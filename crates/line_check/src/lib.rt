@@ -27,11 +27,11 @@ pub fn exceeds(words: u32, attributes: u32, begins: &[u32], ids: &[u32], values:
 }
 
 // 2: whether a buffer for the scores of a line is too short.
-fn exceeds_scores(labels: u32, words: u32, states: usize, transitions: usize) -> bool
-    ensures { λ r. ⌜ r ≡ anyBroken (scoreLimits labels words states transitions) ⌝ }
+fn exceeds_scores(labels: u32, words: u32, transitions: usize, states: usize) -> bool
+    ensures { λ r. ⌜ r ≡ anyBroken (scoreLimits labels words transitions states) ⌝ }
 {
-    (states < score_tables::entries(words, labels))
-        | (transitions < score_tables::entries(labels, labels))
+    (transitions < score_tables::entries(labels, labels))
+        | (states < score_tables::entries(words, labels))
 }
 
 // 1, 4 and 2, the last where the sizes that a call looks at are outside.
@@ -39,7 +39,8 @@ fn check_sizes(labels: u32, words: u32, outside: bool) -> Checked
     ensures { λ r. ⌜ r ≡ sizesTested labels words outside ⌝ }
 {
     let bounds = score_tables::check_bounds(labels, words);
-    refusals::refuse_if(bounds, 2, 0, outside)
+    let sizes = refusals::refuse_if(Checked::Accepted, 2, 0, outside);
+    refusals::or_next(bounds, sizes)
 }
 
 // 3 and 5 for the model's tables, with the line's starts between.
@@ -84,10 +85,10 @@ fn scoring_sizes(
     begins: &[u32],
     ids: &[u32],
     values: &[f64],
-    states: usize,
     transitions: usize,
+    states: usize,
 ) -> Checked
-    ensures { λ r. ⌜ r ≡ scoringSized (record { model = modelOf labels counts (now (kinds .entry)) (now (destinations .entry)) (now (sources .entry)) (now («attribute_starts» .entry)) (now («attribute_entries» .entry)) (now («label_starts» .entry)) (now («label_entries» .entry)); weights = now (weights .entry); words = words; line = record { starts = now (begins .entry); size = attributes; ids = now (ids .entry); values = now (values .entry) }; states = states; transitions = transitions }) ⌝ }
+    ensures { λ r. ⌜ r ≡ scoringSized (record { model = modelOf labels counts (now (kinds .entry)) (now (destinations .entry)) (now (sources .entry)) (now («attribute_starts» .entry)) (now («attribute_entries» .entry)) (now («label_starts» .entry)) (now («label_entries» .entry)); weights = now (weights .entry); words = words; line = record { starts = now (begins .entry); size = attributes; ids = now (ids .entry); values = now (values .entry) }; transitions = transitions; states = states }) ⌝ }
 {
     let model = feature_gen::exceeds(
         counts,
@@ -101,7 +102,7 @@ fn scoring_sizes(
     );
     let short = weights.len() < counts.features as usize;
     let line = exceeds(words, attributes, begins, ids, values);
-    let scores = exceeds_scores(labels, words, states, transitions);
+    let scores = exceeds_scores(labels, words, transitions, states);
     check_sizes(labels, words, model | short | line | scores)
 }
 
@@ -122,10 +123,10 @@ pub fn check_scoring(
     begins: &[u32],
     ids: &[u32],
     values: &[f64],
-    states: usize,
     transitions: usize,
+    states: usize,
 ) -> Checked
-    ensures { λ r. ⌜ r ≡ scoringChecked (record { model = modelOf labels counts (now (kinds .entry)) (now (destinations .entry)) (now (sources .entry)) (now («attribute_starts» .entry)) (now («attribute_entries» .entry)) (now («label_starts» .entry)) (now («label_entries» .entry)); weights = now (weights .entry); words = words; line = record { starts = now (begins .entry); size = attributes; ids = now (ids .entry); values = now (values .entry) }; states = states; transitions = transitions }) ⌝ }
+    ensures { λ r. ⌜ r ≡ scoringChecked (record { model = modelOf labels counts (now (kinds .entry)) (now (destinations .entry)) (now (sources .entry)) (now («attribute_starts» .entry)) (now («attribute_entries» .entry)) (now («label_starts» .entry)) (now («label_entries» .entry)); weights = now (weights .entry); words = words; line = record { starts = now (begins .entry); size = attributes; ids = now (ids .entry); values = now (values .entry) }; transitions = transitions; states = states }) ⌝ }
 {
     let sizes = scoring_sizes(
         labels,
@@ -143,8 +144,8 @@ pub fn check_scoring(
         begins,
         ids,
         values,
-        states,
         transitions,
+        states,
     );
     if let Checked::Refused(why) = sizes {
         return Checked::Refused(why);

@@ -8,16 +8,21 @@ ghost use Rattle.lines.specs.Passes.{nought};
 ghost use Rattle.training.specs.Data.{whole};
 ghost use Rattle.training.specs.Rules.{stepOf, _⊕_, _⊖_};
 
-// How far the predicted path's score is above the true one's, and the root of the number of wrong labels or 1.
+// What is asked of the true path beside the predicted one's score: the root of the number of wrong labels where the switch is
+// on, else 1.
+fn margin(sensitive: bool, wrong: u32) -> f64
+    requires { ⌜ wrong ≤ 128 ⌝ }
+    ensures { λ r. ⌜ r ≡ cond sensitive (nearestRoot wrong) (whole 1) ⌝ }
+{
+    if sensitive { roots::root(wrong) } else { 1.0 }
+}
+
+// How far the predicted path's score is above the true one's, and the margin.
 pub fn cost_of(sensitive: bool, wrong: u32, reached: f64, wanted: f64) -> f64
     requires { ⌜ wrong ≤ 128 ⌝ }
     ensures { λ r. ⌜ r ≡ (reached ⊖ wanted) ⊕ cond sensitive (nearestRoot wrong) (whole 1) ⌝ }
 {
-    if sensitive {
-        reached - wanted + roots::root(wrong)
-    } else {
-        reached - wanted + 1.0
-    }
+    reached - wanted + margin(sensitive, wrong)
 }
 
 // The step by its variant: 0 Pa, 1 PaI, 2 PaII.

@@ -38,9 +38,14 @@ finished-is given before p q =
     (length-transitions (given .model) (given .weights)))
 
 -- a refusal beforehand leaves the buffers
-pub refused-kept : (given : Given) (before : Buffers) (why : Refusal) → checkedOf given before ≡ Refused why → Promised given before (record { answer = Refused why; states = before .states; transitions = before .transitions })
+pub refused-kept : (given : Given) (before : Buffers) {answer : Checked} {states transitions : List Float} (why : Refusal) →
+    checkedOf given before ≡ Refused why →
+    answer ≡ Refused why →
+    states ≡ before .states →
+    transitions ≡ before .transitions →
+    Promised given before (record { answer = answer; states = states; transitions = transitions })
 unfolding answerTo statesAfter transitionsAfter orNext
-refused-kept given before why h = record { answers = rw h; states = rw h; transitions = rw h }
+refused-kept given before why h e p q = record { answers = rw (h, e); states = rw h p; transitions = rw h q }
 
 -- the scores were made, and cleared where 8 is given
 module _ (given : Given) (before : Buffers) (accepted : checkedOf given before ≡ Accepted) where

@@ -23,14 +23,14 @@ pub record Given : Type 0 where
 
 -- the buffers that it is lent
 pub record Buffers : Type 0 where
-  pub states : List Float
   pub transitions : List Float
+  pub states : List Float
 
 -- the answer, and what the buffers hold afterwards
 pub record Outcome : Type 0 where
   pub answer : Checked
-  pub states : List Float
   pub transitions : List Float
+  pub states : List Float
 
 -- how many entries are needed: T·L states, L·L transitions
 abbrev pub stateEntries : Given → ℕ
@@ -53,8 +53,8 @@ scoringOf given before = record {
   weights = given .weights;
   words = given .words;
   line = given .line;
-  states = length (before .states);
   transitions = length (before .transitions);
+  states = length (before .states);
 }
 
 abbrev pub checkedOf : Given → Buffers → Checked
@@ -78,8 +78,8 @@ transitionsAfter given before =
 -- the promise
 pub record Promised (given : Given) (before : Buffers) (outcome : Outcome) : Type 0 where
   pub answers : saidOf (outcome .answer) ≡ answerTo given before
-  pub states : outcome .states ≡ statesAfter given before
   pub transitions : outcome .transitions ≡ transitionsAfter given before
+  pub states : outcome .states ≡ statesAfter given before
 
 -- no two different outcomes satisfy one promise; proved in proofs/Unique
 abbrev pub OnlyOne : Type 0

@@ -27,12 +27,12 @@ pub fn fill_scores(
     begins: &[u32],
     ids: &[u32],
     values: &[f64],
-    states: &mut [f64],
     transitions: &mut [f64],
+    states: &mut [f64],
 )
-    requires { ⌜ SoundScoring (record { model = modelOf labels counts (now kinds) (now destinations) (now sources) (now «attribute_starts») (now «attribute_entries») (now «label_starts») (now «label_entries»); weights = now weights; words = words; line = record { starts = now begins; size = attributes; ids = now ids; values = now values }; states = length (now states); transitions = length (now transitions) }) ⌝ }
-    ensures { λ _. ⌜ now (states .exit) ≡ statesOfLine (record { model = modelOf labels counts (now (kinds .entry)) (now (destinations .entry)) (now (sources .entry)) (now («attribute_starts» .entry)) (now («attribute_entries» .entry)) (now («label_starts» .entry)) (now («label_entries» .entry)); weights = now (weights .entry); words = words; line = record { starts = now (begins .entry); size = attributes; ids = now (ids .entry); values = now (values .entry) } }) ++ drop (words * labels) (now (states .entry)) ⌝ }
+    requires { ⌜ SoundScoring (record { model = modelOf labels counts (now kinds) (now destinations) (now sources) (now «attribute_starts») (now «attribute_entries») (now «label_starts») (now «label_entries»); weights = now weights; words = words; line = record { starts = now begins; size = attributes; ids = now ids; values = now values }; transitions = length (now transitions); states = length (now states) }) ⌝ }
     ensures { λ _. ⌜ now (transitions .exit) ≡ transitionsOfLine (record { model = modelOf labels counts (now (kinds .entry)) (now (destinations .entry)) (now (sources .entry)) (now («attribute_starts» .entry)) (now («attribute_entries» .entry)) (now («label_starts» .entry)) (now («label_entries» .entry)); weights = now (weights .entry); words = words; line = record { starts = now (begins .entry); size = attributes; ids = now (ids .entry); values = now (values .entry) } }) ++ drop (labels * labels) (now (transitions .entry)) ⌝ }
+    ensures { λ _. ⌜ now (states .exit) ≡ statesOfLine (record { model = modelOf labels counts (now (kinds .entry)) (now (destinations .entry)) (now (sources .entry)) (now («attribute_starts» .entry)) (now («attribute_entries» .entry)) (now («label_starts» .entry)) (now («label_entries» .entry)); weights = now (weights .entry); words = words; line = record { starts = now (begins .entry); size = attributes; ids = now (ids .entry); values = now (values .entry) } }) ++ drop (words * labels) (now (states .entry)) ⌝ }
 {
     let width = labels as usize;
     let features = counts.features as usize;
@@ -66,7 +66,7 @@ pub fn fill_scores(
     );
 }
 
-// The state and transition scores of a line, in the fronts of `states` and `transitions`; or the refusal.
+// The transition and state scores of a line, in the fronts of `transitions` and `states`; or the refusal.
 pub fn compute_scores(
     labels: u32,
     words: u32,
@@ -83,10 +83,10 @@ pub fn compute_scores(
     begins: &[u32],
     ids: &[u32],
     values: &[f64],
-    states: &mut [f64],
     transitions: &mut [f64],
+    states: &mut [f64],
 ) -> Checked
-    ensures { λ r. ⌜ Promised (record { model = modelOf labels counts (now (kinds .entry)) (now (destinations .entry)) (now (sources .entry)) (now («attribute_starts» .entry)) (now («attribute_entries» .entry)) (now («label_starts» .entry)) (now («label_entries» .entry)); weights = now (weights .entry); words = words; line = record { starts = now (begins .entry); size = attributes; ids = now (ids .entry); values = now (values .entry) } }) (record { states = now (states .entry); transitions = now (transitions .entry) }) (record { answer = r; states = now (states .exit); transitions = now (transitions .exit) }) ⌝ }
+    ensures { λ r. ⌜ Promised (record { model = modelOf labels counts (now (kinds .entry)) (now (destinations .entry)) (now (sources .entry)) (now («attribute_starts» .entry)) (now («attribute_entries» .entry)) (now («label_starts» .entry)) (now («label_entries» .entry)); weights = now (weights .entry); words = words; line = record { starts = now (begins .entry); size = attributes; ids = now (ids .entry); values = now (values .entry) } }) (record { transitions = now (transitions .entry); states = now (states .entry) }) (record { answer = r; transitions = now (transitions .exit); states = now (states .exit) }) ⌝ }
 {
     let checked = line_check::check_scoring(
         labels,
@@ -104,11 +104,11 @@ pub fn compute_scores(
         begins,
         ids,
         values,
-        states.len(),
         transitions.len(),
+        states.len(),
     );
     if let Checked::Refused(why) = checked {
-        return Checked::Refused(why);
+        return finished::refuse_scores(why, states, transitions);
     }
     fill_scores(
         labels,
@@ -126,9 +126,9 @@ pub fn compute_scores(
         begins,
         ids,
         values,
-        states,
         transitions,
+        states,
     );
-    let finished = finished::finish_scores(labels, words, states, transitions);
+    let finished = finished::finish_scores(labels, words, transitions, states);
     finished
 }

@@ -9,11 +9,11 @@ use Rattle.answers.specs.Numbers.{numbers}
 -- the answer, and what the lent buffers hold afterwards
 pub record Outcome : Type 0 where
   pub answer : Refused
-  pub states : List Float
   pub transitions : List Float
+  pub states : List Float
 
 -- the promise of a scored line
 pub record Scores (given : Given) (before : Buffers) (outcome : Outcome) : Type 0 where
   pub answers : outcome .answer ≡ numbers (answerTo given before)
-  pub states : outcome .states ≡ statesAfter given before
   pub transitions : outcome .transitions ≡ transitionsAfter given before
+  pub states : outcome .states ≡ statesAfter given before

@@ -4,7 +4,7 @@ ghost use Rattle.scoring_exports.specs.Scores.{Scores};
 use answers::checks::Refused;
 use feature_gen::Counts;
 
-// The state and transition scores of a line, in the fronts of `states` and `transitions`.
+// The transition and state scores of a line, in the fronts of `transitions` and `states`.
 #[no_mangle]
 pub extern "C" fn bodkinbloom_compute_scores(
     labels: u32,
@@ -19,13 +19,13 @@ pub extern "C" fn bodkinbloom_compute_scores(
     label_entries: &[u32],
     words: u32,
     attributes: u32,
-    begins: &[u32],
+    word_starts: &[u32],
     ids: &[u32],
     values: &[f64],
-    states: &mut [f64],
     transitions: &mut [f64],
+    states: &mut [f64],
 ) -> Refused
-    ensures { λ r. ⌜ Scores (record { model = modelOf labels counts (now (kinds .entry)) (now (destinations .entry)) (now (sources .entry)) (now («attribute_starts» .entry)) (now («attribute_entries» .entry)) (now («label_starts» .entry)) (now («label_entries» .entry)); weights = now (weights .entry); words = words; line = record { starts = now (begins .entry); size = attributes; ids = now (ids .entry); values = now (values .entry) } }) (record { states = now (states .entry); transitions = now (transitions .entry) }) (record { answer = r; states = now (states .exit); transitions = now (transitions .exit) }) ⌝ }
+    ensures { λ r. ⌜ Scores (record { model = modelOf labels counts (now (kinds .entry)) (now (destinations .entry)) (now (sources .entry)) (now («attribute_starts» .entry)) (now («attribute_entries» .entry)) (now («label_starts» .entry)) (now («label_entries» .entry)); weights = now (weights .entry); words = words; line = record { starts = now («word_starts» .entry); size = attributes; ids = now (ids .entry); values = now (values .entry) } }) (record { transitions = now (transitions .entry); states = now (states .entry) }) (record { answer = r; transitions = now (transitions .exit); states = now (states .exit) }) ⌝ }
 {
     let answer = scoring::compute_scores(
         labels,
@@ -40,11 +40,11 @@ pub extern "C" fn bodkinbloom_compute_scores(
         label_starts,
         label_entries,
         attributes,
-        begins,
+        word_starts,
         ids,
         values,
-        states,
         transitions,
+        states,
     );
     answers::checks::numbers_of_check(answer)
 }

@@ -4,3 +4,4 @@ pub mod Kept
 pub mod Once
 pub mod Little
 pub mod Files
+pub mod Meant

@@ -7,6 +7,7 @@ use lib.ListN.{length, getD}
 use lib.Ieee.{Float, nan, binary64, fits, toBits}
 use lib.Ieee.Scale.{finite}
 use Rattle.score_tables.specs.Sound.{LabelsIn, WordsIn}
+use Rattle.sheet_bytes.specs.Fields.{mark}
 
 -- L, T and the two tables
 pub record Sheet : Type 0 where
@@ -24,10 +25,6 @@ littleEndian (suc size) n = n % 256 ∷ littleEndian size (n / 256)
 unfoldable pub numbers : List Float → List ℕ
 numbers [] = []
 numbers (x ∷ rest) = littleEndian 8 (toBits binary64 x) ++ numbers rest
-
--- "Bytes `TLG`"
-abbrev pub mark : List ℕ
-mark = 84 ∷ 76 ∷ 71 ∷ []
 
 -- "Bytes `TLG`, version 1 as 16 bits, L as one byte, T as 16 bits, transitions, states as binary64, all little-endian, nothing after"
 unfoldable pub encoded : Sheet → List ℕ

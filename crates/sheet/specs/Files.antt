@@ -1,11 +1,13 @@
 -- What `read_sheet` accepts: exactly the files of sound sheets, with their own tables. What is claimed; the proof is in proofs/Files.
 use mathlib.Core.Path.{_≡_}
 use mathlib.Core.List.{List, _++_}
+use mathlib.Core.Logic.{_↔_}
 use Prim.Native.Nat.{ℕ, _<_}
 use lib.ListN.{length, getD, drop}
 use Rattle.score_tables.specs.Sound.{Room}
 use Rattle.sheet_bytes.specs.Fields.{labelsIn, wordsIn, transitionsIn, statesIn}
 use Rattle.sheet_check.specs.Rows.{Given, Lent}
+use Rattle.sheet_check.specs.Meaning.{RightFile}
 use Rattle.sheet.specs.File.{Sheet, encoded, Sound}
 use Rattle.sheet.specs.Promise.{Outcome, said, read, Promised}
 
@@ -25,6 +27,10 @@ pub record Bytes (bytes : List ℕ) : Type 0 where
 -- there is room for the tables of a sheet
 abbrev pub RoomFor : Sheet → Lent → Type 0
 RoomFor s before = Room (s .labels) (s .words) (before .transitions) (before .states)
+
+-- bytes in which nothing is refused are the file of a sound sheet, and the other way round
+abbrev pub RightFilesAreSheets : Type 0
+RightFilesAreSheets = (bytes : List ℕ) → Bytes bytes → RightFile bytes ↔ ((s : Sheet) × Sound s × (bytes ≡ encoded s))
 
 -- what is read from the file of a sheet: L, T, and its tables in front of the lent ones' tails
 pub record ReadFrom (s : Sheet) (before : Lent) (outcome : Outcome) : Type 0 where

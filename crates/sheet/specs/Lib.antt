@@ -3,3 +3,4 @@ pub mod Promise
 pub mod Files
 pub mod Steps
 pub mod Examples
+pub mod Meaning

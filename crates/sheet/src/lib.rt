@@ -38,9 +38,13 @@ pub fn read_sheet(bytes: &[u8], transitions: &mut [f64], states: &mut [f64]) -> 
     }
     let labels = sheet_bytes::labels_in(bytes);
     let words = sheet_bytes::words_in(bytes);
-    let size = entries(labels, labels);
-    read_part(bytes, 8, size, transitions);
-    read_part(bytes, 8 + 8 * size, entries(words, labels), states);
+    read_part(bytes, 8, entries(labels, labels), transitions);
+    read_part(
+        bytes,
+        sheet_bytes::states_from(bytes),
+        entries(words, labels),
+        states,
+    );
     Reading::Read {
         labels: labels,
         words: words,

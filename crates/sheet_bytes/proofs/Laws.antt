@@ -3,6 +3,7 @@ use mathlib.Core.Path.{_≡_, refl, _∙_, ap}
 use mathlib.Core.Bool.{Bool, not}
 use mathlib.Core.List.{List}
 use Prim.Native.Nat.{ℕ, zero, suc, _+_, _*_, _<_, _≤_}
+use native.Mathlib.Nat.{mul-le-mul}
 use native.Mathlib.Numerals.{add-one}
 use native.Mathlib.Omega.{arith}
 use lib.ListN.{length, getD, take, drop}
@@ -61,3 +62,12 @@ number-at bytes at n i h = number-in n (drop at bytes) i h ∙ rw (drop-drop (8 
 -- the finite test of its pattern
 pub tested : {w : ℕ} {r : Bool} (bytes : List ℕ) (at n i : ℕ) → i < n → w ≡ valueOf (take 8 (drop (at + 8 * i) bytes)) → r ≡ finite (ofBits binary64 w) → notFinite (numbersIn n (drop at bytes)) i ≡ not r
 tested bytes at n i h e f = rw (number-at bytes at n i h, ← e, f)
+
+-- ---- sizes
+
+-- the two tables, whatever the bytes say of L and T
+pub small-sizes : {labels words : ℕ} → labels < 256 → words < 65536 → labels * labels + words * labels ≤ 16842240
+small-sizes {labels} {words} l w =
+    let p : labels ≤ 255 = omega arith in
+    let q : words ≤ 65535 = omega arith in
+    omega (arith, mul-le-mul p p, mul-le-mul q p)

@@ -14,6 +14,10 @@ unfoldable pub numbersIn : ℕ → List ℕ → List Float
 numbersIn zero bytes = []
 numbersIn (suc n) bytes = ofBits binary64 (valueOf (take 8 bytes)) ∷ numbersIn n (drop 8 bytes)
 
+-- "Bytes `TLG`"
+abbrev pub mark : List ℕ
+mark = 84 ∷ 76 ∷ 71 ∷ []
+
 -- the head: "version .. as 16 bits, L as one byte, T as 16 bits"
 abbrev pub versionIn : List ℕ → ℕ
 versionIn bytes = getD bytes 3 0 + 256 * getD bytes 4 0

@@ -1,24 +1,20 @@
 -- The rows of the sheet as the inner functions take them, and what a sheet that they accept gives. Assumes nothing.
-use mathlib.Core.Path.{_≡_, refl, sym, _∙_}
-use mathlib.Core.Bool.{Bool, false, not, _||_}
-use mathlib.Core.List.{List, [], _∷_}
-use Prim.Native.Nat.{ℕ, _+_, _*_, _<_, _≤_}
-use native.Mathlib.Nat.{mul-le-mul}
-use native.Mathlib.Omega.{arith}
-use borrow.Author.Tests.{lt-ltb, le-ltb, ltb-false, eqb-true, not-false}
-use lib.Dec.{eqb}
-use lib.ListN.{length, getD}
+use mathlib.Core.Path.{_≡_, refl, sym, _∙_, ap}
+use mathlib.Core.List.{List, [], _∷_, _++_}
+use Prim.Native.Nat.{ℕ, _*_, _≤_}
+use borrow.Author.Tests.{ltb-false, eqb-true, not-false}
+use lib.ListN.{length}
 use Rattle.refusals.specs.declared.Refusal.{Refusal}
 use Rattle.refusals.specs.declared.Checked.{Checked}
 use Rattle.refusals.specs.declared.Checked.the-variants.{Accepted, Refused}
-use Rattle.refusals.specs.Refusals.{refusedAt, refuse, orNext}
+use Rattle.refusals.specs.Refusals.{refuse, orNext, first}
 use Rattle.refusals.specs.Tables.{numbersChecked}
 use Rattle.refusals.proofs.Laws.{settled, both, all-accepted, neither, passes}
-use Rattle.score_tables.specs.Rows.{one, four, two, sixes, boundsChecked}
+use Rattle.score_tables.specs.Rows.{one, four, boundsChecked}
 use Rattle.score_tables.specs.Sound.{Sized}
 use Rattle.score_tables.proofs.Laws.{sized}
-use Rattle.sheet_bytes.specs.Fields.{versionIn, labelsIn, wordsIn, wholeLength, transitionsIn, statesIn}
-use Rattle.sheet_check.specs.Rows.{Lent, wrongHead, wrongLength, sheetChecked, headChecked, sizesChecked}
+use Rattle.sheet_bytes.specs.Fields.{labelsIn, wordsIn, wholeLength, transitionsIn, statesIn}
+use Rattle.sheet_check.specs.Rows.{Lent, wrongHead, wrongLength, headRows, sizeRows, entryRows, sizesChecked, fileChecked, tablesShort, sheetChecked}
 
 -- the answer so far, then two checks that were put together
 pub together : (answer check next : Checked) → orNext answer (orNext check next) ≡ orNext (orNext answer check) next
@@ -26,78 +22,50 @@ unfolding orNext
 together Accepted check next = refl
 together (Refused why) check next = refl
 
-module _ (bytes : List ℕ) where
-  -- fewer than eight bytes
-  pub short-head : length bytes < 8 → refusedAt 10 0 ≡ headChecked bytes
-  unfolding headChecked refuse orNext
-  short-head h = rw (lt-ltb (length bytes) 8 h)
+-- a head that is accepted has its eight bytes
+long-head : (bytes : List ℕ) → refuse 10 0 (wrongHead bytes) ≡ Accepted → 8 ≤ length bytes
+long-head bytes h = ltb-false (length bytes) 8 (neither _ _ (neither _ _ (neither _ _ (neither _ _ (passes 10 0 (wrongHead bytes) h) .0) .0) .0) .0)
 
-  -- the tests of what stands in eight bytes
-  abbrev pub wrongBytes : Bool
-  wrongBytes =
-      not (eqb (getD bytes 0 0) 84)
-      || not (eqb (getD bytes 1 0) 76)
-      || not (eqb (getD bytes 2 0) 71)
-      || not (eqb (versionIn bytes) 1)
+-- the rows as far as 4
+unfoldable pub headChecked : List ℕ → Checked
+headChecked bytes = first (headRows bytes)
 
-  pub whole-head : 8 ≤ length bytes → orNext (orNext Accepted (refuse 10 0 wrongBytes)) (boundsChecked (labelsIn bytes) (wordsIn bytes)) ≡ headChecked bytes
-  unfolding headChecked orNext
-  whole-head h = rw (le-ltb (length bytes) 8 h) (together (refuse 10 0 wrongBytes) (one (labelsIn bytes)) (four (wordsIn bytes)))
+module _ (bytes : List ℕ) (room : Checked) where
+  -- a refusal of the head is the file's
+  pub head-refused : (why : Refusal) → headChecked bytes ≡ Refused why → Refused why ≡ sizesChecked bytes room
+  unfolding headChecked sizesChecked
+  head-refused why h = sym (settled _ (sizeRows bytes room) why h)
 
-  -- a head that is accepted has its eight bytes
-  pub head-long : headChecked bytes ≡ Accepted → 8 ≤ length bytes
-  unfolding headChecked
-  head-long h =
-      let a = all-accepted Accepted (refuse 10 0 (wrongHead bytes) ∷ one (labelsIn bytes) ∷ four (wordsIn bytes) ∷ []) h .1 in
-      let n = passes 10 0 (wrongHead bytes) (a .0) in
-      ltb-false (length bytes) 8 (neither _ _ (neither _ _ (neither _ _ (neither _ _ n .0) .0) .0) .0)
+  -- 1 and 4 as one check
+  pub sizes-in-order : first (orNext Accepted (refuse 10 0 (wrongHead bytes)) ∷ boundsChecked (labelsIn bytes) (wordsIn bytes) ∷ orNext Accepted room ∷ orNext Accepted (refuse 10 0 (wrongLength bytes)) ∷ []) ≡ sizesChecked bytes room
+  unfolding sizesChecked orNext
+  sizes-in-order = ap (λ (c : Checked). orNext (orNext c room) (refuse 10 0 (wrongLength bytes))) (together (refuse 10 0 (wrongHead bytes)) (one (labelsIn bytes)) (four (wordsIn bytes)))
 
--- the sizes of the two tables, whatever the bytes say
-pub small-sizes : {labels words transitions states : ℕ} → labels < 256 → words < 65536 → transitions ≡ labels * labels → states ≡ words * labels → transitions + states ≤ 16842240
-small-sizes {labels} {words} l w t s =
-    let p : labels ≤ 255 = omega arith in
-    let q : words ≤ 65535 = omega arith in
-    omega (arith, mul-le-mul p p, mul-le-mul q p)
+  -- a refusal of the sizes is the file's
+  pub sizes-refused : (why : Refusal) → sizesChecked bytes room ≡ Refused why → Refused why ≡ fileChecked bytes room
+  unfolding sizesChecked fileChecked
+  sizes-refused why h = sym (settled _ (entryRows bytes) why h)
+
+  pub sizes-passed : orNext (orNext (sizesChecked bytes room) (numbersChecked (transitionsIn bytes) (labelsIn bytes * labelsIn bytes))) (numbersChecked (statesIn bytes) (wordsIn bytes * labelsIn bytes)) ≡ fileChecked bytes room
+  unfolding sizesChecked fileChecked
+  sizes-passed = refl
 
 module _ (bytes : List ℕ) (before : Lent) where
-  -- a refusal of the head is the sheet's
-  pub head-refused : (why : Refusal) → headChecked bytes ≡ Refused why → Refused why ≡ sizesChecked bytes before
-  unfolding headChecked sizesChecked
-  head-refused why h =
-      sym (settled _ (two (labelsIn bytes) (wordsIn bytes) (before .transitions) (before .states) ∷ refuse 10 0 (wrongLength bytes) ∷ []) why h)
-
-  pub head-passed : orNext (orNext (headChecked bytes) (two (labelsIn bytes) (wordsIn bytes) (before .transitions) (before .states))) (refuse 10 0 (wrongLength bytes)) ≡ sizesChecked bytes before
-  unfolding headChecked sizesChecked
-  head-passed = refl
-
   -- what accepted sizes give
   pub record Sizes : Type 0 where
     pub long : 8 ≤ length bytes
-    pub right : wrongBytes bytes ≡ false
     pub room : Sized (labelsIn bytes) (wordsIn bytes) (before .transitions) (before .states)
     pub exact : length bytes ≡ wholeLength bytes
 
-  pub sizes : sizesChecked bytes before ≡ Accepted → Sizes
+  pub sizes : sizesChecked bytes (tablesShort bytes before) ≡ Accepted → Sizes
   unfolding sizesChecked
   sizes h =
-      let a = all-accepted Accepted (refuse 10 0 (wrongHead bytes) ∷ one (labelsIn bytes) ∷ four (wordsIn bytes) ∷ two (labelsIn bytes) (wordsIn bytes) (before .transitions) (before .states) ∷ refuse 10 0 (wrongLength bytes) ∷ []) h .1 in
-      let n = passes 10 0 (wrongHead bytes) (a .0) in
-      let long = ltb-false (length bytes) 8 (neither _ _ (neither _ _ (neither _ _ (neither _ _ n .0) .0) .0) .0) in
+      let a = all-accepted Accepted (headRows bytes ++ sizeRows bytes (tablesShort bytes before)) h .1 in
       record {
-        long = long;
-        right = rw (le-ltb (length bytes) 8 long) at n;
+        long = long-head bytes (a .0);
         room = sized (a .1 .0) (a .1 .1 .0) (a .1 .1 .1 .0);
         exact = eqb-true (length bytes) (wholeLength bytes) (not-false _ (passes 10 0 (wrongLength bytes) (a .1 .1 .1 .1 .0)));
       }
-
-  -- a refusal of the sizes is the sheet's
-  pub sizes-refused : (why : Refusal) → sizesChecked bytes before ≡ Refused why → Refused why ≡ sheetChecked (record { bytes = bytes }) before
-  unfolding sizesChecked sheetChecked
-  sizes-refused why h = sym (settled _ (sixes (labelsIn bytes) (wordsIn bytes) (transitionsIn bytes) (statesIn bytes)) why h)
-
-  pub sizes-passed : orNext (orNext (sizesChecked bytes before) (numbersChecked (transitionsIn bytes) (labelsIn bytes * labelsIn bytes))) (numbersChecked (statesIn bytes) (wordsIn bytes * labelsIn bytes)) ≡ sheetChecked (record { bytes = bytes }) before
-  unfolding sizesChecked sheetChecked
-  sizes-passed = refl
 
   -- what an accepted sheet gives
   pub record Accepts : Type 0 where
@@ -107,6 +75,6 @@ module _ (bytes : List ℕ) (before : Lent) where
 
   pub accepts : sheetChecked (record { bytes = bytes }) before ≡ Accepted → Accepts
   accepts h =
-      let b = both _ _ (sizes-passed ∙ h) in
+      let b = both _ _ (sizes-passed bytes (tablesShort bytes before) ∙ h) in
       let a = both _ _ (b .0) in
       record { sizes-in = sizes (a .0); transitions-in = a .1; states-in = b .1 }

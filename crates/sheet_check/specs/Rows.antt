@@ -1,6 +1,6 @@
 -- Document 01, "Numbered refusals", row by row for a sheet, in the order of the sheet. Assumes nothing.
 use mathlib.Core.Bool.{Bool, not, _||_}
-use mathlib.Core.List.{List, [], _∷_}
+use mathlib.Core.List.{List, [], _∷_, _++_}
 use Prim.Native.Nat.{ℕ}
 use lib.Dec.{ltb, eqb}
 use lib.ListN.{length, getD}
@@ -32,31 +32,31 @@ wrongHead bytes =
 abbrev pub wrongLength : List ℕ → Bool
 wrongLength bytes = not (eqb (length bytes) (wholeLength bytes))
 
--- "Check 10 on mark, version and the eight bytes of head, then 1, 4, then 10 on length, then 6"; 2 for the lent tables stands after 4
-unfoldable pub sheetChecked : Given → Lent → Checked
-sheetChecked given before =
-    let bytes = given .bytes in
-    let labels = labelsIn bytes in
-    let words = wordsIn bytes in
-    first
-    (refuse 10 0 (wrongHead bytes)
-    ∷ one labels
-    ∷ four words
-    ∷ two labels words (before .transitions) (before .states)
-    ∷ refuse 10 0 (wrongLength bytes)
-    ∷ sixes labels words (transitionsIn bytes) (statesIn bytes))
+-- ---- the rows, in their order: "Check 10 on mark, version and the eight bytes of head, then 1, 4, then 10 on length, then 6"
 
--- the rows as far as 4
-unfoldable pub headChecked : List ℕ → Checked
-headChecked bytes = first (refuse 10 0 (wrongHead bytes) ∷ one (labelsIn bytes) ∷ four (wordsIn bytes) ∷ [])
+-- "10 on mark, version and the eight bytes of head, then 1, 4"
+abbrev pub headRows : List ℕ → List Checked
+headRows bytes = refuse 10 0 (wrongHead bytes) ∷ one (labelsIn bytes) ∷ four (wordsIn bytes) ∷ []
 
--- the rows as far as 10 on length
-unfoldable pub sizesChecked : List ℕ → Lent → Checked
-sizesChecked bytes before =
-    first
-    (refuse 10 0 (wrongHead bytes)
-    ∷ one (labelsIn bytes)
-    ∷ four (wordsIn bytes)
-    ∷ two (labelsIn bytes) (wordsIn bytes) (before .transitions) (before .states)
-    ∷ refuse 10 0 (wrongLength bytes)
-    ∷ [])
+-- "then 10 on length"; the row of 2, for what is lent, stands after 4
+abbrev pub sizeRows : List ℕ → Checked → List Checked
+sizeRows bytes room = room ∷ refuse 10 0 (wrongLength bytes) ∷ []
+
+-- "then 6"
+abbrev pub entryRows : List ℕ → List Checked
+entryRows bytes = sixes (labelsIn bytes) (wordsIn bytes) (transitionsIn bytes) (statesIn bytes)
+
+-- as far as 10 on length, and all of them; the row of 2 belongs to what a call is lent
+unfoldable pub sizesChecked : List ℕ → Checked → Checked
+sizesChecked bytes room = first (headRows bytes ++ sizeRows bytes room)
+
+unfoldable pub fileChecked : List ℕ → Checked → Checked
+fileChecked bytes room = first (headRows bytes ++ (sizeRows bytes room ++ entryRows bytes))
+
+-- ---- the reader's rows: 2 for the two tables that it is lent
+
+abbrev pub tablesShort : List ℕ → Lent → Checked
+tablesShort bytes before = two (labelsIn bytes) (wordsIn bytes) (before .transitions) (before .states)
+
+abbrev pub sheetChecked : Given → Lent → Checked
+sheetChecked given before = fileChecked (given .bytes) (tablesShort (given .bytes) before)

@@ -1,46 +1,53 @@
 // The checks of a sheet, before anything is stored.
 ghost use mathlib.Core.Path.{_≡_};
+ghost use mathlib.Core.List.{[], _∷_};
 ghost use Prim.Native.Nat.{_+_, _*_, _≤_};
 ghost use lib.ListN.{length, drop};
-ghost use Rattle.refusals.specs.Refusals.{orNext};
+ghost use Rattle.refusals.specs.Refusals.{orNext, first};
 ghost use Rattle.refusals.specs.Tables.{numbersChecked};
 ghost use Rattle.sheet_bytes.specs.Fields.{numbersIn};
-ghost use Rattle.sheet_check.specs.Rows.{headChecked, sizesChecked, sheetChecked};
+ghost use Rattle.sheet_check.specs.Rows.{wrongHead, wrongLength, sizesChecked, tablesShort, sheetChecked};
 use refusals::Checked;
 use score_tables::entries;
 
-// 10 on the head, then 1 and 4.
-fn check_head(bytes: &[u8]) -> Checked
-    ensures { λ r. ⌜ r ≡ headChecked (now (bytes .entry)) ⌝ }
+// 10 on mark, version and the eight bytes of head. The mark is `TLG`, in ASCII 84, 76, 71.
+fn is_wrong_head(bytes: &[u8]) -> bool
+    ensures { λ r. ⌜ r ≡ wrongHead (now (bytes .entry)) ⌝ }
 {
-    if bytes.len() < 8 {
-        return refusals::refused(10, 0);
-    }
-    let wrong = (bytes[0] != b'T')
-        | (bytes[1] != b'L')
-        | (bytes[2] != b'G')
-        | (sheet_bytes::half_at(bytes, 3) != 1);
-    let head = refusals::refuse_if(Checked::Accepted, 10, 0, wrong);
-    let bounds = score_tables::check_bounds(
-        sheet_bytes::labels_in(bytes),
-        sheet_bytes::words_in(bytes),
-    );
-    refusals::or_next(head, bounds)
+    (bytes.len() < 8)
+        | (sheet_bytes::byte_at(bytes, 0) != 84)
+        | (sheet_bytes::byte_at(bytes, 1) != 76)
+        | (sheet_bytes::byte_at(bytes, 2) != 71)
+        | (sheet_bytes::version_in(bytes) != 1)
 }
 
-// The same, then 2 and 10 on length.
-fn check_sizes(bytes: &[u8], transitions: &[f64], states: &[f64]) -> Checked
-    ensures { λ r. ⌜ r ≡ sizesChecked (now (bytes .entry)) (record { transitions = now (transitions .entry); states = now (states .entry) }) ⌝ }
+// 10 on length.
+fn is_wrong_length(bytes: &[u8]) -> bool
+    ensures { λ r. ⌜ r ≡ wrongLength (now (bytes .entry)) ⌝ }
 {
-    let head = check_head(bytes);
-    if let Checked::Refused(why) = head {
-        return Checked::Refused(why);
-    }
+    bytes.len() != sheet_bytes::whole_length(bytes)
+}
+
+// The rows of the sizes in their order: 10 on the head, 1 and 4, 2, 10 on length.
+fn in_order(head: Checked, bounds: Checked, room: Checked, length: Checked) -> Checked
+    ensures { λ r. ⌜ r ≡ first (head ∷ bounds ∷ room ∷ length ∷ []) ⌝ }
+{
+    let a = refusals::or_next(head, bounds);
+    let b = refusals::or_next(a, room);
+    refusals::or_next(b, length)
+}
+
+// Every row before a number is read.
+fn check_sizes(bytes: &[u8], transitions: &[f64], states: &[f64]) -> Checked
+    ensures { λ r. ⌜ r ≡ sizesChecked (now (bytes .entry)) (tablesShort (now (bytes .entry)) (record { transitions = now (transitions .entry); states = now (states .entry) })) ⌝ }
+{
     let labels = sheet_bytes::labels_in(bytes);
     let words = sheet_bytes::words_in(bytes);
-    let room = score_tables::check_room(head, labels, words, transitions, states);
-    let whole = 8 + 8 * (entries(labels, labels) + entries(words, labels));
-    refusals::refuse_if(room, 10, 0, bytes.len() != whole)
+    let head = refusals::refuse_if(Checked::Accepted, 10, 0, is_wrong_head(bytes));
+    let bounds = score_tables::check_bounds(labels, words);
+    let room = score_tables::check_room(Checked::Accepted, labels, words, transitions, states);
+    let length = refusals::refuse_if(Checked::Accepted, 10, 0, is_wrong_length(bytes));
+    in_order(head, bounds, room, length)
 }
 
 // 6 over the n numbers from a place on.
@@ -69,12 +76,12 @@ pub fn check_sheet(bytes: &[u8], transitions: &[f64], states: &[f64]) -> Checked
         return Checked::Refused(why);
     }
     let labels = sheet_bytes::labels_in(bytes);
-    let size = entries(labels, labels);
-    let first = check_part(sizes, bytes, 8, size);
+    let words = sheet_bytes::words_in(bytes);
+    let first = check_part(sizes, bytes, 8, entries(labels, labels));
     check_part(
         first,
         bytes,
-        8 + 8 * size,
-        entries(sheet_bytes::words_in(bytes), labels),
+        sheet_bytes::states_from(bytes),
+        entries(words, labels),
     )
 }

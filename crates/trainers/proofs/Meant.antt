@@ -20,11 +20,11 @@ use Rattle.trainers.proofs.Trained.{trained-late, trained-zero}
 use Rattle.trainers.proofs.Fronts.{after-is, fronts}
 
 -- an answer that is accepted comes from the training
-accepts : (checked : Checked) (next : Said) (epochs visits updates : ℕ) → orRefused checked next ≡ accepted epochs visits updates → (checked ≡ Accepted) × (next ≡ accepted epochs visits updates)
+pub accepts : (checked : Checked) (next : Said) (epochs visits updates : ℕ) → orRefused checked next ≡ accepted epochs visits updates → (checked ≡ Accepted) × (next ≡ accepted epochs visits updates)
 accepts Accepted next epochs visits updates h = (refl, h)
 accepts (Refused why) next epochs visits updates h = let z : _≡_ {A = ℕ} 0 1 = cc in absurd (omega arith)
 
-trained-so : (a : Training) (epochs visits updates : ℕ) → said a ≡ accepted epochs visits updates → a ≡ Training.Accepted (record { epochs = epochs; visits = visits; updates = updates })
+pub trained-so : (a : Training) (epochs visits updates : ℕ) → said a ≡ accepted epochs visits updates → a ≡ Training.Accepted (record { epochs = epochs; visits = visits; updates = updates })
 trained-so (Training.Accepted t) epochs visits updates h =
     let e : t .epochs ≡ epochs = cc in
     let v : t .visits ≡ visits = cc in
@@ -60,14 +60,14 @@ accepted-true call given before outcome kept epochs visits updates answer =
 
 -- ---- refusals
 
-trained-not : (a : Training) (number place : ℕ) → said a ≡ refused number place → a ≡ Training.Refused (record { number = number; place = place })
+pub trained-not : (a : Training) (number place : ℕ) → said a ≡ refused number place → a ≡ Training.Refused (record { number = number; place = place })
 trained-not (Training.Accepted t) number place h = let z : _≡_ {A = ℕ} 0 1 = cc in absurd (omega arith)
 trained-not (Training.Refused why) number place h =
     let n : why .number ≡ number = cc in
     let p : why .place ≡ place = cc in
     ap Training.Refused (λ i. record { number = n i; place = p i })
 
-refuses : (checked : Checked) (next : Said) (number place : ℕ) → orRefused checked next ≡ refused number place → (checked ≡ refusedAt number place) ⊎ ((checked ≡ Accepted) × (next ≡ refused number place))
+pub refuses : (checked : Checked) (next : Said) (number place : ℕ) → orRefused checked next ≡ refused number place → (checked ≡ refusedAt number place) ⊎ ((checked ≡ Accepted) × (next ≡ refused number place))
 refuses Accepted next number place h = inr (refl, h)
 refuses (Refused why) next number place h =
     let n : why .number ≡ number = cc in
@@ -75,7 +75,7 @@ refuses (Refused why) next number place h =
     inl (ap Refused (λ i. record { number = n i; place = p i }))
 
 -- 1 to 7 are not 8 and 9
-at-most : (number : ℕ) → OneOf (1 ∷ 2 ∷ 3 ∷ 4 ∷ 5 ∷ 6 ∷ 7 ∷ []) number → number ≤ 7
+pub at-most : (number : ℕ) → OneOf (1 ∷ 2 ∷ 3 ∷ 4 ∷ 5 ∷ 6 ∷ 7 ∷ []) number → number ≤ 7
 at-most number (inl e) = omega arith
 at-most number (inr (inl e)) = omega arith
 at-most number (inr (inr (inl e))) = omega arith

@@ -1,6 +1,7 @@
 -- What a trainer's answer means, in plain terms, of whatever satisfies the promise. The proofs are in proofs/Meant.
 use mathlib.Core.Path.{_≡_}
 use mathlib.Core.List.{List, [], _∷_}
+use mathlib.Core.Logic.{_↔_}
 use Prim.Native.Nat.{ℕ, _*_, _≤_, _<_}
 use lib.Dec.{T}
 use lib.ListN.{length, getD, take, replicate}
@@ -12,6 +13,7 @@ use Rattle.lines.specs.Passes.{nought}
 use Rattle.training.specs.declared.Visit.{Visit}
 use Rattle.training.specs.Epochs.{isRefused}
 use Rattle.training.specs.Accepted.{isUpdated, howMany, ends}
+use Rattle.training.specs.Reached.{EightAt, NineAt, FiniteThroughout}
 use Rattle.training_check.specs.Meaning.{AllIsFine}
 use Rattle.trainers.specs.Promise.{Call, Given, Buffers, Outcome, accepted, refused, said, ruleFor, settingsFor, ownOf, inputOf, checkedOf, Promised}
 
@@ -71,3 +73,35 @@ ChecksAnswered =
     (call : Call) (given : Given) (before : Buffers) (outcome : Outcome) → Promised call given before outcome →
     (number place : ℕ) → checkedOf call given before ≡ refusedAt number place →
     said (outcome .answer) ≡ refused number place
+
+-- ---- 8 and 9, both ways
+
+-- which visit 8 is given for, of which instance, from which state, and what is not finite in it: the place is "visits done"
+abbrev pub EightFor : Call → Given → ℕ → Type 0
+EightFor call given place = EightAt (ruleFor call) (settingsFor call) (given .model) (given .corpus) place
+
+-- and 9: "visits done before it; all visits for the averaging"
+abbrev pub NineFor : Call → Given → ℕ → Type 0
+NineFor call given place = NineAt (ruleFor call) (settingsFor call) (given .model) (given .corpus) place
+
+-- an answer that is accepted, whatever it counts
+pub record Accepts (outcome : Outcome) : Type 0 where
+  pub epochs : ℕ
+  pub visits : ℕ
+  pub updates : ℕ
+  pub answers : said (outcome .answer) ≡ accepted epochs visits updates
+
+-- "Given exactly when": 8 and 9 where nothing of 1 to 7 applies, and accepted where nothing of 1 to 9 does
+pub record LateMeaning (call : Call) (given : Given) (before : Buffers) (outcome : Outcome) : Type 0 where
+  pub eight : (place : ℕ) → said (outcome .answer) ≡ refused 8 place ↔ Unrefused call given before × EightFor call given place
+  pub nine : (place : ℕ) → said (outcome .answer) ≡ refused 9 place ↔ Unrefused call given before × NineFor call given place
+  pub accepted : Accepts outcome ↔ Unrefused call given before × (((place : ℕ) → EightFor call given place → ⊥) × ((place : ℕ) → NineFor call given place → ⊥))
+
+abbrev pub LateMeans : Type 0
+LateMeans = (call : Call) (given : Given) (before : Buffers) (outcome : Outcome) → Promised call given before outcome → LateMeaning call given before outcome
+
+-- before every visit weights, the table beside them and the epoch's loss are finite, and so after a visit that ends as unchanged
+abbrev pub FiniteBeforeVisits : Type 0
+FiniteBeforeVisits =
+    (call : Call) (given : Given) (before : Buffers) → Unrefused call given before →
+    FiniteThroughout (ruleFor call) (settingsFor call) (given .model) (given .corpus)

@@ -37,7 +37,7 @@ pub record CountsOne (s t : State) : Type 0 where
   pub updates : t .step .updates ≡ s .step .updates + cond (isUpdated (t .step .visit)) 1 0
 
 module _ (rule : Rule) (m : Model) (d : Data) where
-  visit-counts : (i : ℕ) (s : State) → isRefused (visited rule m d i s .step .visit) ≡ false → CountsOne s (visited rule m d i s)
+  pub visit-counts : (i : ℕ) (s : State) → isRefused (visited rule m d i s .step .visit) ≡ false → CountsOne s (visited rule m d i s)
   unfolding refusedAs unchanged changedTo
   visit-counts i s =
       visit-cases rule m d i s (λ t. isRefused (t .step .visit) ≡ false → CountsOne s t)
@@ -67,7 +67,7 @@ one-more s t u n vs c o false e r =
     }
 
 module _ (visit : ℕ → State → State) (counts : (i : ℕ) (s : State) → isRefused (visit i s .step .visit) ≡ false → CountsOne s (visit i s)) where
-  visits-counted : (order : List ℕ) (n : ℕ) (s : State) → isRefused (through (visitedAt visit order) 0 n s .step .visit) ≡ false → Counted s (through (visitedAt visit order) 0 n s) n (endsOver visit order n s)
+  pub visits-counted : (order : List ℕ) (n : ℕ) (s : State) → isRefused (through (visitedAt visit order) 0 n s .step .visit) ≡ false → Counted s (through (visitedAt visit order) 0 n s) n (endsOver visit order n s)
   unfolding through endsOver howMany visitedAt
   visits-counted order zero s r = record { visits = omega arith; made = refl; sound = refl; updates = omega arith }
   visits-counted order (suc n) s r =
@@ -75,7 +75,7 @@ module _ (visit : ℕ → State → State) (counts : (i : ℕ) (s : State) → i
       rw (zero-add n) (one-more s t (visit (getD order n 0) t) n (endsOver visit order n s) (visits-counted order n s) (counts (getD order n 0) t) (isRefused (t .step .visit)) refl (rw (zero-add n) at r))
 
 -- ---- the epochs of a run: after e that were allowed, and visits that ended so
-or-left : (a b : Bool) → a || b ≡ false → a ≡ false
+pub or-left : (a b : Bool) → a || b ≡ false → a ≡ false
 or-left true b e = e
 or-left false b e = refl
 
@@ -120,7 +120,7 @@ module _ (visit : ℕ → State → State) (counts : (i : ℕ) (s : State) → i
         updates = λ f. omega (arith, k f .updates, c .updates g, how-many-append isUpdated vs ws);
       }
 
-  run-counted : (e : ℕ) (r : Run) → RunCounted instances 0 r [] → RunCounted instances e (through (epochUnlessOver visit stop instances) 0 e r) (endsWithin visit stop instances e r)
+  pub run-counted : (e : ℕ) (r : Run) → RunCounted instances 0 r [] → RunCounted instances e (through (epochUnlessOver visit stop instances) 0 e r) (endsWithin visit stop instances e r)
   unfolding through endsWithin epochUnlessOver
   run-counted zero r c = c
   run-counted (suc e) r c =
@@ -128,7 +128,7 @@ module _ (visit : ℕ → State → State) (counts : (i : ℕ) (s : State) → i
       one-epoch-more e t (endsWithin visit stop instances e r) (run-counted e r c) (t .over) refl
 
 -- ---- the answer
-all-finite-at : (table : List Float) (n : ℕ) → allFinite table n ≡ true → (i : ℕ) → i < n → T (finite (getD table i nan))
+pub all-finite-at : (table : List Float) (n : ℕ) → allFinite table n ≡ true → (i : ℕ) → i < n → T (finite (getD table i nan))
 unfolding allFinite
 all-finite-at table zero e i h = absurd (not-suc-le-zero h)
 all-finite-at table (suc n) e i h = go (allFinite table n) (finite (getD table n nan)) (all-finite-at table n) refl e (eq-or-lt-of-le (le-of-suc-le-suc h))
@@ -190,7 +190,7 @@ put-together rule set m d t h v c l f =
       all-finite = λ i k. rw (f .kept) (all-finite-at (last rule set m d (ran rule set m d)) n (f .sound) i k);
     }
 
-begun-counted : (rule : Rule) (set : Settings) (m : Model) (d : Data) → RunCounted (d .instances) 0 (begun rule set m d) []
+pub begun-counted : (rule : Rule) (set : Settings) (m : Model) (d : Data) → RunCounted (d .instances) 0 (begun rule set m d) []
 unfolding begun howMany
 begun-counted rule set m d = record {
   going = λ o. refl;

@@ -7,3 +7,7 @@ pub mod Weights
 pub mod Accepted
 pub mod WholeCounts
 pub mod FiniteCounts
+pub mod Reasons
+pub mod AlwaysFinite
+pub mod Reached
+pub mod RefusedExactly

@@ -23,14 +23,14 @@ use Rattle.training.specs.OneVisit.{predictedFor, LabelsAgree, NothingLe
 
 -- ---- in no word wrong, and the labels agree at every word: the same
 module _ (p q : List ℕ) where
-  agree-none : (words : ℕ) → ((word : ℕ) → word < words → getD p word 0 ≡ getD q word 0) → wrongOf p q words ≡ 0
+  pub agree-none : (words : ℕ) → ((word : ℕ) → word < words → getD p word 0 ≡ getD q word 0) → wrongOf p q words ≡ 0
   unfolding wrongOf wrongAt through
   agree-none zero h = refl
   agree-none (suc words) h =
       rw (eq-eqb (getD p (0 + words) 0) (getD q (0 + words) 0) (h (0 + words) (omega arith)))
       (agree-none words (λ word k. h word (omega arith)))
 
-  none-agree : (words : ℕ) → wrongOf p q words ≡ 0 → (word : ℕ) → word < words → getD p word 0 ≡ getD q word 0
+  pub none-agree : (words : ℕ) → wrongOf p q words ≡ 0 → (word : ℕ) → word < words → getD p word 0 ≡ getD q word 0
   unfolding wrongOf wrongAt through
   none-agree zero e word k = absurd (not-suc-le-zero k)
   none-agree (suc words) e word k = go (eqb (getD p (0 + words) 0) (getD q (0 + words) 0)) (eqb-true (getD p (0 + words) 0) (getD q (0 + words) 0)) (none-agree words) e (eq-or-lt-of-le (le-of-suc-le-suc k))

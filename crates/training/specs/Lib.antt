@@ -9,3 +9,5 @@ pub mod OneVisit
 pub mod Accepted
 pub mod WholeCounts
 pub mod FiniteCounts
+pub mod Reasons
+pub mod Reached

@@ -61,23 +61,25 @@ finiteState features s = allFinite (s .learned .weights) features && (allFinite 
 unfoldable pub heldTo : ℕ → State → State → State
 heldTo features before after = cond (finiteState features after) after (refusedAs 9 before)
 
+-- what an update sees of instance i, whose predicted labels are wrong in so many words
+abbrev pub mistakeIn : Model → Data → ℕ → Scores → List ℕ → ℕ → State → Mistake
+mistakeIn m d i scores path wrong s = record {
+  words = wordsOf d i;
+  wrong = wrong;
+  truly = countsOf m (d .words) (firstWord d i) (wordsOf d i) (referenceOf d i);
+  predicted = countsOf m (d .words) (firstWord d i) (wordsOf d i) path;
+  trueScore = pathScore scores (referenceOf d i) (wordsOf d i);
+  predictedScore = pathScore scores path (wordsOf d i);
+  weight = getD (d .weights) i nan;
+  counter = whole (s .step .visits + 1);
+}
+
 module _ (rule : Rule) (m : Model) (d : Data) (i : ℕ) where
   -- the labels differ in so many words: "8 looks at scores, then, where labels differ, at true counts, then predicted counts; 9 comes after"
   unfoldable pub corrected : Scores → List ℕ → ℕ → State → State
   corrected scores path wrong s =
-      let truly = countsOf m (d .words) (firstWord d i) (wordsOf d i) (referenceOf d i) in
-      let predicted = countsOf m (d .words) (firstWord d i) (wordsOf d i) path in
-      let k : Mistake = record {
-        words = wordsOf d i;
-        wrong = wrong;
-        truly = truly;
-        predicted = predicted;
-        trueScore = pathScore scores (referenceOf d i) (wordsOf d i);
-        predictedScore = pathScore scores path (wordsOf d i);
-        weight = getD (d .weights) i nan;
-        counter = whole (s .step .visits + 1);
-      } in
-      cond (allFinite truly (m .features .count) && allFinite predicted (m .features .count))
+      let k = mistakeIn m d i scores path wrong s in
+      cond (allFinite (k .truly) (m .features .count) && allFinite (k .predicted) (m .features .count))
       (heldTo (m .features .count) s (changedTo (updatedBy rule (m .features .count) k (s .learned)) s))
       (refusedAs 8 s)
 

@@ -50,9 +50,9 @@ module _ (rule : Rule) (features : ℕ) (k : Mistake) (s : State) {after : Learn
   unfolding changedTo
   made = rw (← u .update)
 
-  told : (f : Bool) → f ≡ finite (s .step .loss ⊕ o .loss) → finiteState features (changedTo (updatedBy rule features k (s .learned)) s) ≡ o .finite && f
+  told : finiteState features (changedTo (updatedBy rule features k (s .learned)) s) ≡ o .finite && finite (s .step .loss ⊕ o .loss)
   unfolding finiteState
-  told f e = rw (made, u .finite, e, and-assoc)
+  told = rw (made, u .finite, and-assoc)
 
   counts-finite : o .finite ≡ true → allFinite (k .truly) features && allFinite (k .predicted) features ≡ true
   counts-finite t =
@@ -60,16 +60,16 @@ module _ (rule : Rule) (features : ℕ) (k : Mistake) (s : State) {after : Learn
       (rw (← u .update) (both (allFinite (after .weights) features) (allFinite (after .beside) features) (sym (u .finite) ∙ t) .0))
 
   -- it is held: nobody has to look at the counts
-  pub held : (f : Bool) → f ≡ finite (s .step .loss ⊕ o .loss) → o .finite && f ≡ true →
+  pub held : o .finite && finite (s .step .loss ⊕ o .loss) ≡ true →
       Agreed (record { step = record { visit = Changed; visits = s .step .visits + 1; updates = s .step .updates + 1; loss = s .step .loss ⊕ o .loss }; learned = after }) (settled rule features k s)
   unfolding settled heldTo
-  held f e t = exactly (rw (counts-finite (both (o .finite) f t .0), told f e, t, made))
+  held t = exactly (rw (counts-finite (both (o .finite) (finite (s .step .loss ⊕ o .loss)) t .0), told, t, made))
 
   -- 9
-  pub not-held : (f : Bool) → f ≡ finite (s .step .loss ⊕ o .loss) → o .finite && f ≡ false → allFinite (k .truly) features && allFinite (k .predicted) features ≡ true →
+  pub not-held : o .finite && finite (s .step .loss ⊕ o .loss) ≡ false → allFinite (k .truly) features && allFinite (k .predicted) features ≡ true →
       {r : Step} {l : Learned} → r ≡ (refusedAs 9 s) .step → Agreed (record { step = r; learned = l }) (settled rule features k s)
   unfolding settled heldTo
-  not-held f e t c p = refused 9 s (rw (c, told f e, t)) p
+  not-held t c p = refused 9 s (rw (c, told, t)) p
 
 -- 8 for the counts
 pub not-counted : (rule : Rule) (features : ℕ) (k : Mistake) (s : State) → allFinite (k .truly) features && allFinite (k .predicted) features ≡ false → {r : Step} {l : Learned} → r ≡ (refusedAs 8 s) .step → Agreed (record { step = r; learned = l }) (settled rule features k s)

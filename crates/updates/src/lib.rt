@@ -111,11 +111,12 @@ pub fn learn(
         beside,
     );
     let loss = s.loss + outcome.loss;
-    if outcome.finite & binary64::is_finite(loss) {
+    if steps::holds(outcome.finite, loss) {
+        let updates = s.updates + 1;
         return Step {
             visit: Visit::Updated,
             visits: visits,
-            updates: s.updates + 1,
+            updates: updates,
             loss: loss,
         };
     }

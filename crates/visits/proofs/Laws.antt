@@ -1,12 +1,14 @@
 -- The ways through a visit: how its code's tests pick a case of the definition. Assumes nothing.
 use mathlib.Core.Path.{_≡_, sym, ap, _∙_, subst}
-use mathlib.Core.Bool.{true, false}
-use mathlib.Core.List.{List, _++_}
+use mathlib.Core.Bool.{Bool, true, false}
+use mathlib.Core.List.{List, [], _++_}
+use mathlib.Core.Logic.{⊎-elim}
 use Prim.Native.Nat.{ℕ, _+_, _-_, _≤_, _<_}
 use native.Mathlib.Omega.{arith}
-use borrow.Author.Tests.{eq-eqb, ne-eqb}
+use borrow.Author.Tests.{eq-eqb, ne-eqb, eqb-true, eqb-false}
+use lib.Dec.{eqb}
 use lib.ListN.{length, getD, take, drop, length-drop, length-append}
-use lib.Seq.{length-take-le, getD-take, getD-drop}
+use lib.Seq.{length-take-le, take-at, getD-take, getD-drop}
 use lib.Ieee.{nan}
 use lib.Ieee.Scale.{finite}
 use Rattle.lines.specs.Tables.{Model}
@@ -24,12 +26,18 @@ use Rattle.judging.specs.declared.Prediction.{Prediction}
 use Rattle.training_check.specs.Sound.{SoundData}
 use Rattle.prediction.specs.Tables.{SoundLine}
 use Rattle.judging.specs.Judged.{Judged}
-use Rattle.updates.specs.Updating.{Agreed, settled}
-use Rattle.updates.proofs.Laws.{exactly, refused}
+use Rattle.steps.specs.declared.Found.the-variants.{Ended, Differ}
+use Rattle.steps.specs.Looked.{looked}
+use Rattle.steps.proofs.Laws.{never, same-step, ended, differs}
+use Rattle.updates.specs.Updating.{Agreed, Counted, settled}
+use Rattle.updates.proofs.Laws.{exactly, refused, refused-counted, unchanged-counted}
 
--- a front that was lent and has come back: it can be lent again
-pub front-again : {A : Type 0} (ys zs : List A) (n : ℕ) → length ys ≡ n → n ≤ length (ys ++ drop n zs)
-front-again ys zs n e = rw length-append (omega (arith, e))
+-- a visit that ends before it learns is counted once at most
+pub ended-counted : (s r : Step) (scored agree : Bool) → ((l : Learned) → looked scored agree (record { step = s; learned = l }) ≡ Ended r) → s .updates ≤ s .visits → Counted s r
+unfolding looked
+ended-counted s r false agree e h = refused-counted 8 s r (λ l. same-step (e l)) h
+ended-counted s r true true e h = unchanged-counted s r (λ l. same-step (e l)) h
+ended-counted s r true false e h = absurd (never (sym (e (record { weights = []; beside = [] }))))
 
 -- ---- one instance, whose words go from first up to end
 module _ (d : Data) (i first end : ℕ) (f : first ≡ getD (d .starts) i 0) (g : end ≡ getD (d .starts) (i + 1) 0) where
@@ -67,12 +75,12 @@ module _ (d : Data) (i first end : ℕ) (f : first ≡ getD (d .starts) i 0) (g 
     judged = rw (f, g) at j
 
     -- 8 for the scores
-    pub unscored : p .finite ≡ false → {r : Step} {l : Learned} → r ≡ (refusedAs 8 s) .step → Agreed (record { step = r; learned = l }) (visited rule m d i s)
+    unscored : p .finite ≡ false → {r : Step} {l : Learned} → r ≡ (refusedAs 8 s) .step → Agreed (record { step = r; learned = l }) (visited rule m d i s)
     unfolding visited
     unscored e q = refused 8 s (rw (sym (judged .finite) ∙ e)) q
 
     -- the labels agree
-    pub same : p .finite ≡ true → p .wrong ≡ 0 → {r : Step} → r ≡ (unchanged s) .step → Agreed (record { step = r; learned = s .learned }) (visited rule m d i s)
+    same : p .finite ≡ true → p .wrong ≡ 0 → {r : Step} → r ≡ (unchanged s) .step → Agreed (record { step = r; learned = s .learned }) (visited rule m d i s)
     unfolding visited compared unchanged
     same t z q = exactly (rw (sym (judged .finite) ∙ t, eq-eqb _ _ (sym (judged .wrong t) ∙ z), q))
 
@@ -111,5 +119,15 @@ module _ (d : Data) (i first end : ℕ) (f : first ≡ getD (d .starts) i 0) (g 
     unfolding visited compared corrected settled
     visited-settled t h = rw (sym (judged .finite) ∙ t, ne-eqb _ _ (λ z. h (judged .wrong t ∙ z)))
 
-    pub other : p .finite ≡ true → (p .wrong ≡ 0 → ⊥) → {made : State} → Agreed made (settled rule (m .features .count) seen s) → Agreed made (visited rule m d i s)
+    other : p .finite ≡ true → (p .wrong ≡ 0 → ⊥) → {made : State} → Agreed made (settled rule (m .features .count) seen s) → Agreed made (visited rule m d i s)
     other t h {made} a = subst (λ (w : State). Agreed made w) (ap (λ (k : Mistake). settled rule (m .features .count) k s) (seen-meant t h) ∙ sym (visited-settled t h)) a
+
+    -- what the look before learning found: the visit ends there
+    pub ended-there : {r : Step} → looked (p .finite) (eqb (p .wrong) 0) s ≡ Ended r → Agreed (record { step = r; learned = s .learned }) (visited rule m d i s)
+    ended-there e = ⊎-elim (λ w. unscored (w .0) (w .1)) (λ w. same (w .0) (eqb-true _ _ (w .1)) (w .2)) (ended s (p .finite) (eqb (p .wrong) 0) e)
+
+    -- or labels differ, and the path stands in the front of an array
+    pub other-front : looked (p .finite) (eqb (p .wrong) 0) s ≡ Differ → length after ≡ end - first → (rest : List ℕ) → {made : State} → Agreed made (settled rule (m .features .count) (record { words = end - first; wrong = p .wrong; truly = countsOf m (d .words) first (end - first) (take (end - first) (drop first (d .references))); predicted = countsOf m (d .words) first (end - first) (take (end - first) (after ++ rest)); trueScore = p .wanted; predictedScore = p .reached; weight = getD (d .weights) i nan; counter = whole (s .step .visits + 1) }) s) → Agreed made (visited rule m d i s)
+    other-front e n rest {made} a =
+        let w = differs s (p .finite) (eqb (p .wrong) 0) e in
+        other (w .0) (eqb-false _ _ (w .1)) (rw (take-at after rest _ n) at a)

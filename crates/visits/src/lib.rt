@@ -15,6 +15,7 @@ ghost use Rattle.updates.specs.Updating.{stateOf, Agreed, Counted, settled, Exa
 use judging::Prediction;
 use parameters::Trainer;
 use prediction::Sizes;
+use steps::Found;
 use training::Step;
 
 // The labels differ: the true counts, the predicted counts, then the update.
@@ -158,11 +159,9 @@ pub fn visit(
         reference,
         &mut path[..words],
     );
-    if !p.finite {
-        return steps::refuse(8, s);
-    }
-    if p.wrong == 0 {
-        return steps::unchanged(s);
+    let found = steps::look(p.finite, p.wrong, s);
+    if let Found::Ended(step) = found {
+        return step;
     }
     correct(
         trainer,

@@ -1,10 +1,11 @@
 //! Scoring and counting lines of one model. The Rust text tests nothing, and the public calls test the model's tables and the
 //! line's each time. What the tests cost is timed by a copy of each line whose very last test refuses it: what the whole call
 //! takes beyond that is its step after the check, which is held against the Rust and still looks for what is not finite.
+//! Labelling is timed as the whole public call, beside the text's scores and its decoding in turn.
 
 use std::hint::black_box;
 
-use compare::scoring::{check_model, compute_scores, extract_features};
+use compare::scoring::{check_model, compute_scores, extract_features, label_line};
 use crfs::dataset::{Attribute, Instance};
 use crfs::open::Open;
 use crfs::train::crf_context::{ScoreContext, probe};
@@ -134,13 +135,16 @@ fn compare_answers(model: &Model, generator: &FeatureGenerator, case: &Case, con
     let (owed_states, owed_transitions) =
         (probe::state_scores(context).concat(), probe::trans_scores(context).concat());
     let owed_counts = Trainer::<Arow>::new().counts(instance, labels, generator);
-    assert_eq!(compute_scores(model, line, &mut states, &mut transitions), Ok(()));
+    assert_eq!(compute_scores(model, line, &mut transitions, &mut states), Ok(()));
     assert!(all_same(&states, &owed_states) && all_same(&transitions, &owed_transitions));
+    let mut path = vec![u32::MAX; words];
+    assert!(label_line(model, line, &mut path).is_ok());
+    assert_eq!(path, context.viterbi_decode(words));
     assert_eq!(extract_features(model, line, labels, &mut counts), Ok(()));
     assert!(all_same(&counts, &owed_counts));
 
     let last = Err((6, u64::from(line.attributes) - 1));
-    assert_eq!(compute_scores(model, damaged, &mut states, &mut transitions), last);
+    assert_eq!(compute_scores(model, damaged, &mut transitions, &mut states), last);
     assert_eq!(extract_features(model, damaged, labels, &mut counts), last);
 }
 
@@ -153,15 +157,16 @@ fn row(model: &Model, cases: &[Case], shape: &Shape) {
 
     let (mut states, mut transitions) = (vec![0.0; (words * labels) as usize], vec![0.0; (labels * labels) as usize]);
     let mut counts = vec![0.0; features as usize];
-    let mut times: [Vec<f64>; 5] = Default::default();
+    let mut path = vec![0; words as usize];
+    let mut times: [Vec<f64>; 7] = Default::default();
     let (mut score, mut count) = (Vec::new(), Vec::new());
     for _ in 0..PASSES {
         times[0].extend(pass(cases, |_| black_box(check_model(black_box(model))).is_ok()));
         let refused = pass(cases, |case| {
-            black_box(compute_scores(black_box(model), &case.damaged, &mut states, &mut transitions)).is_err()
+            black_box(compute_scores(black_box(model), &case.damaged, &mut transitions, &mut states)).is_err()
         });
         let scored = pass(cases, |case| {
-            black_box(compute_scores(black_box(model), &case.line, &mut states, &mut transitions)).is_ok()
+            black_box(compute_scores(black_box(model), &case.line, &mut transitions, &mut states)).is_ok()
         });
         score.extend(beyond(&scored, &refused));
         times[1].extend(scored);
@@ -181,8 +186,13 @@ fn row(model: &Model, cases: &[Case], shape: &Shape) {
             let counts = trainer.counts(black_box(&case.instance), &case.labels, black_box(&generator));
             black_box(counts).len() == features as usize
         }));
+        times[5].extend(pass(cases, |case| black_box(label_line(black_box(model), &case.line, &mut path)).is_ok()));
+        times[6].extend(pass(cases, |case| {
+            context.compute_scores(black_box(&case.instance), black_box(&generator));
+            black_box(black_box(&context).viterbi_decode(words as usize)).len() == words as usize
+        }));
     }
-    let [check, scored, score_of_text, counted, count_of_text] = times.map(median);
+    let [check, scored, score_of_text, counted, count_of_text, labelled, labels_of_text] = times.map(median);
     let (score, count) = (median(score), median(count));
     println!(
         "L {labels:2} T {words:3} F {features:5}, {attributes} attributes a word, {entries:2} entries a list ({} lines): \
@@ -197,4 +207,8 @@ fn row(model: &Model, cases: &[Case], shape: &Shape) {
             rust / step
         );
     }
+    println!(
+        "  labelling: the whole call {labelled:7.0}, Rust {labels_of_text:7.0}; ratio {:.2}",
+        labels_of_text / labelled
+    );
 }

@@ -68,8 +68,8 @@ fn row(model: &Model, data: &Data, rule: Rule) -> String {
     let mut floats = vec![vec![0.0; features]; 4];
     let mut order = vec![0; data.instances as usize];
     let mut call = || {
-        let [weights, beside, truly, predicted] = &mut floats[..] else { unreachable!() };
-        let lent = Lent { weights, beside, truly, predicted, order: &mut order };
+        let [weights, running_sums, true_counts, predicted_counts] = &mut floats[..] else { unreachable!() };
+        let lent = Lent { weights, running_sums, true_counts, predicted_counts, order: &mut order };
         let start = Instant::now();
         let answer = black_box(train(Trainer::new(&settings, [1, 1]), black_box(model), black_box(data), lent));
         (start.elapsed().as_secs_f64() * 1e3, answer.expect("a sound call"))

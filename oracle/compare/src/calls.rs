@@ -39,7 +39,7 @@ pub struct Counts {
 
 #[repr(C)]
 #[derive(Debug, Clone, Copy, PartialEq)]
-pub struct Perceptron {
+pub struct AveragedPerceptronParameters {
     pub epochs: u32,
     pub epsilon: f64,
     pub seed: u64,
@@ -47,19 +47,19 @@ pub struct Perceptron {
 
 #[repr(C)]
 #[derive(Debug, Clone, Copy, PartialEq)]
-pub struct Passive {
+pub struct PassiveAggressiveParameters {
     pub epochs: u32,
     pub epsilon: f64,
     pub seed: u64,
     pub variant: u32,
     pub c: f64,
-    pub sensitive: u32,
+    pub error_sensitive: u32,
     pub averaging: u32,
 }
 
 #[repr(C)]
 #[derive(Debug, Clone, Copy, PartialEq)]
-pub struct Arow {
+pub struct ArowParameters {
     pub epochs: u32,
     pub epsilon: f64,
     pub seed: u64,
@@ -71,8 +71,8 @@ pub struct Arow {
 #[derive(Debug, Clone, Copy, PartialEq, Eq)]
 pub struct Totals {
     pub instances: u32,
-    pub words: u32,
-    pub attributes: u32,
+    pub words_in_all: u32,
+    pub attributes_in_all: u32,
 }
 
 #[repr(C)]
@@ -146,53 +146,56 @@ declared! {
         ; []; mut []
     ) -> Refused;
 
-    fn bodkinbloom_set_weights(features: u32; [new: f64]; ; []; mut [weights: f64]) -> Refused;
+    fn bodkinbloom_set_weights(features: u32; [new_weights: f64]; ; []; mut [weights: f64]) -> Refused;
 
     fn bodkinbloom_compute_scores(
         labels: u32, counts: Counts;
         [kinds: u8, destinations: u32, sources: u32, weights: f64,
          attribute_starts: u32, attribute_entries: u32, label_starts: u32, label_entries: u32];
-        words: u32, attributes: u32; [begins: u32, ids: u32, values: f64];
-        mut [states: f64, transitions: f64]
+        words: u32, attributes: u32; [word_starts: u32, ids: u32, values: f64];
+        mut [transitions: f64, states: f64]
     ) -> Refused;
 
     fn bodkinbloom_extract_features(
         labels: u32, counts: Counts;
         [kinds: u8, destinations: u32, sources: u32,
          attribute_starts: u32, attribute_entries: u32, label_starts: u32, label_entries: u32];
-        words: u32, attributes: u32; [begins: u32, ids: u32, values: f64, path: u32];
-        mut [amounts: f64]
+        words: u32, attributes: u32; [word_starts: u32, ids: u32, values: f64, path: u32];
+        mut [feature_counts: f64]
     ) -> Refused;
 
     fn bodkinbloom_label_line(
         labels: u32, counts: Counts;
         [kinds: u8, destinations: u32, sources: u32, weights: f64,
          attribute_starts: u32, attribute_entries: u32, label_starts: u32, label_entries: u32];
-        words: u32, attributes: u32; [begins: u32, ids: u32, values: f64];
+        words: u32, attributes: u32; [word_starts: u32, ids: u32, values: f64];
         mut [path: u32]
     ) -> Decoded;
 
     fn bodkinbloom_averaged_perceptron(
-        parameters: Perceptron, labels: u32, counts: Counts;
+        parameters: AveragedPerceptronParameters, labels: u32, counts: Counts;
         [kinds: u8, destinations: u32, sources: u32,
          attribute_starts: u32, attribute_entries: u32, label_starts: u32, label_entries: u32];
-        totals: Totals; [lines: u32, begins: u32, ids: u32, values: f64, references: u32, shares: f64];
-        mut [weights: f64, beside: f64, truly: f64, predicted: f64, order: u32]
+        totals: Totals;
+        [line_starts: u32, word_starts: u32, ids: u32, values: f64, references: u32, instance_weights: f64];
+        mut [weights: f64, running_sums: f64, true_counts: f64, predicted_counts: f64, order: u32]
     ) -> Trained;
 
     fn bodkinbloom_passive_aggressive(
-        parameters: Passive, labels: u32, counts: Counts;
+        parameters: PassiveAggressiveParameters, labels: u32, counts: Counts;
         [kinds: u8, destinations: u32, sources: u32,
          attribute_starts: u32, attribute_entries: u32, label_starts: u32, label_entries: u32];
-        totals: Totals; [lines: u32, begins: u32, ids: u32, values: f64, references: u32, shares: f64];
-        mut [weights: f64, beside: f64, truly: f64, predicted: f64, order: u32]
+        totals: Totals;
+        [line_starts: u32, word_starts: u32, ids: u32, values: f64, references: u32, instance_weights: f64];
+        mut [weights: f64, running_sums: f64, true_counts: f64, predicted_counts: f64, order: u32]
     ) -> Trained;
 
     fn bodkinbloom_arow(
-        parameters: Arow, labels: u32, counts: Counts;
+        parameters: ArowParameters, labels: u32, counts: Counts;
         [kinds: u8, destinations: u32, sources: u32,
          attribute_starts: u32, attribute_entries: u32, label_starts: u32, label_entries: u32];
-        totals: Totals; [lines: u32, begins: u32, ids: u32, values: f64, references: u32, shares: f64];
-        mut [weights: f64, beside: f64, truly: f64, predicted: f64, order: u32]
+        totals: Totals;
+        [line_starts: u32, word_starts: u32, ids: u32, values: f64, references: u32, instance_weights: f64];
+        mut [weights: f64, covariance: f64, true_counts: f64, predicted_counts: f64, order: u32]
     ) -> Trained;
 }

@@ -57,13 +57,13 @@ pub fn set_weights(features: u32, new: &[f64], weights: &mut [f64]) -> Result<()
     })
 }
 
-/// Writes the scores of a line: states word by word, transitions by previous label.
-pub fn compute_scores(model: &Model, line: &Line, states: &mut [f64], transitions: &mut [f64]) -> Result<(), Refusal> {
+/// Writes the scores of a line: transitions by previous label, states word by word.
+pub fn compute_scores(model: &Model, line: &Line, transitions: &mut [f64], states: &mut [f64]) -> Result<(), Refusal> {
     unless_refused(call!(
         bodkinbloom_compute_scores,
         model [kinds, destinations, sources, weights, attribute_starts, attribute_entries, label_starts, label_entries],
         line [&line.starts, &line.ids, &line.values],
-        mut [states, transitions]
+        mut [transitions, states]
     ))
 }
 

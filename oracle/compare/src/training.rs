@@ -7,18 +7,18 @@ use crate::{Refusal, calls, pointer, pointer_mut};
 /// A trainer with its parameters.
 #[derive(Debug, Clone, Copy, PartialEq)]
 pub enum Trainer {
-    Perceptron(calls::Perceptron),
-    Passive(calls::Passive),
-    Arow(calls::Arow),
+    Perceptron(calls::AveragedPerceptronParameters),
+    Passive(calls::PassiveAggressiveParameters),
+    Arow(calls::ArowParameters),
 }
 
-/// What a trainer is lent: the weights are its result, the rest is work. All but the order are as long as there are
-/// features; the order is as long as there are instances.
+/// What a trainer is lent: the weights are its result, the rest is work; AROW has its covariance in `running_sums`. All but
+/// the order are as long as there are features; the order is as long as there are instances.
 pub struct Lent<'a> {
     pub weights: &'a mut [f64],
-    pub beside: &'a mut [f64],
-    pub truly: &'a mut [f64],
-    pub predicted: &'a mut [f64],
+    pub running_sums: &'a mut [f64],
+    pub true_counts: &'a mut [f64],
+    pub predicted_counts: &'a mut [f64],
     pub order: &'a mut [u32],
 }
 
@@ -35,13 +35,23 @@ impl Trainer {
     pub fn new(settings: &Settings, on: [u32; 2]) -> Self {
         let Settings { rule, epochs, epsilon, seed } = *settings;
         match rule {
-            Rule::Perceptron => Self::Perceptron(calls::Perceptron { epochs, epsilon, seed }),
+            Rule::Perceptron => Self::Perceptron(calls::AveragedPerceptronParameters { epochs, epsilon, seed }),
             Rule::PassiveAggressive { variant, c, error_sensitive, averaging } => {
-                let [sensitive, averaging] = [error_sensitive, averaging].map(u32::from);
-                let (sensitive, averaging) = (sensitive * on[0], averaging * on[1]);
-                Self::Passive(calls::Passive { epochs, epsilon, seed, variant, c, sensitive, averaging })
+                let [error_sensitive, averaging] = [error_sensitive, averaging].map(u32::from);
+                let (error_sensitive, averaging) = (error_sensitive * on[0], averaging * on[1]);
+                Self::Passive(calls::PassiveAggressiveParameters {
+                    epochs,
+                    epsilon,
+                    seed,
+                    variant,
+                    c,
+                    error_sensitive,
+                    averaging,
+                })
             }
-            Rule::Arow { variance, gamma } => Self::Arow(calls::Arow { epochs, epsilon, seed, variance, gamma }),
+            Rule::Arow { variance, gamma } => {
+                Self::Arow(calls::ArowParameters { epochs, epsilon, seed, variance, gamma })
+            }
         }
     }
 }
@@ -56,7 +66,11 @@ macro_rules! call {
                 $model.labels,
                 $model.counts.into(),
                 $(pointer(&$model.$table), $model.$table.len(),)*
-                calls::Totals { instances: $data.instances, words: $data.words, attributes: $data.attributes },
+                calls::Totals {
+                    instances: $data.instances,
+                    words_in_all: $data.words,
+                    attributes_in_all: $data.attributes,
+                },
                 $(pointer(&$data.$part), $data.$part.len(),)*
                 $(pointer_mut($lent.$buffer), $lent.$buffer.len(),)*
             )
@@ -68,7 +82,7 @@ macro_rules! call {
             $parameters,
             $model [kinds, destinations, sources, attribute_starts, attribute_entries, label_starts, label_entries],
             $data [word_starts, attribute_starts, ids, values, references, weights],
-            mut $lent [weights, beside, truly, predicted, order]
+            mut $lent [weights, running_sums, true_counts, predicted_counts, order]
         )
     };
 }

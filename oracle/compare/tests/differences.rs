@@ -95,11 +95,11 @@ mod scoring {
         let [labels, words, features] = [model.labels, line.words, model.counts.features].map(|count| count as usize);
         match call {
             Call::Scores => {
-                let (mut states, mut transitions) =
-                    (Buffer::new(rng, words * labels), Buffer::new(rng, labels * labels));
-                let refused = compute_scores(model, line, states.lend(), transitions.lend()).err();
-                states.result(words * labels, refused);
+                let (mut transitions, mut states) =
+                    (Buffer::new(rng, labels * labels), Buffer::new(rng, words * labels));
+                let refused = compute_scores(model, line, transitions.lend(), states.lend()).err();
                 transitions.result(labels * labels, refused);
+                states.result(words * labels, refused);
                 refused
             }
             Call::Labels => {
@@ -144,12 +144,12 @@ mod training {
         let [features, instances] = [model.counts.features, data.instances].map(|count| count as usize);
         let mut numbers: [Buffer<f64>; 4] = std::array::from_fn(|_| Buffer::new(rng, features));
         let mut order: Buffer<u32> = Buffer::new(rng, instances);
-        let [weights, beside, truly, predicted] = &mut numbers;
+        let [weights, running_sums, true_counts, predicted_counts] = &mut numbers;
         let lent = Lent {
             weights: weights.lend(),
-            beside: beside.lend(),
-            truly: truly.lend(),
-            predicted: predicted.lend(),
+            running_sums: running_sums.lend(),
+            true_counts: true_counts.lend(),
+            predicted_counts: predicted_counts.lend(),
             order: order.lend(),
         };
         let refused = train(Trainer::new(&input.settings(call), [1, 1]), model, data, lent).err();

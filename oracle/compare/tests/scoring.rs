@@ -11,7 +11,7 @@ use oracle::cases::{Mix, Rng, calls as cases, damage};
 use oracle::judge::{self, Decoded};
 use oracle::refusals::{self, ATTRIBUTE_LISTS, ATTRIBUTES_IN_ALL, ENTRIES, FEATURES, LABEL_LISTS, LABELS, WORDS};
 use oracle::tables::{Counts, Line, Model, STATE, Scores, TRANSITION, all_same, same};
-use shared::{Buffer, Call, bits_of_line, lent, refusal, refused_as_owed, rooms, rounds};
+use shared::{Buffer, Call, Entry, bits_of_line, lent, refusal, refused_as_owed, rooms, rounds};
 
 /// Lines that are scored and labelled, and lines that are counted.
 const CASES: u64 = 12_000;
@@ -20,20 +20,20 @@ const OFTEN: u64 = 50;
 
 // ---- the calls, with an eye on all memory
 
-/// States, then transitions.
+/// Transitions, then states.
 fn needed_scores(call: &LineCall) -> Vec<usize> {
     let [labels, words] = [call.model.labels, call.line.words].map(|count| count as usize);
-    vec![words * labels, labels * labels]
+    vec![labels * labels, words * labels]
 }
 
 fn scored(call: &LineCall, rooms: &[usize], rng: &mut Rng) -> Result<Scores, Refusal> {
     let LineCall { model, line } = call.clone();
     let needed = needed_scores(call);
-    let (mut states, mut transitions) = (Buffer::new(rng, rooms[0]), Buffer::new(rng, rooms[1]));
-    let answer = compute_scores(&model, &line, states.lend(), transitions.lend());
+    let (mut transitions, mut states) = (Buffer::new(rng, rooms[0]), Buffer::new(rng, rooms[1]));
+    let answer = compute_scores(&model, &line, transitions.lend(), states.lend());
     assert_eq!(bits_of_line(&model, &line), bits_of_line(&call.model, &call.line), "the tables are only read");
-    let [states, transitions] =
-        [(states, needed[0]), (transitions, needed[1])].map(|(of, needed)| of.result(needed, answer.err()).to_vec());
+    let [transitions, states] =
+        [(transitions, needed[0]), (states, needed[1])].map(|(of, needed)| of.result(needed, answer.err()).to_vec());
     answer.map(|()| Scores { labels: model.labels, words: line.words, states, transitions })
 }
 
@@ -275,6 +275,18 @@ fn counts_as_the_rust_does() {
     mix.finish();
 }
 
+/// What the buffers are full of has NaNs of every kind among it.
+#[test]
+fn lends_nans_of_every_kind() {
+    const QUIET: u64 = 1 << 51;
+    let mut rng = Rng::new(0x2A2);
+    let drawn: Vec<f64> = (0..1_000).map(|_| Entry::drawn(&mut rng)).filter(|x: &f64| x.is_nan()).collect();
+    for (minus, quiet) in [(false, false), (false, true), (true, false), (true, true)] {
+        let of_kind = |x: &&f64| x.is_sign_negative() == minus && (x.to_bits() & QUIET != 0) == quiet;
+        assert!(drawn.iter().filter(of_kind).count() > 30, "minus {minus}, quiet {quiet}");
+    }
+}
+
 // ---- refusals
 
 /// Scoring, and the model's check beside it, which finds what is in the model.
@@ -443,7 +455,7 @@ fn at_the_bounds() {
     let (model, line) = ((call.model.labels, call.model.counts), (call.line.words, call.line.attributes));
     for (more, number) in more {
         more(&mut call);
-        let mut lent = (vec![7.0; 33 * 129], vec![7.0; 33 * 33], vec![7; 129], vec![7.0; FEATURES as usize + 1]);
+        let mut lent = (vec![7.0; 33 * 33], vec![7.0; 33 * 129], vec![7; 129], vec![7.0; FEATURES as usize + 1]);
         let refused = Some((number, 0));
         assert_eq!(compute_scores(&call.model, &call.line, &mut lent.0, &mut lent.1).err(), refused);
         assert_eq!(label_line(&call.model, &call.line, &mut lent.2).err(), refused);

@@ -25,7 +25,7 @@ const ON: [u32; 3] = [1, 2, u32::MAX];
 
 // ---- the call, with an eye on all memory
 
-/// Weights, beside, truly, predicted; order.
+/// Weights, running sums or covariance, true counts, predicted counts; order.
 fn needed(call: &TrainCall) -> Vec<usize> {
     let features = call.model.counts.features as usize;
     vec![features, features, features, features, call.data.instances as usize]
@@ -42,12 +42,12 @@ fn trained(call: &TrainCall, rooms: &[usize], rng: &mut Rng) -> Result<Trained, 
     let TrainCall { model, data, settings } = call.clone();
     let mut numbers: [Buffer<f64>; 4] = std::array::from_fn(|i| Buffer::new(rng, rooms[i]));
     let mut order: Buffer<u32> = Buffer::new(rng, rooms[4]);
-    let [weights, beside, truly, predicted] = &mut numbers;
+    let [weights, running_sums, true_counts, predicted_counts] = &mut numbers;
     let lent = Lent {
         weights: weights.lend(),
-        beside: beside.lend(),
-        truly: truly.lend(),
-        predicted: predicted.lend(),
+        running_sums: running_sums.lend(),
+        true_counts: true_counts.lend(),
+        predicted_counts: predicted_counts.lend(),
         order: order.lend(),
     };
     let trainer = Trainer::new(&settings, [rng.pick(&ON), rng.pick(&ON)]);
@@ -330,8 +330,8 @@ fn switches() {
                 let trainer = Trainer::new(&call.settings, [sensitive, averaging]);
                 let lengths = needed(&call);
                 let (mut floats, mut order) = (vec![vec![7.0; lengths[0]]; 4], vec![7; lengths[4]]);
-                let [weights, beside, truly, predicted] = &mut floats[..] else { unreachable!() };
-                let lent = Lent { weights, beside, truly, predicted, order: &mut order };
+                let [weights, running_sums, true_counts, predicted_counts] = &mut floats[..] else { unreachable!() };
+                let lent = Lent { weights, running_sums, true_counts, predicted_counts, order: &mut order };
                 let answer = training::train(trainer, &call.model, &call.data, lent);
                 let answer = answer.map(|training::Trained { epochs, visits, updates }| Trained {
                     weights: floats[0].clone(),

@@ -2,7 +2,7 @@
 use borrow.Author.Needs.{needs}
 use mathlib.Core.Path.{sym}
 use lib.Seq.{length-take-le}
-use Rattle.decode_sheet.proofs.Print.{printed-within}
+use Rattle.answer_file.proofs.EveryFile.{every-within}
 use Rattle.answer_file.proofs.answer_file.Statement.{statement}
 use Rattle.answer_file.proofs.answer_file.Tie as tie
 
@@ -12,20 +12,17 @@ slice-aggregate-read-bytes c = search needs
 read-bytes-requires : tie.Need-read-bytes-requires
 read-bytes-requires c κs = search needs
 
-array-share-prefix-bytes : tie.Need-array-share-prefix-bytes
-array-share-prefix-bytes c = search needs
+slice-aggregate-answer-front : tie.Need-slice-aggregate-answer-front
+slice-aggregate-answer-front c = search needs
 
-slice-aggregate-print-sheet : tie.Need-slice-aggregate-print-sheet
-slice-aggregate-print-sheet c = sym (length-take-le _ _ (c .before .before .read-bytes .ensures))
-
-print-sheet-requires : tie.Need-print-sheet-requires
-print-sheet-requires c κs = search needs
+answer-front-requires : tie.Need-answer-front-requires
+answer-front-requires c κs = search needs
 
 array-share-prefix-line : tie.Need-array-share-prefix-line
-array-share-prefix-line c = printed-within (c .print-sheet .ensures)
+array-share-prefix-line c = let r : tie.After-read-bytes = search in every-within _ _ (r .read-bytes .ensures) (c .answer-front .ensures)
 
 slice-aggregate-write-all : tie.Need-slice-aggregate-write-all
-slice-aggregate-write-all c = sym (length-take-le _ _ (printed-within (c .before .print-sheet .ensures)))
+slice-aggregate-write-all c = sym (length-take-le _ _ (array-share-prefix-line (c .before)))
 
 write-all-requires : tie.Need-write-all-requires
 write-all-requires c κs = search needs
@@ -39,9 +36,8 @@ answer-file-spec =
     (tie.spec
     slice-aggregate-read-bytes
     read-bytes-requires
-    array-share-prefix-bytes
-    slice-aggregate-print-sheet
-    print-sheet-requires
+    slice-aggregate-answer-front
+    answer-front-requires
     array-share-prefix-line
     slice-aggregate-write-all
     write-all-requires

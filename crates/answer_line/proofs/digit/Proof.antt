@@ -1,4 +1,5 @@
 -- `answer_line::digit` meets its contract. Assumes nothing.
+use native.Mathlib.Omega.{arith}
 use borrow.Author.Needs.{needs}
 use borrow.Author.Tests.{lt-ltb, le-ltb}
 use Rattle.answer_line.specs.Digits.{digit}
@@ -23,7 +24,7 @@ returns c = rw (lt-ltb _ _ (c .if1 .taken))
 
 returns-2 : tie.Need-returns-2
 unfolding digit
-returns-2 c = rw (le-ltb _ _ (c .if1 .left))
+returns-2 c = rw (le-ltb _ _ (c .if1 .left)) (omega arith)
 
 pub digit-spec : {M : Type 1} → statement M
 digit-spec =

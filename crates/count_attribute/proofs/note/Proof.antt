@@ -1,5 +1,7 @@
 -- `count_attribute::note` meets its contract. Assumes nothing.
-use mathlib.Core.Path.{refl}
+use mathlib.Core.Path.{_≡_, refl}
+use native.Mathlib.Omega.{arith}
+use lib.ListN.{getD}
 use borrow.Author.Tests.{eq-eqb, ne-eqb}
 use borrow.Author.Needs.{needs}
 use Rattle.count_attribute.proofs.note.Statement.{statement}
@@ -38,7 +40,9 @@ same-length-2 c = search needs
 returns : tie.Need-returns
 returns c =
     let a = c .before .before in
-    (rw (a .at .ensures), (refl, rw (← a .at .ensures, eq-eqb _ _ (c .if1 .taken))))
+    let s : tie.Start = search in
+    let h : getD (s .args .destinations .now) (a .at .result) 0 ≡ s .args .label = omega arith in
+    (rw (a .at .ensures), (refl, rw (← a .at .ensures, eq-eqb _ _ h)))
 
 same-length-3 : tie.Need-same-length-3
 same-length-3 c = search needs
@@ -49,7 +53,9 @@ same-length-4 c = search needs
 returns-2 : tie.Need-returns-2
 returns-2 c =
     let a = c .before .before in
-    (rw (a .at .ensures), (refl, rw (← a .at .ensures, ne-eqb _ _ (c .if1 .left))))
+    let s : tie.Start = search in
+    let h : getD (s .args .destinations .now) (a .at .result) 0 ≡ s .args .label → ⊥ = λ e. omega arith in
+    (rw (a .at .ensures), (refl, rw (← a .at .ensures, ne-eqb _ _ h)))
 
 pub note-spec : {M : Type 1} → statement M
 note-spec =

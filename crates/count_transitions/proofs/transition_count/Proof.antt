@@ -1,5 +1,8 @@
 -- `count_transitions::transition_count` meets its contract. Assumes nothing.
+use mathlib.Core.Path.{_≡_}
 use mathlib.Core.Bool.{and-false}
+use native.Mathlib.Omega.{arith}
+use lib.ListN.{getD}
 use borrow.Author.Tests.{eq-eqb, ne-eqb}
 use borrow.Author.Needs.{needs}
 use Rattle.lines.specs.Passes.{raised}
@@ -47,7 +50,10 @@ returns c =
     let k = c .before in
     let s = k .before .before in
     let d = s .before .before in
-    rw (← d .before .before .at .ensures, eq-eqb _ _ (k .if3 .taken), eq-eqb _ _ (s .if2 .taken), eq-eqb _ _ (d .if1 .taken), literal-one)
+    let a = d .before .before in
+    let b : tie.Start = search in
+    let h : getD (b .args .sources .now) (a .at .result) 0 ≡ b .args .previous = omega (arith, s .if2 .taken) in
+    rw (← a .at .ensures, eq-eqb _ _ (k .if3 .taken), eq-eqb _ _ h, eq-eqb _ _ (d .if1 .taken), literal-one)
 
 returns-2 : tie.Need-returns-2
 unfolding transitionCount
@@ -55,7 +61,11 @@ returns-2 c = rw (← c .before .before .before .before .before .before .at .ens
 
 returns-3 : tie.Need-returns-3
 unfolding transitionCount
-returns-3 c = rw (← c .before .before .before .before .at .ensures, ne-eqb _ _ (c .if2 .left), and-false)
+returns-3 c =
+    let a = c .before .before .before .before in
+    let b : tie.Start = search in
+    let h : getD (b .args .sources .now) (a .at .result) 0 ≡ b .args .previous → ⊥ = λ e. omega arith in
+    rw (← a .at .ensures, ne-eqb _ _ h, and-false)
 
 returns-4 : tie.Need-returns-4
 unfolding transitionCount

@@ -41,8 +41,17 @@ check-counting-requires c κs = search needs
 enum-known-checked : tie.Need-enum-known-checked
 enum-known-checked c = search needs
 
+refuse-counts-requires : tie.Need-refuse-counts-requires
+refuse-counts-requires c κs = search needs
+
+same-length : tie.Need-same-length
+same-length c = search needs
+
 returns : tie.Need-returns
-returns c = refused-kept _ _ _ (sym (c .before .before .before .check-counting .ensures) ∙ c .before .checked .given .1)
+returns c =
+    let r : tie.After-refuse-counts = search in
+    let k = r .before .before .before in
+    refused-kept _ _ _ (sym (k .before .before .check-counting .ensures) ∙ k .checked .given .1) (r .refuse-counts .ensures .0) (r .refuse-counts .ensures .1)
 
 enum-told : tie.Need-enum-told
 enum-told c = search needs
@@ -63,8 +72,8 @@ finish-counts-requires c κs =
     let f = c .before .before .before in
     omega (arith, f .count-line .kept .1 .1 .1 .1 .1 .1 .1 .1 .1 .1 .1 .1 .1 .1 .1 .1 .0, sound (f .before .before .before .before) .fits .features)
 
-same-length : tie.Need-same-length
-same-length c = search needs
+same-length-2 : tie.Need-same-length-2
+same-length-2 c = search needs
 
 returns-2 : tie.Need-returns-2
 returns-2 c =
@@ -81,11 +90,13 @@ extract-features-spec =
     cast-features
     check-counting-requires
     enum-known-checked
+    refuse-counts-requires
+    same-length
     returns
     enum-told
     cast-count-line
     cast-count-line-2
     count-line-requires
     finish-counts-requires
-    same-length
+    same-length-2
     returns-2)

@@ -19,7 +19,7 @@ returns c =
     let s = c .before .before .before in
     record {
       answers = c .numbers-of-check .ensures ∙ ap numbers (s .extract-features .ensures .answers);
-      amounts = s .extract-features .ensures .amounts;
+      counts = s .extract-features .ensures .amounts;
     }
 
 pub bodkinbloom-extract-features-spec : {M : Type 1} → statement M

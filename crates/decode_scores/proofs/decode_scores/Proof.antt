@@ -20,7 +20,7 @@ returns : tie.Need-returns
 returns c =
     let k = c .before .before .before .before .before .before .before in
     let a = k .before .before .before .before .args in
-    eight (a .labels) (a .words) (a .states .now) (a .transitions .now) (a .path .now) (k .check-scores .ensures) _ (c .before .before .before .before .before .finished .given .1) (c .before .before .clear-path .ensures)
+    eight (a .labels) (a .words) (a .transitions .now) (a .states .now) (a .path .now) (k .check-scores .ensures) _ (c .before .before .before .before .before .finished .given .1) (c .before .before .clear-path .ensures)
 
 enum-told : tie.Need-enum-told
 enum-told c = search needs
@@ -35,7 +35,7 @@ returns-2 : tie.Need-returns-2
 returns-2 c =
     let k = c .before .before .before .before .before .before in
     let a = k .before .before .before .before .args in
-    path-found (a .labels) (a .words) (a .states .now) (a .transitions .now) (a .path .now) (k .check-scores .ensures) _ (c .before .before .before .before .enum-told .given .1) (c .before .before .decode-front .ensures)
+    path-found (a .labels) (a .words) (a .transitions .now) (a .states .now) (a .path .now) (k .check-scores .ensures) _ (c .before .before .before .before .enum-told .given .1) (c .before .before .decode-front .ensures)
 
 pub decode-scores-spec : {M : Type 1} → statement M
 decode-scores-spec =

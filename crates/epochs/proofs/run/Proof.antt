@@ -23,7 +23,7 @@ use Rattle.epochs.proofs.run.Reads as reads
 use Rattle.epochs.proofs.run.Lts as lts
 use Rattle.steps.proofs.ends.Reads as ends-reads
 use Rattle.one_epoch.proofs.epoch.Reads as epoch-reads
-use Rattle.shuffle.proofs.shuffle.Reads as shuffle-reads
+use Rattle.begin_and_end.proofs.deal.Reads as deal-reads
 
 abbrev Inv-loop : tie.InvT-loop
 Inv-loop trainer sizes kinds destinations sources starts entries label-starts label-entries lines begins ids values references shares allowed epsilon seed order₀ weights₀ beside₀ truly₀ predicted₀ n step₀ g₀ e₀ order weights beside truly predicted step g e =
@@ -39,8 +39,8 @@ abbrev μ-loop : tie.MeasureT-loop
 μ-loop trainer sizes kinds destinations sources starts entries label-starts label-entries lines begins ids values references shares allowed epsilon seed order₀ weights₀ beside₀ truly₀ predicted₀ n step₀ g₀ e₀ order weights beside truly predicted step g e = allowed - e
 
 -- the order that an epoch goes by
-dealt : (q : tie.After-shuffle Inv-loop μ-loop) → OrderOf (q .before .before .before .before .before .before .before .before .before .before .before .before .before .before .before .before .before .before .before .before .before .before .args .sizes .instances) (q .shuffle .last .1 .1 .0)
-dealt q = dealt-keeps _ _ _ (q .shuffle .ensures) (q .before .before .before .loop .inv .5)
+dealt : (q : tie.After-deal Inv-loop μ-loop) → OrderOf (q .before .before .before .before .before .before .before .before .before .before .before .before .before .before .before .before .before .before .before .before .before .before .args .sizes .instances) (q .deal .last .1 .1 .0)
+dealt q = dealt-keeps _ _ _ (q .deal .ensures) (q .before .before .before .loop .inv .5)
 
 bound : (k : tie.After-epoch Inv-loop μ-loop) → k .epoch .result .visits ≤ 16384000
 bound k =
@@ -51,8 +51,8 @@ bound k =
 loop-holds : tie.Need-loop-holds Inv-loop μ-loop
 loop-holds c = let s = c .before .before .before .before .before .before .before .before .before .before .before .before .before .before .before .before .before .before in (omega arith, refl, s .pre .1 .1 .0, omega arith, omega arith, s .pre .1 .1 .1 .1, through-none _ _ _)
 
-shuffle-requires : tie.Need-shuffle-requires Inv-loop μ-loop
-shuffle-requires c κs =
+deal-requires : tie.Need-deal-requires Inv-loop μ-loop
+deal-requires c κs =
     let l = c .before .before in
     let s = c .before .before .before .before .before .before .before .before .before .before .before .before .before .before .before .before .before .before .before .before .before in
     (s .pre .1 .0 .some, s .pre .1 .0 .few, l .loop .inv .5 .long)
@@ -82,7 +82,7 @@ ends-requires : tie.Need-ends-requires Inv-loop μ-loop
 ends-requires c κs = c .before .before .before .before .before .before .before .before .before .before .before .before .before .before .before .before .before .before .before .before .before .before .before .before .before .before .before .before .before .before .before .before .before .before .before .before .before .before .pre .1 .0 .few
 
 same-length : tie.Need-same-length Inv-loop μ-loop
-same-length c = c .before .before .before .before .before .before .before .before .before .before .before .before .before .before .before .before .before .before .shuffle .kept .1 .1 .0 ∙ c .before .before .before .before .before .before .before .before .before .before .before .before .before .before .before .before .before .before .before .before .before .loop .inv .1
+same-length c = c .before .before .before .before .before .before .before .before .before .before .before .before .before .before .before .before .before .before .deal .kept .1 .1 .0 ∙ c .before .before .before .before .before .before .before .before .before .before .before .before .before .before .before .before .before .before .before .before .before .loop .inv .1
 
 same-length-2 : tie.Need-same-length-2 Inv-loop μ-loop
 same-length-2 c = c .before .before .before .before .before .before .before .before .before .before .epoch .kept .1 .1 .1 .1 .1 .1 .1 .1 .1 .1 .1 .1 .1 .1 .1 .1 .1 .0 ∙ c .before .before .before .before .before .before .before .before .before .before .before .before .before .before .before .before .before .before .before .before .before .loop .inv .2 .weights-long ∙ sym (c .before .before .before .before .before .before .before .before .before .before .before .before .before .before .before .before .before .before .before .before .before .before .before .before .before .before .before .before .before .before .before .before .before .before .before .before .before .before .before .before .pre .1 .1 .0 .weights-long)
@@ -102,7 +102,7 @@ returns c =
     let k = c .before .before .before .before .before .before .before .before .before .before in
     let q = c .before .before .before .before .before .before .before .before .before .before .before .before .before .before .before .before .before .before in
     let l = c .before .before .before .before .before .before .before .before .before .before .before .before .before .before .before .before .before .before .before .before .before in
-    run-ended _ _ _ _ (l .loop .e) (l .loop .inv .6) (q .shuffle .ensures) (k .epoch .ensures .0) (c .before .ends .ensures) _ (c .before .before .before .before .before .before .before .before .before .before .before .before .before .before .before .before .before .before .before .before .loop-test .taken) (c .if1 .taken) (bound k)
+    run-ended _ _ _ _ (l .loop .e) (l .loop .inv .6) (q .deal .ensures) (k .epoch .ensures .0) (c .before .ends .ensures) _ (c .before .before .before .before .before .before .before .before .before .before .before .before .before .before .before .before .before .before .before .before .loop-test .taken) (c .if1 .taken) (bound k)
 
 loop-less : tie.Need-loop-less Inv-loop μ-loop
 loop-less c = omega (arith, c .before .before .before .before .before .before .before .before .before .before .before .before .before .before .before .before .before .before .before .before .loop-test .taken)
@@ -113,12 +113,12 @@ loop-again c =
     let q = c .before .before .before .before .before .before .before .before .before .before .before .before .before .before .before .before .before .before in
     let l = c .before .before .before .before .before .before .before .before .before .before .before .before .before .before .before .before .before .before .before .before .before in (
       omega (arith, c .before .before .before .before .before .before .before .before .before .before .before .before .before .before .before .before .before .before .before .before .loop-test .taken),
-      q .shuffle .kept .1 .1 .0 ∙ l .loop .inv .1,
+      q .deal .kept .1 .1 .0 ∙ l .loop .inv .1,
       record { weights-long = k .epoch .kept .1 .1 .1 .1 .1 .1 .1 .1 .1 .1 .1 .1 .1 .1 .1 .1 .1 .0 ∙ l .loop .inv .2 .weights-long; beside-long = k .epoch .kept .1 .1 .1 .1 .1 .1 .1 .1 .1 .1 .1 .1 .1 .1 .1 .1 .1 .1 .0 ∙ l .loop .inv .2 .beside-long; truly-long = k .epoch .kept .1 .1 .1 .1 .1 .1 .1 .1 .1 .1 .1 .1 .1 .1 .1 .1 .1 .1 .1 .0 ∙ l .loop .inv .2 .truly-long; predicted-long = k .epoch .kept .1 .1 .1 .1 .1 .1 .1 .1 .1 .1 .1 .1 .1 .1 .1 .1 .1 .1 .1 .1 .0 ∙ l .loop .inv .2 .predicted-long },
       omega (arith, l .loop .inv .3, k .epoch .ensures .1 .visits, c .before .before .before .before .before .before .before .before .before .before .before .before .before .before .before .before .before .before .before .before .before .before .before .before .before .before .before .before .before .before .before .before .before .before .before .before .before .before .before .before .pre .1 .0 .few),
       k .epoch .ensures .1 .updates,
       dealt q,
-      run-on _ _ _ _ (l .loop .e) (l .loop .inv .6) (q .shuffle .ensures) (k .epoch .ensures .0) (c .before .ends .ensures) (c .if1 .left),
+      run-on _ _ _ _ (l .loop .e) (l .loop .inv .6) (q .deal .ensures) (k .epoch .ensures .0) (c .before .ends .ensures) (c .if1 .left),
     )
 
 same-length-6 : tie.Need-same-length-6 Inv-loop μ-loop
@@ -150,7 +150,7 @@ run-spec =
     Inv-loop
     μ-loop
     loop-holds
-    shuffle-requires
+    deal-requires
     epoch-requires
     add-e
     ends-requires

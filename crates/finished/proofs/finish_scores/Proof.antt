@@ -39,7 +39,7 @@ returns c =
     let s = t .before .before .before .before .before in
     let f = s .before .before .before .before in (
       sym (f .finished .given .1) ∙ f .before .before .check-scores .ensures,
-      (cleared-to _ _ (s .before .entries .ensures) (s .clear-front .ensures), cleared-to _ _ (t .before .entries2 .ensures) (t .clear-front2 .ensures)),
+      (cleared-to _ _ (t .before .entries2 .ensures) (t .clear-front2 .ensures), cleared-to _ _ (s .before .entries .ensures) (s .clear-front .ensures)),
     )
 
 enum-told : tie.Need-enum-told

@@ -57,7 +57,7 @@ same-length c = search needs
 returns-2 : tie.Need-returns-2
 returns-2 c =
     let d = c .before .before .before .before .before in
-    agreed _ _ (is-finite (d .before .before)) (path-is d) (c .before .count-wrong .ensures .0) (c .if2 .taken)
+    agreed _ _ (is-finite (d .before .before)) (path-is d) (c .before .count-wrong .ensures .0) (omega arith)
 
 score-path-requires : tie.Need-score-path-requires
 score-path-requires c κs =

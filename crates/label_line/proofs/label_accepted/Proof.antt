@@ -20,14 +20,14 @@ given s =
     }
 
 abbrev lent : tie.Start → Buffers
-lent s = record { states = s .args .states .now; transitions = s .args .transitions .now }
+lent s = record { transitions = s .args .transitions .now; states = s .args .states .now }
 
 abbrev start : tie.After-fill-scores → tie.Start
 start c = c .before .before .before .before .before .before .before .before .before .before .before .before .before .before .before .before .before
 
 -- the scores are of the size that they should be
-few : (c : tie.After-fill-scores) → let s = start c in Sized (s .args .labels) (s .args .words) (c .fill-scores .last .1 .1 .1 .1 .1 .1 .1 .1 .1 .1 .1 .1 .1 .1 .1 .1 .0) (c .fill-scores .last .1 .1 .1 .1 .1 .1 .1 .1 .1 .1 .1 .1 .1 .1 .1 .0)
-few c = let s = start c in sized (given s) (lent s) (s .pre .0) _ _ (c .fill-scores .kept .1 .1 .1 .1 .1 .1 .1 .1 .1 .1 .1 .1 .1 .1 .1 .0) (c .fill-scores .kept .1 .1 .1 .1 .1 .1 .1 .1 .1 .1 .1 .1 .1 .1 .1 .1 .0)
+few : (c : tie.After-fill-scores) → let s = start c in Sized (s .args .labels) (s .args .words) (c .fill-scores .last .1 .1 .1 .1 .1 .1 .1 .1 .1 .1 .1 .1 .1 .1 .1 .0) (c .fill-scores .last .1 .1 .1 .1 .1 .1 .1 .1 .1 .1 .1 .1 .1 .1 .1 .1 .0)
+few c = let s = start c in sized (given s) (lent s) (s .pre .0) _ _ (c .fill-scores .kept .1 .1 .1 .1 .1 .1 .1 .1 .1 .1 .1 .1 .1 .1 .1 .1 .0) (c .fill-scores .kept .1 .1 .1 .1 .1 .1 .1 .1 .1 .1 .1 .1 .1 .1 .1 .0)
 
 fill-scores-requires : tie.Need-fill-scores-requires
 fill-scores-requires c κs = c .before .before .before .before .before .before .before .before .before .before .before .before .before .before .before .before .pre .0
@@ -50,7 +50,7 @@ returns : tie.Need-returns
 returns c =
     let f = c .before .before .before .before .before .before .before .before .before .before in
     let s = start f in
-    finished-labelled (given s) (lent s) (f .fill-scores .ensures .0) (f .fill-scores .ensures .1) (s .args .path .now) _ (c .before .before .decode-scores .ensures)
+    finished-labelled (given s) (lent s) (f .fill-scores .ensures .1) (f .fill-scores .ensures .0) (s .args .path .now) _ (c .before .before .decode-scores .ensures)
 
 pub label-accepted-spec : {M : Type 1} → statement M
 label-accepted-spec =

@@ -1,19 +1,13 @@
 -- `passive_step::cost_of` meets its contract. Assumes nothing.
 use borrow.Author.Needs.{needs}
-use lib.Ieee.{ofBits, ofInt}
-use Rattle.roots.proofs.Laws.{root-is}
 use Rattle.passive_step.proofs.cost_of.Statement.{statement}
 use Rattle.passive_step.proofs.cost_of.Tie as tie
 
-root-requires : tie.Need-root-requires
-root-requires c κs = search needs
+margin-requires : tie.Need-margin-requires
+margin-requires c κs = search needs
 
 returns : tie.Need-returns
-returns c = rw (c .before .if1 .taken, root-is _ _ (c .before .before .pre) (c .root .ensures))
-
-returns-2 : tie.Need-returns-2
-unfolding ofBits ofInt
-returns-2 c = rw (c .if1 .left)
+returns c = rw (c .margin .ensures)
 
 pub cost-of-spec : {M : Type 1} → statement M
-cost-of-spec = tie.close (tie.spec root-requires returns returns-2)
+cost-of-spec = tie.close (tie.spec margin-requires returns)

@@ -21,7 +21,7 @@ given s =
     }
 
 abbrev lent : tie.Start → Buffers
-lent s = record { states = s .args .states .now; transitions = s .args .transitions .now }
+lent s = record { transitions = s .args .transitions .now; states = s .args .states .now }
 
 abbrev start : tie.After-enum-told → tie.Start
 start c = c .before .before .before .before .before .before .before .before .before .before .before .before .before .before .before .before
@@ -35,8 +35,21 @@ check-scoring-requires c κs = search needs
 enum-known-checked : tie.Need-enum-known-checked
 enum-known-checked c = search needs
 
+refuse-scores-requires : tie.Need-refuse-scores-requires
+refuse-scores-requires c κs = search needs
+
+same-length : tie.Need-same-length
+same-length c = search needs
+
+same-length-2 : tie.Need-same-length-2
+same-length-2 c = search needs
+
 returns : tie.Need-returns
-returns c = refused-kept _ _ _ (sym (c .before .before .before .check-scoring .ensures) ∙ c .before .checked .given .1)
+returns c =
+    let r : tie.After-refuse-scores = search in
+    let k = r .before .before .before .before in
+    let e = r .refuse-scores .ensures in
+    refused-kept _ _ _ (sym (k .before .before .check-scoring .ensures) ∙ k .checked .given .1) (e .0) (e .1 .0) (e .1 .1)
 
 enum-told : tie.Need-enum-told
 enum-told c = search needs
@@ -49,21 +62,21 @@ finish-scores-requires c κs =
     let f = c .before .before .before .before .before .before in
     let t = f .before .before .before in
     sized (given (start t)) (lent (start t)) (scoring-sound (scoringOf (given (start t)) (lent (start t))) (accepted t)) _ _
-    (f .fill-scores .kept .1 .1 .1 .1 .1 .1 .1 .1 .1 .1 .1 .1 .1 .1 .1 .0)
     (f .fill-scores .kept .1 .1 .1 .1 .1 .1 .1 .1 .1 .1 .1 .1 .1 .1 .1 .1 .0)
+    (f .fill-scores .kept .1 .1 .1 .1 .1 .1 .1 .1 .1 .1 .1 .1 .1 .1 .1 .0)
 
-same-length : tie.Need-same-length
-same-length c = search needs
+same-length-3 : tie.Need-same-length-3
+same-length-3 c = search needs
 
-same-length-2 : tie.Need-same-length-2
-same-length-2 c = search needs
+same-length-4 : tie.Need-same-length-4
+same-length-4 c = search needs
 
 returns-2 : tie.Need-returns-2
 returns-2 c =
     let e = c .before .before .before .before in
     let f = e .before .before .before .before .before .before .before in
     let t = f .before .before .before in
-    made-kept (given (start t)) (lent (start t)) (accepted t) (f .fill-scores .ensures .0) (f .fill-scores .ensures .1) (e .finish-scores .ensures .0) (e .finish-scores .ensures .1 .0) (e .finish-scores .ensures .1 .1)
+    made-kept (given (start t)) (lent (start t)) (accepted t) (f .fill-scores .ensures .1) (f .fill-scores .ensures .0) (e .finish-scores .ensures .0) (e .finish-scores .ensures .1 .1) (e .finish-scores .ensures .1 .0)
 
 pub compute-scores-spec : {M : Type 1} → statement M
 compute-scores-spec =
@@ -71,10 +84,13 @@ compute-scores-spec =
     (tie.spec
     check-scoring-requires
     enum-known-checked
+    refuse-scores-requires
+    same-length
+    same-length-2
     returns
     enum-told
     fill-scores-requires
     finish-scores-requires
-    same-length
-    same-length-2
+    same-length-3
+    same-length-4
     returns-2)

@@ -43,7 +43,7 @@ returns : tie.Need-returns
 returns c =
     let l = c .before .before .before .before .before .before .before in
     let s = start (l .before .before .before .before .before) in
-    (l .score-line .ensures (model s) (s .args .attributes), c .before .before .score-transitions .ensures (model s))
+    (c .before .before .score-transitions .ensures (model s), l .score-line .ensures (model s) (s .args .attributes))
 
 pub fill-scores-spec : {M : Type 1} → statement M
 fill-scores-spec =

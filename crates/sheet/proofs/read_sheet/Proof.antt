@@ -1,26 +1,39 @@
 -- `sheet::read_sheet` meets its contract. Assumes nothing.
-use Prim.Native.Nat.{_*_}
+use Prim.Native.Nat.{ℕ, _*_}
 use mathlib.Core.Path.{_≡_, sym, _∙_}
 use native.Mathlib.Omega.{arith}
 use borrow.Author.Needs.{needs}
-use Rattle.sheet_bytes.specs.Fields.{labelsIn, wordsIn, transitionsIn, statesIn}
+use Rattle.sheet_bytes.specs.Fields.{transitionsIn, statesIn}
 use Rattle.sheet_check.proofs.Rows.{Accepts, accepts}
+use Rattle.sheet.specs.Promise.{read}
 use Rattle.sheet.proofs.Kept.{promised-refused, promised-read}
 use Rattle.sheet.proofs.read_sheet.Statement.{statement}
 use Rattle.sheet.proofs.read_sheet.Tie as tie
 
+-- the places that facts are taken from, each found from one after it
+abbrev entry : tie.After-check-sheet → tie.Start
+entry c = search
+
+abbrev checked : tie.After-enum-told → tie.After-check-sheet
+checked c = search
+
+abbrev accepted : tie.After-labels-in → tie.After-enum-told
+accepted c = search
+
+abbrev counted : tie.After-read-part → tie.After-entries
+counted c = search
+
 -- what the accepted sheet gives
-told : (c : tie.After-enum-told) → let a = c .before .before .before .before .before .before .before .before .args in Accepts (a .bytes .now) (record { transitions = a .transitions .now; states = a .states .now })
-told c = accepts _ _ (sym (c .before .before .check-sheet .ensures) ∙ c .enum-told .given .1)
+told : (c : tie.After-enum-told) → let a = entry (checked c) .args in Accepts (a .bytes .now) (record { transitions = a .transitions .now; states = a .states .now })
+told c = accepts _ _ (sym (checked c .check-sheet .ensures) ∙ c .enum-told .given .1)
 
--- how many transitions, and how many states
-transitions : (c : tie.After-entries) → let bytes = c .before .before .before .before .before .before .before .before .before .before .before .args .bytes .now in c .entries .result ≡ labelsIn bytes * labelsIn bytes
-transitions c = rw (c .before .before .labels-in .ensures .0) at (c .entries .ensures)
+-- how many entries a table has
+size : {n a b x y : ℕ} → n ≡ a * b → a ≡ x → b ≡ y → n ≡ x * y
+size n a b = rw (a, b) at n
 
-states : (c : tie.After-entries2) → let bytes = c .before .before .before .before .before .before .before .before .before .before .before .before .before .before .before .before .args .bytes .now in c .entries2 .result ≡ wordsIn bytes * labelsIn bytes
-states c =
-    let w = c .before .before .before .before .before .before in
-    rw (w .words-in .ensures .0, w .before .labels-in .ensures .0) at (c .entries2 .ensures)
+-- what is said of L and T
+says : {a b x y : ℕ} → a ≡ x → b ≡ y → read a b ≡ read x y
+says a b = rw (a, b)
 
 check-sheet-requires : tie.Need-check-sheet-requires
 check-sheet-requires c κs = search needs
@@ -35,16 +48,16 @@ same-length-2 : tie.Need-same-length-2
 same-length-2 c = search needs
 
 returns : tie.Need-returns
-returns c = promised-refused _ _ _ (sym (c .before .before .before .check-sheet .ensures) ∙ c .before .why .given .1)
+returns c = let s : tie.After-check-sheet = search in let w : tie.After-why = search in promised-refused _ _ _ (sym (s .check-sheet .ensures) ∙ w .why .given .1)
 
 enum-told : tie.Need-enum-told
 enum-told c = search needs
 
 labels-in-requires : tie.Need-labels-in-requires
-labels-in-requires c κs = told c .sizes-in .long
+labels-in-requires c κs = search needs
 
 words-in-requires : tie.Need-words-in-requires
-words-in-requires c κs = told (c .before) .sizes-in .long
+words-in-requires c κs = search needs
 
 entries-requires : tie.Need-entries-requires
 entries-requires c κs = search needs
@@ -52,15 +65,14 @@ entries-requires c κs = search needs
 read-part-requires : tie.Need-read-part-requires
 unfolding transitionsIn
 read-part-requires c κs =
-    let e = transitions (c .before) in
-    let a = told (c .before .before .before .before) in
-    (omega (arith, a .sizes-in .exact), (omega (arith, a .sizes-in .room .room .long-transitions), rw e (a .transitions-in)))
+    let m : tie.After-entries = search in
+    let l : tie.After-labels-in = search in
+    let a = told (accepted l) in
+    let e = size (m .entries .ensures) (l .labels-in .ensures .0) (l .labels-in .ensures .0) in
+    (omega (arith, e, a .sizes-in .exact), (omega (arith, e, a .sizes-in .room .room .long-transitions), rw e (a .transitions-in)))
 
-mul-read-part : tie.Need-mul-read-part
-mul-read-part c = omega (arith, transitions (c .before .before .before .before), told (c .before .before .before .before .before .before .before) .sizes-in .room .few-transitions)
-
-add-read-part : tie.Need-add-read-part
-add-read-part c = omega (arith, transitions (c .before .before .before .before), told (c .before .before .before .before .before .before .before) .sizes-in .room .few-transitions)
+states-from-requires : tie.Need-states-from-requires
+states-from-requires c κs = search needs
 
 entries-requires-2 : tie.Need-entries-requires-2
 entries-requires-2 c κs = search needs
@@ -68,10 +80,14 @@ entries-requires-2 c κs = search needs
 read-part-requires-2 : tie.Need-read-part-requires-2
 unfolding statesIn
 read-part-requires-2 c κs =
-    let e = transitions (c .before .before .before .before .before .before) in
-    let s = states (c .before) in
-    let a = told (c .before .before .before .before .before .before .before .before .before) in
-    (omega (arith, a .sizes-in .exact), (omega (arith, a .sizes-in .room .room .long-states), rw (e, s) (a .states-in)))
+    let n : tie.After-entries2 = search in
+    let f : tie.After-states-from = search in
+    let p : tie.After-read-part = search in
+    let w : tie.After-words-in = counted p .before in
+    let l = w .before in
+    let a = told (accepted l) in
+    let e = size (n .entries2 .ensures) (w .words-in .ensures .0) (l .labels-in .ensures .0) in
+    (omega (arith, e, f .states-from .ensures, a .sizes-in .exact), (omega (arith, e, a .sizes-in .room .room .long-states), rw (e, f .states-from .ensures) (a .states-in)))
 
 same-length-3 : tie.Need-same-length-3
 same-length-3 c = search needs
@@ -82,15 +98,20 @@ same-length-4 c = search needs
 returns-2 : tie.Need-returns-2
 unfolding transitionsIn statesIn
 returns-2 c =
-    let s = c .before .before in
-    let t = s .before .before .before .before .before in
-    let w = t .before .before .before in
+    let q : tie.After-read-part2 = search in
+    let n : tie.After-entries2 = search in
+    let f : tie.After-states-from = search in
+    let p : tie.After-read-part = search in
+    let m = counted p in
+    let w : tie.After-words-in = m .before in
     let l = w .before in
-    let told = l .before in
-    promised-read _ _ _ (sym (told .before .before .check-sheet .ensures) ∙ told .enum-told .given .1)
-    (rw (l .labels-in .ensures .0, w .words-in .ensures .0))
-    (rw (transitions (t .before .before)) at (t .read-part .ensures))
-    (rw (states (s .before .before), transitions (t .before .before)) at (s .read-part2 .ensures))
+    let t = accepted l in
+    let e = size (m .entries .ensures) (l .labels-in .ensures .0) (l .labels-in .ensures .0) in
+    let d = size (n .entries2 .ensures) (w .words-in .ensures .0) (l .labels-in .ensures .0) in
+    promised-read _ _ _ (sym (checked t .check-sheet .ensures) ∙ t .enum-told .given .1)
+    (says (l .labels-in .ensures .0) (w .words-in .ensures .0))
+    (rw e at (p .read-part .ensures))
+    (rw (d, f .states-from .ensures) at (q .read-part2 .ensures))
 
 pub read-sheet-spec : {M : Type 1} → statement M
 read-sheet-spec =
@@ -106,8 +127,7 @@ read-sheet-spec =
     words-in-requires
     entries-requires
     read-part-requires
-    mul-read-part
-    add-read-part
+    states-from-requires
     entries-requires-2
     read-part-requires-2
     same-length-3

@@ -1,6 +1,6 @@
 -- `sheet_bytes::word_at` meets its contract. Assumes nothing.
 use borrow.Author.Needs.{needs}
-use mathlib.Core.Path.{sym}
+use native.Mathlib.Omega.{arith}
 use Rattle.sheet_bytes.proofs.Laws.{four-halves}
 use Rattle.sheet_bytes.proofs.word_at.Statement.{statement}
 use Rattle.sheet_bytes.proofs.word_at.Tie as tie
@@ -48,7 +48,7 @@ returns : tie.Need-returns
 returns c =
     let a = c .before .before .before .before .before in
     rw (c .half-at4 .ensures .0, c .before .half-at3 .ensures .0, c .before .before .half-at2 .ensures .0, c .before .before .before .half-at .ensures .0)
-    (sym (four-halves (a .args .bytes .now) (a .args .at) (a .pre)))
+    (omega (arith, four-halves (a .args .bytes .now) (a .args .at) (a .pre)))
 
 pub word-at-spec : {M : Type 1} → statement M
 word-at-spec =

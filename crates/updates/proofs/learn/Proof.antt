@@ -10,26 +10,32 @@ use Rattle.updates.proofs.learn.Statement.{statement}
 use Rattle.updates.proofs.learn.Tie as tie
 use Rattle.updates.proofs.learn.Reads as reads
 use Rattle.updates.proofs.learn.Lts as lts
-use Rattle.binary64.proofs.is_finite.Reads as is-finite-reads
+use Rattle.steps.proofs.holds.Reads as holds-reads
 use Rattle.training_tables.proofs.both_finite.Reads as both-finite-reads
 use Rattle.steps.proofs.refuse.Reads as refuse-reads
 use Rattle.updates.proofs.update.Reads as update-reads
+
+-- the start, found from the update
+abbrev entry : tie.After-update → tie.Start
+entry c = search
 
 add-visits : tie.Need-add-visits
 add-visits c = search needs
 
 int-to-float-counter : tie.Need-int-to-float-counter
 unfolding inFloat
-int-to-float-counter c = le→leb (c .before .before .before .before .before .before .args .s .visits + 1) 9007199254740992 (omega (arith, c .before .before .before .before .before .before .pre .1))
+int-to-float-counter c =
+    let s : tie.Start = search in
+    le→leb (s .args .s .visits + 1) 9007199254740992 (omega (arith, s .pre .1))
 
 update-requires : tie.Need-update-requires
 update-requires c κs = search needs
 
-is-finite-requires : tie.Need-is-finite-requires
-is-finite-requires c κs = search needs
+holds-requires : tie.Need-holds-requires
+holds-requires c κs = search needs
 
-add-t22 : tie.Need-add-t22
-add-t22 c = search needs
+add-updates : tie.Need-add-updates
+add-updates c = search needs
 
 same-length : tie.Need-same-length
 same-length c = search needs
@@ -39,8 +45,12 @@ same-length-2 c = search needs
 
 returns : tie.Need-returns
 returns c =
-    let u = c .before .before .before .before .before .before .before .before .before .before .update .ensures in
-    (held _ _ _ _ u _ (c .before .before .before .is-finite .ensures) (c .before .if1 .taken), record { visits = omega arith; updates = omega (arith, c .before .before .before .before .before .before .before .before .before .before .before .before .before .before .before .before .before .before .before .pre .1) })
+    let u : tie.After-update = search in
+    let h : tie.After-holds = search in
+    let t : tie.Then1 = search in (
+      held _ _ _ _ (u .update .ensures) (sym (h .holds .ensures) ∙ t .if1 .taken),
+      record { visits = omega arith; updates = omega (arith, entry u .pre .1) },
+    )
 
 both-finite-requires : tie.Need-both-finite-requires
 both-finite-requires c κs = search needs
@@ -59,9 +69,15 @@ same-length-4 c = search needs
 
 returns-2 : tie.Need-returns-2
 returns-2 c =
-    let u = c .before .before .before .before .before .before .before .before .before .before .before .before .update .ensures in
-    let made = c .refuse .ensures in
-    (not-held _ _ _ _ u _ (c .before .before .before .before .before .is-finite .ensures) (c .before .before .before .if1 .left) (sym (c .before .before .both-finite .ensures) ∙ c .before .if2 .taken) (made _), refused-counted 9 _ _ made (c .before .before .before .before .before .before .before .before .before .before .before .before .before .before .before .before .before .before .before .before .before .pre .1 .1))
+    let u : tie.After-update = search in
+    let h : tie.After-holds = search in
+    let e : tie.Else1 = search in
+    let b : tie.After-both-finite = search in
+    let t : tie.Then2 = search in
+    let made = c .refuse .ensures in (
+      not-held _ _ _ _ (u .update .ensures) (sym (h .holds .ensures) ∙ e .if1 .left) (sym (b .both-finite .ensures) ∙ t .if2 .taken) (made _),
+      refused-counted 9 _ _ made (entry u .pre .1 .1),
+    )
 
 same-length-5 : tie.Need-same-length-5
 same-length-5 c = search needs
@@ -71,8 +87,13 @@ same-length-6 c = search needs
 
 returns-3 : tie.Need-returns-3
 returns-3 c =
-    let made = c .refuse2 .ensures in
-    (not-counted _ _ _ _ (sym (c .before .before .both-finite .ensures) ∙ c .before .if2 .left) (made _), refused-counted 8 _ _ made (c .before .before .before .before .before .before .before .before .before .before .before .before .before .before .before .before .before .before .before .before .before .pre .1 .1))
+    let u : tie.After-update = search in
+    let b : tie.After-both-finite = search in
+    let e : tie.Else2 = search in
+    let made = c .refuse2 .ensures in (
+      not-counted _ _ _ _ (sym (b .both-finite .ensures) ∙ e .if2 .left) (made _),
+      refused-counted 8 _ _ made (entry u .pre .1 .1),
+    )
 
 pub learn-spec : {M : Type 1} → statement M
 learn-spec =
@@ -81,8 +102,8 @@ learn-spec =
     add-visits
     int-to-float-counter
     update-requires
-    is-finite-requires
-    add-t22
+    holds-requires
+    add-updates
     same-length
     same-length-2
     returns

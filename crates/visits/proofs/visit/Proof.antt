@@ -1,31 +1,18 @@
-use mathlib.Core.Path.{_≡_, refl, sym, ap, _∙_}
-use mathlib.Core.Bool.{true, false, _&&_}
-use mathlib.Core.List.{_++_}
-use Prim.Native.Nat.{_+_, _-_, _*_, _≤_, _<_}
-use native.Mathlib.Nat.{le-of-eq, le-trans}
+use mathlib.Core.Path.{_≡_, sym, _∙_}
+use Prim.Native.Nat.{ℕ, _-_, _≤_, _<_}
+use native.Mathlib.Nat.{le-trans}
 use native.Mathlib.Omega.{arith}
 use borrow.Author.Needs.{needs}
-use borrow.Author.Tests.{not-true, not-false}
-use lib.ListN.{length, drop, replicate}
-use lib.Seq.{length-take-le, take-at}
-use lib.Ieee.{Float}
+use lib.ListN.{length, take, replicate, length-append}
+use lib.Seq.{length-take-le}
 use Rattle.lines.specs.Tables.{Model}
 use Rattle.training.specs.Data.{Data}
 use Rattle.training.specs.Visits.{State}
-use Rattle.prediction.specs.Tables.{modelOf, dataOf, SoundLine}
-use Rattle.parameters.specs.Trainers.{ruleOf}
+use Rattle.prediction.specs.Tables.{modelOf, dataOf}
 use Rattle.updates.specs.Updating.{stateOf}
-use Rattle.updates.proofs.Laws.{refused-counted, unchanged-counted}
-use Rattle.visits.proofs.Laws.{some-words, few-words, all-words, line-sound, unscored, same, other, front-again}
+use Rattle.visits.proofs.Laws.{some-words, few-words, all-words, line-sound, ended-counted, ended-there, other-front}
 use Rattle.visits.proofs.visit.Statement.{statement}
 use Rattle.visits.proofs.visit.Tie as tie
-use Rattle.visits.proofs.visit.Reads as reads
-use Rattle.visits.proofs.visit.Lts as lts
-use Rattle.lines.proofs.at.Reads as at-reads
-use Rattle.prediction.proofs.predict.Reads as predict-reads
-use Rattle.visits.proofs.correct.Reads as correct-reads
-use Rattle.steps.proofs.refuse.Reads as refuse-reads
-use Rattle.steps.proofs.unchanged.Reads as unchanged-reads
 
 -- the model, the data and the state that the arguments make
 abbrev model : tie.Start → Model
@@ -41,28 +28,38 @@ data-of s =
 abbrev state : tie.Start → State
 state s = stateOf (s .args .s) (s .args .weights .now) (s .args .beside .now)
 
+-- the places that facts are taken from, each found from the one after it
+abbrev entry : tie.After-at → tie.Start
+entry c = search
+
+abbrev begun : tie.After-at2 → tie.After-at
+begun c = search
+
+abbrev ended : tie.After-predict → tie.After-at2
+ended c = search
+
 -- the instance's words, from the first up to the end
-some : (e : tie.After-at2) → e .before .at .result < e .at2 .result
+some : (e : tie.After-at2) → begun e .at .result < e .at2 .result
 some e =
-    let s = e .before .before .before .before .before .before .before .before .before .before .before .before .before .before .before .before .before .before .before in
-    some-words (data-of s) _ _ _ (e .before .at .ensures) (e .at2 .ensures) (s .pre .1 .0) (s .pre .1 .1 .1 .0)
+    let f = begun e in
+    let s = entry f in
+    some-words (data-of s) _ _ _ (f .at .ensures) (e .at2 .ensures) (s .pre .1 .0) (s .pre .1 .1 .1 .0)
 
-few : (e : tie.After-at2) → e .at2 .result - e .before .at .result ≤ 128
+few : (e : tie.After-at2) → let f : tie.After-at = search in e .at2 .result - f .at .result ≤ 128
 few e =
-    let s = e .before .before .before .before .before .before .before .before .before .before .before .before .before .before .before .before .before .before .before in
-    few-words (data-of s) _ _ _ (e .before .at .ensures) (e .at2 .ensures) (s .pre .1 .0) (s .pre .1 .1 .1 .0)
+    let f = begun e in
+    let s = entry f in
+    few-words (data-of s) _ _ _ (f .at .ensures) (e .at2 .ensures) (s .pre .1 .0) (s .pre .1 .1 .1 .0)
 
-all : (e : tie.After-at2) → e .at2 .result ≤ length (e .before .before .before .before .before .before .before .before .before .before .before .before .before .before .before .before .before .before .before .args .references .now)
+all : (e : tie.After-at2) → let s = entry (begun e) in e .at2 .result ≤ length (s .args .references .now)
 all e =
-    let s = e .before .before .before .before .before .before .before .before .before .before .before .before .before .before .before .before .before .before .before in
-    le-trans (all-words (data-of s) _ _ _ (e .before .at .ensures) (e .at2 .ensures) (s .pre .1 .0) (s .pre .1 .1 .1 .0)) (s .pre .1 .0 .referenced)
+    let f = begun e in
+    let s = entry f in
+    le-trans (all-words (data-of s) _ _ _ (f .at .ensures) (e .at2 .ensures) (s .pre .1 .0) (s .pre .1 .1 .1 .0)) (s .pre .1 .0 .referenced)
 
--- the path that the prediction left in the front of its array
-path-long : (d : tie.After-predict) → let e = d .before .before .before .before in length (d .predict .last .1 .1 .1 .1 .1 .1 .1 .1 .1 .1 .1 .1 .1 .1 .1 .0) ≡ e .at2 .result - e .before .at .result
-path-long d = d .predict .kept .1 .1 .1 .1 .1 .1 .1 .1 .1 .1 .1 .1 .1 .1 .1 .0 ∙ length-take-le _ _ (few (d .before .before .before .before))
-
-path-fits : (d : tie.After-predict) → let e = d .before .before .before .before in let n = e .at2 .result - e .before .at .result in n ≤ length (d .predict .last .1 .1 .1 .1 .1 .1 .1 .1 .1 .1 .1 .1 .1 .1 .1 .0 ++ drop n (replicate 128 0))
-path-fits d = front-again (d .predict .last .1 .1 .1 .1 .1 .1 .1 .1 .1 .1 .1 .1 .1 .1 .1 .0) (replicate 128 0) _ (path-long d)
+-- the front that the prediction is lent is as long as the instance
+front : (d : tie.After-predict) → let e = ended d in let n = e .at2 .result - begun e .at .result in length (take n (replicate {A = ℕ} 128 0)) ≡ n
+front d = length-take-le _ _ (few (ended d))
 
 at-requires : tie.Need-at-requires
 at-requires c κs = search needs
@@ -77,7 +74,9 @@ sub-words : tie.Need-sub-words
 sub-words c = omega (arith, some c)
 
 mul-reference : tie.Need-mul-reference
-mul-reference c = omega (arith, some c, all c, c .before .before .before .before .before .before .before .before .before .before .before .before .before .before .before .before .before .before .before .good)
+mul-reference c =
+    let s = entry (begun c) in
+    omega (arith, some c, all c, s .good)
 
 sub-reference : tie.Need-sub-reference
 sub-reference c = omega (arith, some c)
@@ -89,74 +88,88 @@ part-reference-end : tie.Need-part-reference-end
 part-reference-end c = all c
 
 array-borrow-prefix-path : tie.Need-array-borrow-prefix-path
-array-borrow-prefix-path c = few (c .before .before)
+array-borrow-prefix-path c = few (search)
 
 slice-aggregate-predict : tie.Need-slice-aggregate-predict
-slice-aggregate-predict c = sym (length-take-le _ _ (few (c .before .before .before)))
+slice-aggregate-predict c = sym (length-take-le _ _ (few (search)))
 
 predict-requires : tie.Need-predict-requires
 predict-requires c κs =
-    let e = c .before .before .before in
-    let s = c .before .before .before .before .before .before .before .before .before .before .before .before .before .before .before .before .before .before .before .before .before .before in (
+    let e : tie.After-at2 = search in
+    let f = begun e in
+    let s = entry f in (
       s .pre .0,
       (
-        line-sound (data-of s) _ _ _ (e .before .at .ensures) (e .at2 .ensures) (s .pre .1 .0) (s .pre .1 .1 .1 .0),
+        line-sound (data-of s) _ _ _ (f .at .ensures) (e .at2 .ensures) (s .pre .1 .0) (s .pre .1 .1 .1 .0),
         (s .pre .1 .1 .0 .weights-long, length-take-le _ _ (few e)),
       ),
     )
 
-refuse-requires : tie.Need-refuse-requires
-refuse-requires c κs = search needs
+look-requires : tie.Need-look-requires
+look-requires c κs =
+    let d : tie.After-predict = search in
+    let s = entry (begun (ended d)) in
+    (s .pre .1 .1 .1 .1, s .pre .1 .1 .1 .2)
+
+enum-known-found : tie.Need-enum-known-found
+enum-known-found c = search needs
 
 same-length : tie.Need-same-length
 same-length c = search needs
 
 returns : tie.Need-returns
 returns c =
-    let e = c .before .before .before .before .before .before .before .before in
-    let s = c .before .before .before .before .before .before .before .before .before .before .before .before .before .before .before .before .before .before .before .before .before .before .before .before .before .before .before in
-    let made = c .refuse .ensures in (
-      unscored (data-of s) _ _ _ (e .before .at .ensures) (e .at2 .ensures) _ (model s) (state s) (c .before .before .before .before .predict .ensures) (not-true _ (c .before .if1 .taken)) (made _),
-      refused-counted 8 _ _ made (s .pre .1 .1 .1 .2),
+    let k : tie.After-look = search in
+    let d : tie.After-predict = search in
+    let e = ended d in
+    let f = begun e in
+    let s = entry f in
+    let b : tie.After-found = search in
+    let was = b .found .given .1 in (
+      ended-there (data-of s) _ _ _ (f .at .ensures) (e .at2 .ensures) _ (model s) (state s) (d .predict .ensures) (sym (k .look .ensures _) ∙ was),
+      ended-counted _ _ _ _ (λ l. sym (k .look .ensures l) ∙ was) (s .pre .1 .1 .1 .2),
     )
 
-unchanged-requires : tie.Need-unchanged-requires
-unchanged-requires c κs = let s = c .before .before .before .before .before .before .before .before .before .before .before .before .before .before .before .before .before .before .before .before .before .before .before .before .before .before .before .before in (s .pre .1 .1 .1 .1, s .pre .1 .1 .1 .2)
-
-same-length-2 : tie.Need-same-length-2
-same-length-2 c = search needs
-
-returns-2 : tie.Need-returns-2
-returns-2 c =
-    let e = c .before .before .before .before .before .before .before .before .before .before in
-    let s = c .before .before .before .before .before .before .before .before .before .before .before .before .before .before .before .before .before .before .before .before .before .before .before .before .before .before .before .before .before in
-    let made = c .unchanged .ensures in (
-      same (data-of s) _ _ _ (e .before .at .ensures) (e .at2 .ensures) _ (model s) (state s) (c .before .before .before .before .before .before .predict .ensures) (not-false _ (c .before .before .before .if1 .left)) (c .before .if2 .taken) (made _),
-      unchanged-counted _ _ made (s .pre .1 .1 .1 .2),
-    )
+enum-told : tie.Need-enum-told
+enum-told c = search needs
 
 array-share-prefix-path : tie.Need-array-share-prefix-path
-array-share-prefix-path c = path-fits (c .before .before .before .before .before)
+array-share-prefix-path c =
+    let d : tie.After-predict = search in
+    simp length-append (omega (arith, d .predict .kept, front d))
 
 slice-aggregate-correct : tie.Need-slice-aggregate-correct
-slice-aggregate-correct c = sym (length-take-le _ _ (path-fits (c .before .before .before .before .before .before)))
+slice-aggregate-correct c =
+    let d : tie.After-predict = search in
+    sym (length-take-le _ _ (simp length-append (omega (arith, d .predict .kept, front d))))
 
 mul-correct : tie.Need-mul-correct
-mul-correct c = let s = c .before .before .before .before .before .before .before .before .before .before .before .before .before .before .before .before .before .before .before .before .before .before .before .before .before .before .before .before .before in omega (arith, s .pre .1 .1 .1 .0, s .pre .1 .0 .few)
+mul-correct c =
+    let d : tie.After-predict = search in
+    let s = entry (begun (ended d)) in
+    omega (arith, s .pre)
 
 shared-slice-read-correct : tie.Need-shared-slice-read-correct
-shared-slice-read-correct c = let s = c .before .before .before .before .before .before .before .before .before .before .before .before .before .before .before .before .before .before .before .before .before .before .before .before .before .before .before .before .before .before in omega (arith, s .pre .1 .1 .1 .0, s .pre .1 .0 .weighted)
+shared-slice-read-correct c =
+    let d : tie.After-predict = search in
+    let s = entry (begun (ended d)) in
+    omega (arith, s .pre)
 
 correct-requires : tie.Need-correct-requires
 correct-requires c κs =
-    let e = c .before .before .before .before .before .before .before .before .before .before .before .before .before .before .before in
-    let s = c .before .before .before .before .before .before .before .before .before .before .before .before .before .before .before .before .before .before .before .before .before .before .before .before .before .before .before .before .before .before .before .before .before .before in (
+    let d : tie.After-predict = search in
+    let e = ended d in
+    let f = begun e in
+    let s = entry f in (
       s .pre .0,
       (
-        line-sound (data-of s) _ _ _ (e .before .at .ensures) (e .at2 .ensures) (s .pre .1 .0) (s .pre .1 .1 .1 .0),
-        (s .pre .1 .1 .0, ((length-take-le _ _ (path-fits (c .before .before .before .before .before .before .before .before .before .before .before)), c .before .before .before .before .before .before .before .before .before .before .before .predict .ensures .few), (s .pre .1 .1 .1 .1, s .pre .1 .1 .1 .2))),
+        line-sound (data-of s) _ _ _ (f .at .ensures) (e .at2 .ensures) (s .pre .1 .0) (s .pre .1 .1 .1 .0),
+        (s .pre .1 .1 .0, ((length-take-le _ _ (simp length-append (omega (arith, d .predict .kept, front d))), d .predict .ensures .few), (s .pre .1 .1 .1 .1, s .pre .1 .1 .1 .2))),
       ),
     )
+
+same-length-2 : tie.Need-same-length-2
+same-length-2 c = search needs
 
 same-length-3 : tie.Need-same-length-3
 same-length-3 c = search needs
@@ -167,16 +180,17 @@ same-length-4 c = search needs
 same-length-5 : tie.Need-same-length-5
 same-length-5 c = search needs
 
-same-length-6 : tie.Need-same-length-6
-same-length-6 c = search needs
-
-returns-3 : tie.Need-returns-3
-returns-3 c =
-    let e = c .before .before .before .before .before .before .before .before .before .before .before .before .before .before .before .before .before .before .before .before .before .before .before .before in
-    let s = c .before .before .before .before .before .before .before .before .before .before .before .before .before .before .before .before .before .before .before .before .before .before .before .before .before .before .before .before .before .before .before .before .before .before .before .before .before .before .before .before .before .before .before in
-    let d = c .before .before .before .before .before .before .before .before .before .before .before .before .before .before .before .before .before .before .before .before in
-    let made = c .before .before .before .before .before .before .before .before .correct .ensures in (
-      other (data-of s) _ _ _ (e .before .at .ensures) (e .at2 .ensures) _ (model s) (state s) (c .before .before .before .before .before .before .before .before .before .before .before .before .before .before .before .before .before .before .before .before .predict .ensures) (not-false _ (c .before .before .before .before .before .before .before .before .before .before .before .before .before .before .before .before .before .if1 .left)) (c .before .before .before .before .before .before .before .before .before .before .before .before .before .before .before .if2 .left) (rw (take-at (d .predict .last .1 .1 .1 .1 .1 .1 .1 .1 .1 .1 .1 .1 .1 .1 .1 .0) (drop _ (replicate 128 0)) _ (path-long d)) at (made .0)),
+returns-2 : tie.Need-returns-2
+returns-2 c =
+    let k : tie.After-correct = search in
+    let t : tie.After-enum-told = search in
+    let l : tie.After-look = search in
+    let d : tie.After-predict = search in
+    let e = ended d in
+    let f = begun e in
+    let s = entry f in
+    let made = k .correct .ensures in (
+      other-front (data-of s) _ _ _ (f .at .ensures) (e .at2 .ensures) _ (model s) (state s) (d .predict .ensures) (sym (l .look .ensures _) ∙ t .enum-told .given .1) (omega (arith, d .predict .kept, front d)) _ (made .0),
       made .1,
     )
 
@@ -195,19 +209,18 @@ visit-spec =
     array-borrow-prefix-path
     slice-aggregate-predict
     predict-requires
-    refuse-requires
+    look-requires
+    enum-known-found
     same-length
     returns
-    unchanged-requires
-    same-length-2
-    returns-2
+    enum-told
     array-share-prefix-path
     slice-aggregate-correct
     mul-correct
     shared-slice-read-correct
     correct-requires
+    same-length-2
     same-length-3
     same-length-4
     same-length-5
-    same-length-6
-    returns-3)
+    returns-2)

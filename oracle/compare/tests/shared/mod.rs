@@ -57,9 +57,12 @@ impl Entry for u32 {
 }
 
 impl Entry for f64 {
-    /// Any bits at all, those of NaNs included.
+    /// Any bits at all; each fourth is a NaN of any sign and payload, quiet or signalling.
     fn drawn(rng: &mut Rng) -> Self {
-        f64::from_bits(rng.draw())
+        const EXPONENT: u64 = 0x7FF << 52;
+        let bits = rng.draw();
+        // the payload of a signalling NaN is not 0, or it were an infinity
+        f64::from_bits(if rng.chance(25) { bits | EXPONENT | 1 } else { bits })
     }
 
     fn bits(self) -> u64 {
@@ -67,7 +70,8 @@ impl Entry for f64 {
     }
 }
 
-/// A buffer full of junk, between margins that are not lent.
+/// A buffer full of junk, NaNs among it, between margins that are not lent. All of it is compared by its bits: the proofs know
+/// one NaN only, and cannot tell one from another.
 pub struct Buffer<T> {
     before: Vec<T>,
     memory: Vec<T>,
