@@ -22,7 +22,7 @@ pub fn rival(row: &[f64; 32], n: usize, last: usize) -> f64
     let mut k: usize = 1;
     while k + 1 < n {
         let label = other_label(last, k);
-        score = best_step::better(score, row[label]);
+        score = viterbi_steps::better(score, row[label]);
         k += 1;
     }
     score

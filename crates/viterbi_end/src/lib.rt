@@ -27,8 +27,8 @@ fn last_largest(row: &[f64; 32], n: usize) -> usize
     let mut label: usize = 1;
     while label < n {
         let next = row[label];
-        last = best_step::whence(score, next, last, label as u64);
-        score = best_step::better(score, next);
+        last = viterbi_steps::whence(score, next, last, label as u64);
+        score = viterbi_steps::better(score, next);
         label += 1;
     }
     last as usize

@@ -1,2 +1,3 @@
+pub mod BestStepLaws
 pub mod Written
 pub mod Laws

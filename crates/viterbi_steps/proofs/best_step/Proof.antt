@@ -9,10 +9,10 @@ use lib.ListN.{getD}
 use lib.Ieee.{nan, binary64, add}
 use Rattle.best_path.specs.Decoded.{lastLargest}
 use Rattle.best_path.proofs.Laws.{largest-first}
-use Rattle.best_step.specs.Chosen.{candidate}
-use Rattle.best_step.proofs.Laws.{square-small, row-after, score-more, from-more}
-use Rattle.best_step.proofs.best_step.Statement.{statement}
-use Rattle.best_step.proofs.best_step.Tie as tie
+use Rattle.viterbi_steps.specs.Chosen.{candidate}
+use Rattle.viterbi_steps.proofs.BestStepLaws.{square-small, row-after, score-more, from-more}
+use Rattle.viterbi_steps.proofs.best_step.Statement.{statement}
+use Rattle.viterbi_steps.proofs.best_step.Tie as tie
 
 abbrev Inv-loop : tie.InvT-loop
 Inv-loop row n transitions label state score₀ from₀ tried₀ at₀ score from tried at =

@@ -4,7 +4,7 @@ use Prim.Native.Nat.{ℕ, _+_, _-_, _*_}
 use lib.ListN.{getD}
 use lib.Ieee.{Float, nan, binary64, add}
 use Rattle.best_path.specs.Decoded.{lastLargest}
-use Rattle.best_step.specs.declared.Choice.{Choice}
+use Rattle.viterbi_steps.specs.declared.Choice.{Choice}
 
 -- "A later candidate is (best of previous + transition) + state": for one label, by the label of the word before
 abbrev pub candidate : ℕ → List Float → List Float → ℕ → Float → ℕ → Float

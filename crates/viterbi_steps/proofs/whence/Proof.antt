@@ -1,6 +1,6 @@
 -- `whence` meets its contract: each arm returns what `cond` picks where the test is as the arm found it. Assumes nothing.
-use Rattle.best_step.proofs.whence.Statement.{statement}
-use Rattle.best_step.proofs.whence.Tie as tie
+use Rattle.viterbi_steps.proofs.whence.Statement.{statement}
+use Rattle.viterbi_steps.proofs.whence.Tie as tie
 
 returns : tie.Need-returns
 returns c = rw (c .if1 .taken)
