@@ -20,7 +20,7 @@ use Rattle.viterbi_steps.proofs.Written.{written-length, front-inside}
 use Rattle.viterbi_steps.proofs.BestStepLaws.{row-after}
 use Rattle.viterbi_steps.proofs.Laws.{after-wide, after-holds, after-leads}
 use Rattle.viterbi_end.specs.declared.Found.{Found}
-use Rattle.rival.specs.Rival.{scoreAt, rivalOf}
+use Rattle.viterbi_end.specs.Rival.{scoreAt, rivalOf}
 use Rattle.walk_back.specs.Walked.{Walk}
 use Rattle.walk_back.proofs.Laws.{walked-path, steps-within}
 use Rattle.viterbi_end.specs.Ends.{lastOf, leadOf, Ended}

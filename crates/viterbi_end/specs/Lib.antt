@@ -1,1 +1,2 @@
+pub mod Rival
 pub mod Ends

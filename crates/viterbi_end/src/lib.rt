@@ -1,9 +1,41 @@
 // The end of decoding: the last label of the line, its sum and lead, and the path walked back from it.
 ghost use mathlib.Core.Path.{_≡_};
 ghost use Prim.Native.Nat.{_≤_, _<_};
-ghost use Rattle.best_path.specs.Lead.{difference};
+ghost use Rattle.best_path.specs.Lead.{other, positiveZero, difference};
+ghost use Rattle.viterbi_end.specs.Rival.{rivalOf};
 ghost use Rattle.walk_back.specs.Walked.{Walk};
 ghost use Rattle.viterbi_end.specs.Ends.{leadSaid, lastOf, leadOf, Ended};
+
+// The labels other than `last`, in order.
+fn other_label(last: usize, k: usize) -> usize
+    requires { ⌜ k < 32 ⌝ }
+    ensures { λ r. ⌜ r ≡ other last k ⌝ }
+{
+    if k < last { k } else { k + 1 }
+}
+
+// The largest score of the labels other than `last`, of which there is at least one.
+pub fn rival(row: &[f64; 32], n: usize, last: usize) -> f64
+    requires { ⌜ (1 < n) × (n ≤ 32) ⌝ }
+    ensures { λ r. ⌜ r ≡ rivalOf (now (row .entry)) n last ⌝ }
+{
+    let first = other_label(last, 0);
+    let mut score = row[first];
+    let mut k: usize = 1;
+    while k + 1 < n {
+        let label = other_label(last, k);
+        score = viterbi_steps::better(score, row[label]);
+        k += 1;
+    }
+    score
+}
+
+// "A zero lead is +0."
+pub fn positive_zero(x: f64) -> f64
+    ensures { λ r. ⌜ r ≡ positiveZero x ⌝ }
+{
+    if x == 0.0 { 0.0 } else { x }
+}
 
 // By how much the best final score is above that of every other last label.
 pub enum Lead {
@@ -39,7 +71,7 @@ fn lead_by(best: f64, rival: f64) -> Lead
     ensures { λ r. ⌜ leadSaid r ≡ difference best rival ⌝ }
 {
     if binary64::is_finite(best) & binary64::is_finite(rival) {
-        Lead::By(rival::positive_zero(best - rival))
+        Lead::By(positive_zero(best - rival))
     } else {
         Lead::NoLead
     }
@@ -51,7 +83,7 @@ fn lead_of(row: &[f64; 32], n: usize, last: usize) -> Lead
     ensures { λ r. ⌜ leadSaid r ≡ leadOf (now (row .entry)) n last ⌝ }
 {
     if 1 < n {
-        lead_by(row[last], rival::rival(row, n, last))
+        lead_by(row[last], rival(row, n, last))
     } else {
         Lead::NoLead
     }

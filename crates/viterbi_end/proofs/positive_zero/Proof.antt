@@ -1,8 +1,8 @@
 -- `positive_zero` meets its contract. Assumes nothing.
 use lib.Ieee.{ofBits}
 use Rattle.best_path.specs.Lead.{positiveZero}
-use Rattle.rival.proofs.positive_zero.Statement.{statement}
-use Rattle.rival.proofs.positive_zero.Tie as tie
+use Rattle.viterbi_end.proofs.positive_zero.Statement.{statement}
+use Rattle.viterbi_end.proofs.positive_zero.Tie as tie
 
 returns : tie.Need-returns
 unfolding positiveZero ofBits

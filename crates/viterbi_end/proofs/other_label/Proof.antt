@@ -3,8 +3,8 @@ use borrow.Author.Needs.{needs}
 use borrow.Author.Tests.{lt-ltb, le-ltb}
 use native.Mathlib.Numerals.{add-one}
 use native.Mathlib.Omega.{arith}
-use Rattle.rival.proofs.other_label.Statement.{statement}
-use Rattle.rival.proofs.other_label.Tie as tie
+use Rattle.viterbi_end.proofs.other_label.Statement.{statement}
+use Rattle.viterbi_end.proofs.other_label.Tie as tie
 
 returns : tie.Need-returns
 returns c = rw (lt-ltb (c .before .args .k) (c .before .args .last) (omega arith))

@@ -8,10 +8,10 @@ use Rattle.best_path.specs.Decoded.{lastLargest}
 use Rattle.best_path.specs.Lead.{other}
 use Rattle.best_path.proofs.Laws.{largest-first, other-within}
 use Rattle.viterbi_steps.proofs.BestStepLaws.{score-more}
-use Rattle.rival.specs.Rival.{scoreAt}
+use Rattle.viterbi_end.specs.Rival.{scoreAt}
 use borrow.Author.Needs.{needs}
-use Rattle.rival.proofs.rival.Statement.{statement}
-use Rattle.rival.proofs.rival.Tie as tie
+use Rattle.viterbi_end.proofs.rival.Statement.{statement}
+use Rattle.viterbi_end.proofs.rival.Tie as tie
 
 abbrev Inv-loop : tie.InvT-loop
 Inv-loop row n last first score₀ k₀ score k =
