@@ -21,8 +21,8 @@ use Rattle.viterbi_steps.proofs.BestStepLaws.{row-after}
 use Rattle.viterbi_steps.proofs.Laws.{after-wide, after-holds, after-leads}
 use Rattle.viterbi_end.specs.declared.Found.{Found}
 use Rattle.viterbi_end.specs.Rival.{scoreAt, rivalOf}
-use Rattle.walk_back.specs.Walked.{Walk}
-use Rattle.walk_back.proofs.Laws.{walked-path, steps-within}
+use Rattle.viterbi_end.specs.Walked.{Walk}
+use Rattle.viterbi_end.proofs.Laws.{walked-path, steps-within}
 use Rattle.viterbi_end.specs.Ends.{lastOf, leadOf, Ended}
 use Rattle.viterbi.specs.Answered.{Ready, Answered}
 

@@ -1,10 +1,36 @@
 // The end of decoding: the last label of the line, its sum and lead, and the path walked back from it.
 ghost use mathlib.Core.Path.{_≡_};
-ghost use Prim.Native.Nat.{_≤_, _<_};
+ghost use mathlib.Core.List.{_++_};
+ghost use Prim.Native.Nat.{_-_, _<_, _≤_};
+ghost use lib.ListN.{length, getD, drop};
+ghost use Rattle.viterbi_end.specs.Walked.{walked, Walk};
 ghost use Rattle.best_path.specs.Lead.{other, positiveZero, difference};
 ghost use Rattle.viterbi_end.specs.Rival.{rivalOf};
-ghost use Rattle.walk_back.specs.Walked.{Walk};
 ghost use Rattle.viterbi_end.specs.Ends.{leadSaid, lastOf, leadOf, Ended};
+
+// The step back that stands at a place.
+fn step(steps: &[u8], place: usize) -> usize
+    requires { ⌜ place < length (now steps) ⌝ }
+    ensures { λ r. ⌜ r ≡ getD (now (steps .entry)) place 0 ⌝ }
+{
+    steps[place] as usize
+}
+
+// The path, from its last label back; the rest of the buffer is left alone.
+pub fn walk_back(path: &mut [u32], words: usize, n: usize, last: usize, steps: &[u8])
+    requires { ⌜ Walk n words (now steps) (now path) ⌝ }
+    requires { ⌜ last < n ⌝ }
+    ensures { λ _. ⌜ now (path .exit) ≡ walked (now (steps .entry)) n (words - 1) last ++ drop words (now (path .entry)) ⌝ }
+{
+    let mut label = last;
+    let mut word = words - 1;
+    while 0 < word {
+        path[word] = label as u32;
+        label = step(steps, word * n + label);
+        word -= 1;
+    }
+    path[0] = label as u32;
+}
 
 // The labels other than `last`, in order.
 fn other_label(last: usize, k: usize) -> usize
@@ -95,7 +121,7 @@ pub fn finish(row: &[f64; 32], n: usize, words: usize, steps: &[u8], path: &mut 
     ensures { λ r. ⌜ Ended (now (row .entry)) n words (now (steps .entry)) (now (path .entry)) r (now (path .exit)) ⌝ }
 {
     let last = last_largest(row, n);
-    walk_back::walk_back(path, words, n, last, steps);
+    walk_back(path, words, n, last, steps);
     Found {
         sum: row[last],
         lead: lead_of(row, n, last),

@@ -1,8 +1,8 @@
 -- `step` meets its contract. Assumes nothing.
 use native.Mathlib.Omega.{arith}
 use borrow.Author.Needs.{needs}
-use Rattle.walk_back.proofs.step.Statement.{statement}
-use Rattle.walk_back.proofs.step.Tie as tie
+use Rattle.viterbi_end.proofs.step.Statement.{statement}
+use Rattle.viterbi_end.proofs.step.Tie as tie
 
 shared-slice-read-result : tie.Need-shared-slice-read-result
 shared-slice-read-result c = search needs

@@ -6,11 +6,11 @@ use native.Mathlib.Nat.{lt-of-lt-of-le}
 use native.Mathlib.Omega.{arith}
 use lib.Arith.{digits-lt}
 use lib.ListN.{length, drop, length-set}
-use Rattle.walk_back.specs.Walked.{walked}
-use Rattle.walk_back.proofs.Laws.{walk-more, walk-end}
+use Rattle.viterbi_end.specs.Walked.{walked}
+use Rattle.viterbi_end.proofs.Laws.{walk-more, walk-end}
 use borrow.Author.Needs.{needs}
-use Rattle.walk_back.proofs.walk_back.Statement.{statement}
-use Rattle.walk_back.proofs.walk_back.Tie as tie
+use Rattle.viterbi_end.proofs.walk_back.Statement.{statement}
+use Rattle.viterbi_end.proofs.walk_back.Tie as tie
 
 abbrev Inv-loop : tie.InvT-loop
 Inv-loop path₀ words n last steps label₀ word₀ path label word =

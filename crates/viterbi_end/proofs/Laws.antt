@@ -10,7 +10,7 @@ use Rattle.best_path.specs.Scores.{Scores}
 use Rattle.best_path.specs.Decoded.{back, pathTo}
 use Rattle.best_path.proofs.Laws.{back-within, path-first, path-more}
 use Rattle.viterbi_steps.specs.Rows.{StepsTo}
-use Rattle.walk_back.specs.Walked.{walked, StepsWithin}
+use Rattle.viterbi_end.specs.Walked.{walked, StepsWithin}
 
 module _ (steps : List ℕ) (n : ℕ) (path : List ℕ) (label : ℕ) where
   -- what lies from a word on, once its label is written
