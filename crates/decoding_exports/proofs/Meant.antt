@@ -10,7 +10,7 @@ use Rattle.best_path.specs.Decoded.{decodedSum}
 use Rattle.best_path.specs.Lead.{lead}
 use Rattle.best_path.specs.PathScore.{pathScore}
 use Rattle.refusal_rows.proofs.Groups.{above-zero}
-use Rattle.decode_check.proofs.Meant as decoding
+use Rattle.viterbi.proofs.Meant as decoding
 use Rattle.viterbi.specs.Promise.{SumAndLead, scoresOf, checkedOf, answerTo}
 use Rattle.sequence_score.specs.Promise as path
 use Rattle.sequence_score.proofs.Meant as scoring

@@ -1,3 +1,5 @@
+mod Room
+pub mod DecodeCheckMeant
 pub mod Laws
 pub mod Kept
 pub mod Unique

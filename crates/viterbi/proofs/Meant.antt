@@ -7,7 +7,7 @@ use Rattle.refusals.specs.Said.{orRefused}
 use Rattle.refusals.proofs.Said.{refused-said, accepted-said}
 use Rattle.best_path.specs.Decoded.{decodedSum}
 use Rattle.best_path.specs.Lead.{Lead, lead}
-use Rattle.decode_check.proofs.Meant.{decoding-means, told}
+use Rattle.viterbi.proofs.DecodeCheckMeant.{decoding-means, told}
 use Rattle.viterbi.specs.Promise.{SumAndLead, decoded, scoresOf, checkedOf, answerTo}
 use Rattle.viterbi.specs.Meaning.{AnswersMean}
 

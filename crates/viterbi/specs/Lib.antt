@@ -1,3 +1,5 @@
+pub mod Rows
+pub mod DecodeCheckMeaning
 pub mod Answered
 pub mod Promise
 pub mod Meaning

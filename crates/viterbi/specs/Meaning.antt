@@ -6,7 +6,7 @@ use lib.Ieee.{Float}
 use Rattle.refusals.specs.Refusals.{numbered}
 use Rattle.refusals.specs.Said.{refused}
 use Rattle.best_path.specs.Lead.{Lead}
-use Rattle.decode_check.specs.Meaning.{Meaning}
+use Rattle.viterbi.specs.DecodeCheckMeaning.{Meaning}
 use Rattle.viterbi.specs.Promise.{Given, Outcome, decoded, said, Promised}
 
 abbrev pub AnswersMean : Type 0

@@ -11,7 +11,7 @@ use Rattle.best_path.specs.Decoded.{decodedPath, decodedSum}
 use Rattle.best_path.specs.Lead.{Lead, lead}
 use Rattle.viterbi_end.specs.Ends.{leadSaid}
 use Rattle.viterbi.specs.declared.Decoding.{Decoding}
-use Rattle.decode_check.specs.Rows.{decodeChecked}
+use Rattle.viterbi.specs.Rows.{decodeChecked}
 
 -- what the call is given: the numbers and tables that it reads
 pub record Given : Type 0 where

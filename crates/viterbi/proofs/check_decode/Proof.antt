@@ -1,9 +1,9 @@
 -- `check_decode` meets its contract: each check takes the answer so far, so the last has them all. Assumes nothing.
-use Rattle.decode_check.specs.Rows.{decodeChecked}
-use Rattle.decode_check.proofs.Room.{room}
+use Rattle.viterbi.specs.Rows.{decodeChecked}
+use Rattle.viterbi.proofs.Room.{room}
 use borrow.Author.Needs.{needs}
-use Rattle.decode_check.proofs.check_decode.Statement.{statement}
-use Rattle.decode_check.proofs.check_decode.Tie as tie
+use Rattle.viterbi.proofs.check_decode.Statement.{statement}
+use Rattle.viterbi.proofs.check_decode.Tie as tie
 
 check-bounds-requires : tie.Need-check-bounds-requires
 check-bounds-requires c κs = search needs

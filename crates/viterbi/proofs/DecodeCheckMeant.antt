@@ -14,8 +14,8 @@ use Rattle.score_tables.proofs.Order.{row}
 use Rattle.score_tables.proofs.Meant.{one-means, four-means, two-means, finite-tables, tables-finite}
 use Rattle.refusal_rows.proofs.Groups.{Group, single, given-first, given-after, accepted-when, given-only}
 use Rattle.refusal_rows.proofs.TableGroups.{pair, tableSixes}
-use Rattle.decode_check.specs.Rows.{pathShort, decodeChecked}
-use Rattle.decode_check.specs.Meaning.{Meaning, DecodingMeans}
+use Rattle.viterbi.specs.Rows.{pathShort, decodeChecked}
+use Rattle.viterbi.specs.DecodeCheckMeaning.{Meaning, DecodingMeans}
 
 short-means : (path : List ℕ) (words : ℕ) → Row (pathShort words path) 2 (words ≤ length path)
 short-means path words = row 2 _ (λ h. ltb-false (length path) words (passes 2 0 _ h)) (λ l. le-ltb (length path) words l)

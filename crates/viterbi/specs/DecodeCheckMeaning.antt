@@ -10,7 +10,7 @@ use Rattle.refusals.specs.Refusals.{refusedAt}
 use Rattle.score_tables.specs.Sound.{LabelsIn, WordsIn, Room, Sound}
 use Rattle.score_tables.specs.Meaning.{SixAt}
 use Rattle.refusal_rows.specs.Given.{AtZero, OneOf}
-use Rattle.decode_check.specs.Rows.{decodeChecked}
+use Rattle.viterbi.specs.Rows.{decodeChecked}
 
 -- each table has its entries, and the path's buffer has room for T labels
 abbrev pub AllRoom : ℕ → ℕ → List Float → List Float → List ℕ → Type 0
