@@ -39,15 +39,15 @@ use denote.Triple.Call.{calls-at}
 use denote.Triple.Clauses.{ensured, lasts}
 use denote.Triple.Table.{entered, cited}
 use denote.Triple.Walked.{says, Stays, stay-ref, walkOf, goes-ref, Walks, ends-at, walked, walk-meets}
-use Rattle.splitmix.specs.SplitMix64.{advanced, mixed}
-use Rattle.splitmix.proofs.advance as advance
-use Rattle.splitmix.proofs.advance.Symbol as advance-def
-use Rattle.splitmix.proofs.advance.Symbol.{name as #splitmix·advance}
-use Rattle.splitmix.proofs.advance.Met as advance-thm
-use Rattle.splitmix.proofs.mix as mix
-use Rattle.splitmix.proofs.mix.Symbol as mix-def
-use Rattle.splitmix.proofs.mix.Symbol.{name as #splitmix·mix}
-use Rattle.splitmix.proofs.mix.Met as mix-thm
+use Rattle.generator.specs.SplitMix64.{advanced, mixed}
+use Rattle.generator.proofs.advance as advance
+use Rattle.generator.proofs.advance.Symbol as advance-def
+use Rattle.generator.proofs.advance.Symbol.{name as #splitmix·advance}
+use Rattle.generator.proofs.advance.Met as advance-thm
+use Rattle.generator.proofs.mix as mix
+use Rattle.generator.proofs.mix.Symbol as mix-def
+use Rattle.generator.proofs.mix.Symbol.{name as #splitmix·mix}
+use Rattle.generator.proofs.mix.Met as mix-thm
 use Rattle.generator.specs.declared.Generator.{Generator}
 use Rattle.generator.proofs.Cell.{Number, at-state, machine, made, fits-in}
 use Rattle.generator.proofs.Generator as T

@@ -1,10 +1,10 @@
--- `splitmix::wrapping_mul` meets its contract: each product of halves fits, and together they are the product. Assumes nothing.
+-- `generator::wrapping_mul` meets its contract: each product of halves fits, and together they are the product. Assumes nothing.
 use borrow.Author.Needs.{needs}
 use mathlib.Core.Path.{_∙_}
 use native.Mathlib.Omega.{arith}
-use Rattle.splitmix.proofs.Product.{below, halves}
-use Rattle.splitmix.proofs.wrapping_mul.Statement.{statement}
-use Rattle.splitmix.proofs.wrapping_mul.Tie as tie
+use Rattle.generator.proofs.Product.{below, halves}
+use Rattle.generator.proofs.wrapping_mul.Statement.{statement}
+use Rattle.generator.proofs.wrapping_mul.Tie as tie
 
 mul-wrapping-add-u64 : tie.Need-mul-wrapping-add-u64
 mul-wrapping-add-u64 c = record { fits = below 32 (omega arith) (omega arith) }

@@ -1,10 +1,10 @@
--- `splitmix::mix` meets its contract: the two products' equations, one inside the other. Assumes nothing.
+-- `generator::mix` meets its contract: the two products' equations, one inside the other. Assumes nothing.
 use borrow.Author.Needs.{needs}
 use mathlib.Core.Path.{ap, _∙_}
 use Prim.Native.Nat.{ℕ}
-use Rattle.splitmix.specs.SplitMix64.{folded, wrapped}
-use Rattle.splitmix.proofs.mix.Statement.{statement}
-use Rattle.splitmix.proofs.mix.Tie as tie
+use Rattle.generator.specs.SplitMix64.{folded, wrapped}
+use Rattle.generator.proofs.mix.Statement.{statement}
+use Rattle.generator.proofs.mix.Tie as tie
 
 wrapping-mul-requires : tie.Need-wrapping-mul-requires
 wrapping-mul-requires c κs = search needs
