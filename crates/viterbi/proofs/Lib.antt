@@ -1,5 +1,4 @@
 mod Room
-pub mod DecodeCheckMeant
 pub mod Laws
 pub mod Kept
 pub mod Unique

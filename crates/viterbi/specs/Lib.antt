@@ -1,5 +1,4 @@
 pub mod Rows
-pub mod DecodeCheckMeaning
 pub mod Answered
 pub mod Promise
 pub mod Meaning
