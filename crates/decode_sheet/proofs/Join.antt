@@ -10,7 +10,7 @@ use Rattle.refusals.specs.declared.Refusal.{Refusal}
 use Rattle.refusals.specs.declared.Checked.the-variants.{Accepted, Refused}
 use Rattle.score_tables.specs.Sound.{Sound}
 use Rattle.sheet.specs.declared.Reading.{Reading}
-use Rattle.sheet_bytes.specs.Fields.{labelsIn, wordsIn, transitionsIn, statesIn}
+use Rattle.sheet.specs.Fields.{labelsIn, wordsIn, transitionsIn, statesIn}
 use Rattle.sheet_check.specs.Rows.{Lent, sheetChecked}
 use Rattle.sheet.specs.Promise as reader
 use Rattle.sheet.proofs.Meant.{refused-by}

@@ -20,7 +20,7 @@ use Rattle.best_path.proofs.Laws.{decoded-length, decoded-allowed}
 use Rattle.score_tables.specs.Meaning.{Row, in-transitions, in-states, SixAt}
 use Rattle.score_tables.proofs.Order.{row}
 use Rattle.refusal_rows.specs.Given.{OneOf}
-use Rattle.sheet_bytes.specs.Fields.{labelsIn, wordsIn, numbersIn, transitionsIn, statesIn}
+use Rattle.sheet.specs.Fields.{labelsIn, wordsIn, numbersIn, transitionsIn, statesIn}
 use Rattle.sheet_check.specs.Meaning.{InBounds, Meaning}
 use Rattle.sheet_check.proofs.Meant.{file-means, said-so}
 use Rattle.sheet.proofs.Once.{same-refusal}

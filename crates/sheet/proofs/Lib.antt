@@ -1,3 +1,4 @@
+pub mod SheetBytesLaws
 pub mod Pattern
 pub mod Laws
 pub mod Kept

@@ -1,7 +1,7 @@
 -- What `read_sheet` answers in plain terms, of whatever satisfies its promise: each number exactly when document 01 gives it. The proof is in proofs/Meant.
 use mathlib.Core.Path.{_≡_}
 use Rattle.score_tables.specs.Sound.{Room}
-use Rattle.sheet_bytes.specs.Fields.{labelsIn, wordsIn}
+use Rattle.sheet.specs.Fields.{labelsIn, wordsIn}
 use Rattle.sheet_check.specs.Rows.{Given, Lent}
 use Rattle.sheet_check.specs.Meaning.{Meaning}
 use Rattle.sheet.specs.Promise.{Outcome, said, read, refused, Promised}

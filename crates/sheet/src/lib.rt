@@ -1,14 +1,94 @@
 // The sheet file: bytes into the score tables of one line, or a refusal that leaves the lent tables as they were.
 ghost use mathlib.Core.Path.{_≡_};
-ghost use Prim.Native.Nat.{_+_, _*_, _≤_};
-ghost use lib.ListN.{length, drop};
+ghost use Prim.Native.Nat.{_+_, _*_, _≤_, _<_};
+ghost use lib.ListN.{length, getD, take, drop};
+ghost use lib.Ieee.{binary64, ofBits};
+ghost use lib.Ieee.Scale.{finite};
+ghost use Rattle.sheet.specs.Fields.{valueOf, versionIn, labelsIn, wordsIn, statesFrom, wholeLength, numbersIn};
 ghost use Rattle.refusals.specs.Tables.{numbersChecked};
-ghost use Rattle.sheet_bytes.specs.Fields.{numbersIn};
 ghost use Rattle.sheet.specs.Steps.{filled};
 ghost use Rattle.sheet.specs.Promise.{Promised};
 use refusals::Checked;
 use refusals::Refusal;
 use score_tables::entries;
+
+fn wide(x: u8) -> u64
+    ensures { λ r. ⌜ (r ≡ x) × (r < 256) ⌝ }
+{
+    x as u64
+}
+
+// A number of 16 bits.
+pub fn half_at(bytes: &[u8], at: usize) -> u64
+    requires { ⌜ at + 2 ≤ length (now bytes) ⌝ }
+    ensures { λ r. ⌜ (r ≡ getD (now (bytes .entry)) at 0 + 256 * getD (now (bytes .entry)) (at + 1) 0) × (r < 65536) ⌝ }
+{
+    let low = wide(bytes[at]);
+    low + 256 * wide(bytes[at + 1])
+}
+
+// A number of 64 bits.
+pub fn word_at(bytes: &[u8], at: usize) -> u64
+    requires { ⌜ at + 8 ≤ length (now bytes) ⌝ }
+    ensures { λ r. ⌜ r ≡ valueOf (take 8 (drop at (now (bytes .entry)))) ⌝ }
+{
+    let a = half_at(bytes, at);
+    let b = half_at(bytes, at + 2);
+    let c = half_at(bytes, at + 4);
+    let d = half_at(bytes, at + 6);
+    a + 65536 * (b + 65536 * (c + 65536 * d))
+}
+
+// The pattern of a number that is neither a NaN nor an infinity: its exponent's field is not all ones.
+pub fn is_finite_pattern(pattern: u64) -> bool
+    ensures { λ r. ⌜ r ≡ finite (ofBits binary64 pattern) ⌝ }
+{
+    pattern % 9223372036854775808 / 4503599627370496 != 2047
+}
+
+// A byte of the file; 0 past its end.
+pub fn byte_at(bytes: &[u8], at: usize) -> u64
+    ensures { λ r. ⌜ (r ≡ getD (now (bytes .entry)) at 0) × (r < 256) ⌝ }
+{
+    if at < bytes.len() { wide(bytes[at]) } else { 0 }
+}
+
+pub fn version_in(bytes: &[u8]) -> u64
+    ensures { λ r. ⌜ r ≡ versionIn (now (bytes .entry)) ⌝ }
+{
+    let low = byte_at(bytes, 3);
+    low + 256 * byte_at(bytes, 4)
+}
+
+pub fn labels_in(bytes: &[u8]) -> u32
+    ensures { λ r. ⌜ (r ≡ labelsIn (now (bytes .entry))) × (r < 256) ⌝ }
+{
+    byte_at(bytes, 5) as u32
+}
+
+pub fn words_in(bytes: &[u8]) -> u32
+    ensures { λ r. ⌜ (r ≡ wordsIn (now (bytes .entry))) × (r < 65536) ⌝ }
+{
+    let low = byte_at(bytes, 6);
+    (low + 256 * byte_at(bytes, 7)) as u32
+}
+
+// Where the states stand: after the head and the transitions.
+pub fn states_from(bytes: &[u8]) -> usize
+    ensures { λ r. ⌜ r ≡ statesFrom (now (bytes .entry)) ⌝ }
+{
+    let labels = labels_in(bytes) as usize;
+    8 + 8 * (labels * labels)
+}
+
+// How long a file with this head has to be.
+pub fn whole_length(bytes: &[u8]) -> usize
+    ensures { λ r. ⌜ r ≡ wholeLength (now (bytes .entry)) ⌝ }
+{
+    let labels = labels_in(bytes) as usize;
+    let words = words_in(bytes) as usize;
+    8 + 8 * (labels * labels + words * labels)
+}
 
 pub enum Reading {
     Read { labels: u32, words: u32 },
@@ -24,7 +104,7 @@ fn read_part(bytes: &[u8], at: usize, n: usize, table: &mut [f64])
 {
     let mut i = 0usize;
     while i < n {
-        table[i] = f64::from_bits(sheet_bytes::word_at(bytes, at + 8 * i));
+        table[i] = f64::from_bits(word_at(bytes, at + 8 * i));
         i += 1;
     }
 }
@@ -36,12 +116,12 @@ pub fn read_sheet(bytes: &[u8], transitions: &mut [f64], states: &mut [f64]) -> 
     if let Checked::Refused(why) = sheet_check::check_sheet(bytes, transitions, states) {
         return Reading::Refused(why);
     }
-    let labels = sheet_bytes::labels_in(bytes);
-    let words = sheet_bytes::words_in(bytes);
+    let labels = labels_in(bytes);
+    let words = words_in(bytes);
     read_part(bytes, 8, entries(labels, labels), transitions);
     read_part(
         bytes,
-        sheet_bytes::states_from(bytes),
+        states_from(bytes),
         entries(words, labels),
         states,
     );

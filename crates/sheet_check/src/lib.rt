@@ -5,7 +5,7 @@ ghost use Prim.Native.Nat.{_+_, _*_, _≤_};
 ghost use lib.ListN.{length, drop};
 ghost use Rattle.refusals.specs.Refusals.{orNext, first};
 ghost use Rattle.refusals.specs.Tables.{numbersChecked};
-ghost use Rattle.sheet_bytes.specs.Fields.{numbersIn};
+ghost use Rattle.sheet.specs.Fields.{numbersIn};
 ghost use Rattle.sheet_check.specs.Rows.{wrongHead, wrongLength, sizesChecked, tablesShort, sheetChecked};
 use refusals::Checked;
 use score_tables::entries;
@@ -15,17 +15,17 @@ fn is_wrong_head(bytes: &[u8]) -> bool
     ensures { λ r. ⌜ r ≡ wrongHead (now (bytes .entry)) ⌝ }
 {
     (bytes.len() < 8)
-        | (sheet_bytes::byte_at(bytes, 0) != 84)
-        | (sheet_bytes::byte_at(bytes, 1) != 76)
-        | (sheet_bytes::byte_at(bytes, 2) != 71)
-        | (sheet_bytes::version_in(bytes) != 1)
+        | (sheet::byte_at(bytes, 0) != 84)
+        | (sheet::byte_at(bytes, 1) != 76)
+        | (sheet::byte_at(bytes, 2) != 71)
+        | (sheet::version_in(bytes) != 1)
 }
 
 // 10 on length.
 fn is_wrong_length(bytes: &[u8]) -> bool
     ensures { λ r. ⌜ r ≡ wrongLength (now (bytes .entry)) ⌝ }
 {
-    bytes.len() != sheet_bytes::whole_length(bytes)
+    bytes.len() != sheet::whole_length(bytes)
 }
 
 // The rows of the sizes in their order: 10 on the head, 1 and 4, 2, 10 on length.
@@ -41,8 +41,8 @@ fn in_order(head: Checked, bounds: Checked, room: Checked, length: Checked) -> C
 fn check_sizes(bytes: &[u8], transitions: &[f64], states: &[f64]) -> Checked
     ensures { λ r. ⌜ r ≡ sizesChecked (now (bytes .entry)) (tablesShort (now (bytes .entry)) (record { transitions = now (transitions .entry); states = now (states .entry) })) ⌝ }
 {
-    let labels = sheet_bytes::labels_in(bytes);
-    let words = sheet_bytes::words_in(bytes);
+    let labels = sheet::labels_in(bytes);
+    let words = sheet::words_in(bytes);
     let head = refusals::refuse_if(Checked::Accepted, 10, 0, is_wrong_head(bytes));
     let bounds = score_tables::check_bounds(labels, words);
     let room = score_tables::check_room(Checked::Accepted, labels, words, transitions, states);
@@ -58,7 +58,7 @@ fn check_part(answer: Checked, bytes: &[u8], at: usize, n: usize) -> Checked
     let end = refusals::to_check(answer, n);
     let mut i = 0usize;
     while i < end {
-        let bad = !sheet_bytes::is_finite_pattern(sheet_bytes::word_at(bytes, at + 8 * i));
+        let bad = !sheet::is_finite_pattern(sheet::word_at(bytes, at + 8 * i));
         if bad {
             break;
         }
@@ -75,13 +75,13 @@ pub fn check_sheet(bytes: &[u8], transitions: &[f64], states: &[f64]) -> Checked
     if let Checked::Refused(why) = sizes {
         return Checked::Refused(why);
     }
-    let labels = sheet_bytes::labels_in(bytes);
-    let words = sheet_bytes::words_in(bytes);
+    let labels = sheet::labels_in(bytes);
+    let words = sheet::words_in(bytes);
     let first = check_part(sizes, bytes, 8, entries(labels, labels));
     check_part(
         first,
         bytes,
-        sheet_bytes::states_from(bytes),
+        sheet::states_from(bytes),
         entries(words, labels),
     )
 }

@@ -1,9 +1,9 @@
--- `sheet_bytes::word_at` meets its contract. Assumes nothing.
+-- `sheet::word_at` meets its contract. Assumes nothing.
 use borrow.Author.Needs.{needs}
 use native.Mathlib.Omega.{arith}
-use Rattle.sheet_bytes.proofs.Laws.{four-halves}
-use Rattle.sheet_bytes.proofs.word_at.Statement.{statement}
-use Rattle.sheet_bytes.proofs.word_at.Tie as tie
+use Rattle.sheet.proofs.SheetBytesLaws.{four-halves}
+use Rattle.sheet.proofs.word_at.Statement.{statement}
+use Rattle.sheet.proofs.word_at.Tie as tie
 
 half-at-requires : tie.Need-half-at-requires
 half-at-requires c κs = search needs

@@ -1,10 +1,10 @@
--- `sheet_bytes::byte_at` meets its contract. Assumes nothing.
+-- `sheet::byte_at` meets its contract. Assumes nothing.
 use borrow.Author.Needs.{needs}
 use mathlib.Core.Path.{sym}
 use native.Mathlib.Omega.{arith}
 use lib.ListN.{List·getD-eq-default}
-use Rattle.sheet_bytes.proofs.byte_at.Statement.{statement}
-use Rattle.sheet_bytes.proofs.byte_at.Tie as tie
+use Rattle.sheet.proofs.byte_at.Statement.{statement}
+use Rattle.sheet.proofs.byte_at.Tie as tie
 
 shared-slice-read-wide : tie.Need-shared-slice-read-wide
 shared-slice-read-wide c = search needs

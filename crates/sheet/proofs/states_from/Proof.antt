@@ -1,10 +1,10 @@
--- `sheet_bytes::states_from` meets its contract. Assumes nothing.
+-- `sheet::states_from` meets its contract. Assumes nothing.
 use Prim.Native.Nat.{_+_, _*_, _≤_}
 use native.Mathlib.Omega.{arith}
 use borrow.Author.Needs.{needs}
-use Rattle.sheet_bytes.proofs.Laws.{small-sizes}
-use Rattle.sheet_bytes.proofs.states_from.Statement.{statement}
-use Rattle.sheet_bytes.proofs.states_from.Tie as tie
+use Rattle.sheet.proofs.SheetBytesLaws.{small-sizes}
+use Rattle.sheet.proofs.states_from.Statement.{statement}
+use Rattle.sheet.proofs.states_from.Tie as tie
 
 fit : (c : tie.After-labels-in) → c .labels-in .result * c .labels-in .result + 0 * c .labels-in .result ≤ 16842240
 fit c = small-sizes (c .labels-in .ensures .1) (omega arith)

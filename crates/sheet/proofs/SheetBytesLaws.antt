@@ -11,7 +11,7 @@ use lib.Seq.{drop-cons, drop-drop}
 use lib.Ieee.{nan, binary64, ofBits}
 use lib.Ieee.Scale.{finite}
 use Rattle.refusals.specs.Tables.{notFinite}
-use Rattle.sheet_bytes.specs.Fields.{valueOf, numbersIn}
+use Rattle.sheet.specs.Fields.{valueOf, numbersIn}
 
 -- ---- little-endian numbers
 

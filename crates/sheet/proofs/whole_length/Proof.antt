@@ -1,10 +1,10 @@
--- `sheet_bytes::whole_length` meets its contract. Assumes nothing.
+-- `sheet::whole_length` meets its contract. Assumes nothing.
 use Prim.Native.Nat.{_+_, _*_, _≤_}
 use native.Mathlib.Omega.{arith}
 use borrow.Author.Needs.{needs}
-use Rattle.sheet_bytes.proofs.Laws.{small-sizes}
-use Rattle.sheet_bytes.proofs.whole_length.Statement.{statement}
-use Rattle.sheet_bytes.proofs.whole_length.Tie as tie
+use Rattle.sheet.proofs.SheetBytesLaws.{small-sizes}
+use Rattle.sheet.proofs.whole_length.Statement.{statement}
+use Rattle.sheet.proofs.whole_length.Tie as tie
 
 fit : (c : tie.After-words-in) → c .before .labels-in .result * c .before .labels-in .result + c .words-in .result * c .before .labels-in .result ≤ 16842240
 fit c = small-sizes (c .before .labels-in .ensures .1) (c .words-in .ensures .1)

@@ -1,8 +1,8 @@
--- `sheet_bytes::is_finite_pattern` meets its contract. Assumes nothing.
+-- `sheet::is_finite_pattern` meets its contract. Assumes nothing.
 use mathlib.Core.Path.{sym}
 use Rattle.binary64.proofs.Finite.{of-pattern}
-use Rattle.sheet_bytes.proofs.is_finite_pattern.Statement.{statement}
-use Rattle.sheet_bytes.proofs.is_finite_pattern.Tie as tie
+use Rattle.sheet.proofs.is_finite_pattern.Statement.{statement}
+use Rattle.sheet.proofs.is_finite_pattern.Tie as tie
 
 returns : tie.Need-returns
 returns c = sym (of-pattern _)
