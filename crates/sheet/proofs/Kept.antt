@@ -6,7 +6,7 @@ use Rattle.refusals.specs.declared.Refusal.{Refusal}
 use Rattle.refusals.specs.declared.Checked.the-variants.{Accepted, Refused}
 use Rattle.sheet.specs.Fields.{labelsIn, wordsIn, transitionsIn, statesIn}
 use Rattle.sheet.proofs.SheetBytesLaws.{length-numbers}
-use Rattle.sheet_check.specs.Rows.{Lent, sheetChecked}
+use Rattle.sheet.specs.Rows.{Lent, sheetChecked}
 use Rattle.sheet.specs.Steps.{filled}
 use Rattle.sheet.specs.Promise.{Outcome, said, read, answerTo, transitionsAfter, statesAfter, Promised}
 use Rattle.sheet.specs.declared.Reading.{Reading}

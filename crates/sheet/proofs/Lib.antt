@@ -1,3 +1,5 @@
+pub mod Rows
+pub mod SheetCheckMeant
 pub mod SheetBytesLaws
 pub mod Pattern
 pub mod Laws

@@ -1,3 +1,5 @@
+pub mod Rows
+pub mod SheetCheckMeaning
 pub mod Fields
 pub mod File
 pub mod Promise

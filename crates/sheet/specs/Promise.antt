@@ -7,7 +7,7 @@ use lib.Ieee.{Float}
 use Rattle.refusals.specs.declared.Checked.{Checked}
 use Rattle.refusals.specs.declared.Checked.the-variants.{Accepted, Refused}
 use Rattle.sheet.specs.Fields.{labelsIn, wordsIn, transitionsIn, statesIn}
-use Rattle.sheet_check.specs.Rows.{Given, Lent, sheetChecked}
+use Rattle.sheet.specs.Rows.{Given, Lent, sheetChecked}
 use Rattle.sheet.specs.declared.Reading.{Reading}
 use Rattle.sheet.specs.declared.Reading.the-variants.{Read, Refused as ReadRefused}
 

@@ -1,4 +1,4 @@
--- `sheet_check::check_part` meets its contract, by the laws of a search. Assumes nothing.
+-- `sheet::check_part` meets its contract, by the laws of a search. Assumes nothing.
 use Prim.Native.Nat.{_-_, _<_}
 use mathlib.Core.Path.{_∙_}
 use native.Mathlib.Omega.{arith}
@@ -8,8 +8,8 @@ use Rattle.refusals.specs.Tables.{notFinite}
 use Rattle.refusals.proofs.Laws.{Passed, begin, step, answered}
 use Rattle.sheet.specs.Fields.{numbersIn}
 use Rattle.sheet.proofs.SheetBytesLaws.{tested}
-use Rattle.sheet_check.proofs.check_part.Statement.{statement}
-use Rattle.sheet_check.proofs.check_part.Tie as tie
+use Rattle.sheet.proofs.check_part.Statement.{statement}
+use Rattle.sheet.proofs.check_part.Tie as tie
 
 abbrev Inv-loop : tie.InvT-loop
 Inv-loop answer bytes at n end i₀ i = Passed 6 (notFinite (numbersIn n (drop at bytes))) end i

@@ -1,7 +1,7 @@
--- `sheet_check::is_wrong_length` meets its contract. Assumes nothing.
+-- `sheet::is_wrong_length` meets its contract. Assumes nothing.
 use borrow.Author.Needs.{needs}
-use Rattle.sheet_check.proofs.is_wrong_length.Statement.{statement}
-use Rattle.sheet_check.proofs.is_wrong_length.Tie as tie
+use Rattle.sheet.proofs.is_wrong_length.Statement.{statement}
+use Rattle.sheet.proofs.is_wrong_length.Tie as tie
 
 whole-length-requires : tie.Need-whole-length-requires
 whole-length-requires c κs = search needs

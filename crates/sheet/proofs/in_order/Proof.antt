@@ -1,8 +1,8 @@
--- `sheet_check::in_order` meets its contract. Assumes nothing.
+-- `sheet::in_order` meets its contract. Assumes nothing.
 use borrow.Author.Needs.{needs}
 use Rattle.refusals.specs.Refusals.{orNext}
-use Rattle.sheet_check.proofs.in_order.Statement.{statement}
-use Rattle.sheet_check.proofs.in_order.Tie as tie
+use Rattle.sheet.proofs.in_order.Statement.{statement}
+use Rattle.sheet.proofs.in_order.Tie as tie
 
 or-next-requires : tie.Need-or-next-requires
 or-next-requires c κs = search needs

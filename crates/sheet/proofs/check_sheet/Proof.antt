@@ -1,11 +1,11 @@
--- `sheet_check::check_sheet` meets its contract. Assumes nothing.
+-- `sheet::check_sheet` meets its contract. Assumes nothing.
 use mathlib.Core.Path.{sym, _∙_}
 use native.Mathlib.Omega.{arith}
 use borrow.Author.Needs.{needs}
 use Rattle.sheet.specs.Fields.{transitionsIn, statesIn}
-use Rattle.sheet_check.proofs.Rows.{Sizes, sizes, sizes-refused, sizes-passed}
-use Rattle.sheet_check.proofs.check_sheet.Statement.{statement}
-use Rattle.sheet_check.proofs.check_sheet.Tie as tie
+use Rattle.sheet.proofs.Rows.{Sizes, sizes, sizes-refused, sizes-passed}
+use Rattle.sheet.proofs.check_sheet.Statement.{statement}
+use Rattle.sheet.proofs.check_sheet.Tie as tie
 
 -- what the accepted sizes give
 abbrev entry : tie.After-enum-told → tie.Start

@@ -1,7 +1,7 @@
--- `sheet_check::is_wrong_head` meets its contract. Assumes nothing.
+-- `sheet::is_wrong_head` meets its contract. Assumes nothing.
 use borrow.Author.Needs.{needs}
-use Rattle.sheet_check.proofs.is_wrong_head.Statement.{statement}
-use Rattle.sheet_check.proofs.is_wrong_head.Tie as tie
+use Rattle.sheet.proofs.is_wrong_head.Statement.{statement}
+use Rattle.sheet.proofs.is_wrong_head.Tie as tie
 
 byte-at-requires : tie.Need-byte-at-requires
 byte-at-requires c κs = search needs

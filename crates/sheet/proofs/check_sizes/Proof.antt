@@ -1,8 +1,8 @@
--- `sheet_check::check_sizes` meets its contract. Assumes nothing.
+-- `sheet::check_sizes` meets its contract. Assumes nothing.
 use borrow.Author.Needs.{needs}
-use Rattle.sheet_check.proofs.Rows.{sizes-in-order}
-use Rattle.sheet_check.proofs.check_sizes.Statement.{statement}
-use Rattle.sheet_check.proofs.check_sizes.Tie as tie
+use Rattle.sheet.proofs.Rows.{sizes-in-order}
+use Rattle.sheet.proofs.check_sizes.Statement.{statement}
+use Rattle.sheet.proofs.check_sizes.Tie as tie
 
 labels-in-requires : tie.Need-labels-in-requires
 labels-in-requires c κs = search needs
