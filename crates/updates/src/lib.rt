@@ -46,7 +46,7 @@ fn update(
             c,
             sensitive,
             averaging,
-        } => passive_update::update(
+        } => passive_aggressive::update(
             features,
             variant,
             c,

@@ -1,8 +1,8 @@
--- `passive_update::update` meets its contract. Assumes nothing.
+-- `passive_aggressive::update` meets its contract. Assumes nothing.
 use borrow.Author.Needs.{needs}
-use Rattle.passive_update.proofs.Parts.{by-passive}
-use Rattle.passive_update.proofs.update.Statement.{statement}
-use Rattle.passive_update.proofs.update.Tie as tie
+use Rattle.passive_aggressive.proofs.Parts.{by-passive}
+use Rattle.passive_aggressive.proofs.update.Statement.{statement}
+use Rattle.passive_aggressive.proofs.update.Tie as tie
 
 cost-of-requires : tie.Need-cost-of-requires
 cost-of-requires c κs = search needs
