@@ -1,8 +1,8 @@
--- `passive_step::tau_of` meets its contract. Assumes nothing.
+-- `passive_aggressive::tau_of` meets its contract. Assumes nothing.
 use borrow.Author.Needs.{needs}
 use lib.Ieee.{ofBits}
-use Rattle.passive_step.proofs.tau_of.Statement.{statement}
-use Rattle.passive_step.proofs.tau_of.Tie as tie
+use Rattle.passive_aggressive.proofs.tau_of.Statement.{statement}
+use Rattle.passive_aggressive.proofs.tau_of.Tie as tie
 
 step-of-requires : tie.Need-step-of-requires
 step-of-requires c κs = search needs

@@ -1,9 +1,9 @@
--- `passive_step::margin` meets its contract. Assumes nothing.
+-- `passive_aggressive::margin` meets its contract. Assumes nothing.
 use borrow.Author.Needs.{needs}
 use lib.Ieee.{ofBits, ofInt}
 use Rattle.roots.proofs.Laws.{root-is}
-use Rattle.passive_step.proofs.margin.Statement.{statement}
-use Rattle.passive_step.proofs.margin.Tie as tie
+use Rattle.passive_aggressive.proofs.margin.Statement.{statement}
+use Rattle.passive_aggressive.proofs.margin.Tie as tie
 
 root-requires : tie.Need-root-requires
 root-requires c κs = search needs

@@ -1,10 +1,10 @@
--- `passive_step::step_of` meets its contract. Assumes nothing.
+-- `passive_aggressive::step_of` meets its contract. Assumes nothing.
 use native.Mathlib.Omega.{arith}
 use borrow.Author.Needs.{needs}
 use lib.Ieee.{ofBits, ofInt}
-use Rattle.passive_step.proofs.Steps.{step-pa, step-pa-i, step-pa-ii}
-use Rattle.passive_step.proofs.step_of.Statement.{statement}
-use Rattle.passive_step.proofs.step_of.Tie as tie
+use Rattle.passive_aggressive.proofs.Steps.{step-pa, step-pa-i, step-pa-ii}
+use Rattle.passive_aggressive.proofs.step_of.Statement.{statement}
+use Rattle.passive_aggressive.proofs.step_of.Tie as tie
 
 returns : tie.Need-returns
 returns c = step-pa _ _ _ _ (omega arith)

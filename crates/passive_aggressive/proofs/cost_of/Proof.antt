@@ -1,7 +1,7 @@
--- `passive_step::cost_of` meets its contract. Assumes nothing.
+-- `passive_aggressive::cost_of` meets its contract. Assumes nothing.
 use borrow.Author.Needs.{needs}
-use Rattle.passive_step.proofs.cost_of.Statement.{statement}
-use Rattle.passive_step.proofs.cost_of.Tie as tie
+use Rattle.passive_aggressive.proofs.cost_of.Statement.{statement}
+use Rattle.passive_aggressive.proofs.cost_of.Tie as tie
 
 margin-requires : tie.Need-margin-requires
 margin-requires c κs = search needs
