@@ -14,8 +14,8 @@ use lib.Ieee.Fits.{add-fits}
 use Rattle.lines.specs.Passes.{through, nought}
 use Rattle.lines.proofs.Laws.{through-none, through-more, through-cong}
 use Rattle.training.specs.Rules.{difference, squared}
-use Rattle.passive_loops.specs.Noted.{differing, fourAdded, settled, Notes}
-use Rattle.passive_loops.proofs.Nothing.{unsigned, plus-square, plus-zero-square}
+use Rattle.passive_aggressive.specs.Noted.{differing, fourAdded, settled, Notes}
+use Rattle.passive_aggressive.proofs.Nothing.{unsigned, plus-square, plus-zero-square}
 
 -- four steps
 pub by-four : {S : Type 0} (step : ℕ → S → S) (first : ℕ) (s : S) → through step first (first + 4 - first) s ≡ through step first 4 s

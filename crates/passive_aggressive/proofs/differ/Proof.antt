@@ -1,14 +1,14 @@
--- `passive_loops::differ` meets its contract: the loop is a pass of `differing`. Assumes nothing.
+-- `passive_aggressive::differ` meets its contract: the loop is a pass of `differing`. Assumes nothing.
 use mathlib.Core.Bool.{false}
 use mathlib.Core.Path.{_≡_, refl, _∙_}
 use Prim.Native.Nat.{_+_, _-_}
 use borrow.Author.Needs.{needs}
 use lib.Ieee.{ofBits}
 use Rattle.lines.proofs.Laws.{Passed, passed-none, passed-next, passed-end}
-use Rattle.passive_loops.specs.Noted.{differing}
-use Rattle.passive_loops.proofs.Notes.{by-four}
-use Rattle.passive_loops.proofs.differ.Statement.{statement}
-use Rattle.passive_loops.proofs.differ.Tie as tie
+use Rattle.passive_aggressive.specs.Noted.{differing}
+use Rattle.passive_aggressive.proofs.Notes.{by-four}
+use Rattle.passive_aggressive.proofs.differ.Statement.{statement}
+use Rattle.passive_aggressive.proofs.differ.Tie as tie
 
 abbrev Inv-loop : tie.InvT-loop
 Inv-loop truly predicted first last any₀ i₀ any i = Passed (differing truly predicted) first (first + 4) false any i

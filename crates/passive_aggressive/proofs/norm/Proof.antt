@@ -1,4 +1,4 @@
--- `passive_loops::norm` meets its contract. The loop's invariant: once the notes are added up, the features before this one are in the sum. Assumes nothing.
+-- `passive_aggressive::norm` meets its contract. The loop's invariant: once the notes are added up, the features before this one are in the sum. Assumes nothing.
 use mathlib.Core.Logic.{⊎-elim}
 use mathlib.Core.Path.{_≡_, refl, sym}
 use Prim.Native.Nat.{_+_, _-_, _≤_, _<_}
@@ -6,9 +6,9 @@ use native.Mathlib.Omega.{arith}
 use borrow.Author.Needs.{needs}
 use denote.Ref.{now}
 use lib.Ieee.{ofBits}
-use Rattle.passive_loops.proofs.Notes.{Going, going-none, going-next, going-settled, going-end}
-use Rattle.passive_loops.proofs.norm.Statement.{statement}
-use Rattle.passive_loops.proofs.norm.Tie as tie
+use Rattle.passive_aggressive.proofs.Notes.{Going, going-none, going-next, going-settled, going-end}
+use Rattle.passive_aggressive.proofs.norm.Statement.{statement}
+use Rattle.passive_aggressive.proofs.norm.Tie as tie
 
 abbrev Inv-loop : tie.InvT-loop
 Inv-loop features truly predicted who₀ noted₀ sum₀ i₀ who noted sum i = Going features truly predicted who noted sum i × (noted < 32)

@@ -1,8 +1,8 @@
--- `passive_loops::note` meets its contract. Assumes nothing.
+-- `passive_aggressive::note` meets its contract. Assumes nothing.
 use mathlib.Core.Path.{refl}
 use borrow.Author.Needs.{needs}
-use Rattle.passive_loops.proofs.note.Statement.{statement}
-use Rattle.passive_loops.proofs.note.Tie as tie
+use Rattle.passive_aggressive.proofs.note.Statement.{statement}
+use Rattle.passive_aggressive.proofs.note.Tie as tie
 
 mul-who : tie.Need-mul-who
 mul-who c = search needs

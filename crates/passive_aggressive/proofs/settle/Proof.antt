@@ -1,4 +1,4 @@
--- `passive_loops::settle` meets its contract. The loop's invariant: the notes before this one are added up. Assumes nothing.
+-- `passive_aggressive::settle` meets its contract. The loop's invariant: the notes before this one are added up. Assumes nothing.
 use mathlib.Core.Path.{_≡_, _∙_}
 use Prim.Native.Nat.{_+_, _-_, _≤_}
 use native.Mathlib.Omega.{arith}
@@ -7,10 +7,10 @@ use denote.Ref.{now}
 use lib.ListN.{getD}
 use Rattle.lines.specs.Passes.{through}
 use Rattle.lines.proofs.Laws.{through-none, through-next, through-end}
-use Rattle.passive_loops.specs.Noted.{fourAdded, settled}
-use Rattle.passive_loops.proofs.Notes.{by-four}
-use Rattle.passive_loops.proofs.settle.Statement.{statement}
-use Rattle.passive_loops.proofs.settle.Tie as tie
+use Rattle.passive_aggressive.specs.Noted.{fourAdded, settled}
+use Rattle.passive_aggressive.proofs.Notes.{by-four}
+use Rattle.passive_aggressive.proofs.settle.Statement.{statement}
+use Rattle.passive_aggressive.proofs.settle.Tie as tie
 
 abbrev Inv-loop : tie.InvT-loop
 Inv-loop features truly predicted who noted sum s₀ j₀ s j = (j ≤ noted) × (s ≡ through (fourAdded truly predicted who) 0 j sum)

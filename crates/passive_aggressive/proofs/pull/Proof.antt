@@ -1,4 +1,4 @@
--- `passive_loops::pull` meets its contract: the loop is a pass of `pulled`, and the flag the finite test of what it left. Assumes nothing.
+-- `passive_aggressive::pull` meets its contract: the loop is a pass of `pulled`, and the flag the finite test of what it left. Assumes nothing.
 use mathlib.Core.List.{List}
 use mathlib.Core.Logic.{⊎-elim}
 use mathlib.Core.Path.{_≡_, refl, sym, ap, _∙_}
@@ -14,8 +14,8 @@ use Rattle.training.specs.Rules.{pulled}
 use Rattle.training_tables.specs.Tables.{Moved}
 use Rattle.training_tables.proofs.Finite.{finite-stored, finite-read, finite-kept}
 use Rattle.training_tables.proofs.Moves.{moved-none, moved-next, moved-end}
-use Rattle.passive_loops.proofs.pull.Statement.{statement}
-use Rattle.passive_loops.proofs.pull.Tie as tie
+use Rattle.passive_aggressive.proofs.pull.Statement.{statement}
+use Rattle.passive_aggressive.proofs.pull.Tie as tie
 
 abbrev Inv-loop : tie.InvT-loop
 Inv-loop features averaging tau counter truly predicted weights₀ sums₀ all₀ i₀ weights sums all i =

@@ -1,11 +1,11 @@
--- `passive_loops::add_up` meets its contract: the loop is a pass of `squared`. Assumes nothing.
+-- `passive_aggressive::add_up` meets its contract: the loop is a pass of `squared`. Assumes nothing.
 use mathlib.Core.Path.{_≡_, refl}
 use Prim.Native.Nat.{_-_}
 use borrow.Author.Needs.{needs}
 use Rattle.training.specs.Rules.{squared}
 use Rattle.lines.proofs.Laws.{Passed, passed-none, passed-next, passed-end}
-use Rattle.passive_loops.proofs.add_up.Statement.{statement}
-use Rattle.passive_loops.proofs.add_up.Tie as tie
+use Rattle.passive_aggressive.proofs.add_up.Statement.{statement}
+use Rattle.passive_aggressive.proofs.add_up.Tie as tie
 
 abbrev Inv-loop : tie.InvT-loop
 Inv-loop sum truly predicted first last s₀ i₀ s i = Passed (squared truly predicted) first last sum s i
