@@ -62,7 +62,7 @@ fn update(
             weights,
             beside,
         ),
-        Trainer::Arow { variance: _, gamma } => arow_update::update(
+        Trainer::Arow { variance: _, gamma } => arow::update(
             features,
             gamma,
             p.wrong,

@@ -1,8 +1,8 @@
--- `arow_update::update` meets its contract. Assumes nothing.
+-- `arow::update` meets its contract. Assumes nothing.
 use borrow.Author.Needs.{needs}
-use Rattle.arow_update.proofs.Parts.{by-arow}
-use Rattle.arow_update.proofs.update.Statement.{statement}
-use Rattle.arow_update.proofs.update.Tie as tie
+use Rattle.arow.proofs.Parts.{by-arow}
+use Rattle.arow.proofs.update.Statement.{statement}
+use Rattle.arow.proofs.update.Tie as tie
 
 cost-of-requires : tie.Need-cost-of-requires
 cost-of-requires c κs = search needs
