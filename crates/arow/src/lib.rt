@@ -1,12 +1,35 @@
 // AROW's update: weights and covariance after a visit whose labels differ, and what it adds to the epoch's loss.
 ghost use mathlib.Core.Path.{_≡_};
-ghost use Prim.Native.Nat.{ℕ};
+ghost use Prim.Native.Nat.{_≤_, ℕ};
 ghost use lib.ListN.{length};
+ghost use Rattle.lines.specs.Passes.{through};
+ghost use Rattle.training.specs.Rules.{spread, arow, _⊕_, _⊖_};
+ghost use Rattle.training_tables.specs.Tables.{Both, Held, Updated};
 ghost use lib.Ieee.{Float};
 ghost use Rattle.training.specs.Data.{whole};
-ghost use Rattle.training.specs.Rules.{arow, _⊕_, _⊖_};
-ghost use Rattle.training_tables.specs.Tables.{Held, Updated};
 use training_tables::Outcome;
+
+// Gamma, and each feature's weighted difference of counts, squared, times its covariance.
+pub fn spread_of(
+    features: usize,
+    weight: f64,
+    gamma: f64,
+    truly: &[f64],
+    predicted: &[f64],
+    covariance: &[f64],
+) -> f64
+    requires { ⌜ Both features (length (now truly)) (length (now predicted)) × (features ≤ length (now covariance)) ⌝ }
+    ensures { λ r. ⌜ r ≡ through (spread (now (truly .entry)) (now (predicted .entry)) weight (now (covariance .entry))) 0 features gamma ⌝ }
+{
+    let mut frac = gamma;
+    let mut i = 0usize;
+    while i < features {
+        let delta = (truly[i] - predicted[i]) * weight;
+        frac = frac + delta * delta * covariance[i];
+        i += 1;
+    }
+    frac
+}
 
 // How far the predicted path's score is above the true one's, and the number of wrong labels.
 pub fn cost_of(wrong: u32, reached: f64, wanted: f64) -> f64
@@ -33,7 +56,7 @@ pub fn update(
 {
     let cost = cost_of(wrong, reached, wanted);
     let alpha = cost
-        / arow_spread::spread_of(features, weight, gamma, truly, predicted, covariance);
+        / spread_of(features, weight, gamma, truly, predicted, covariance);
     let all = arow_narrow::narrow(
         features,
         weight,

@@ -1,4 +1,4 @@
--- `arow_spread::spread_of` meets its contract: the loop is a pass of `spread` from gamma. Assumes nothing.
+-- `arow::spread_of` meets its contract: the loop is a pass of `spread` from gamma. Assumes nothing.
 use mathlib.Core.Path.{_≡_, refl, _∙_}
 use Prim.Native.Nat.{_≤_, _-_}
 use native.Mathlib.Omega.{arith}
@@ -6,8 +6,8 @@ use borrow.Author.Needs.{needs}
 use Rattle.lines.specs.Passes.{through}
 use Rattle.training.specs.Rules.{spread}
 use Rattle.lines.proofs.Laws.{through-none, through-next, through-end}
-use Rattle.arow_spread.proofs.spread_of.Statement.{statement}
-use Rattle.arow_spread.proofs.spread_of.Tie as tie
+use Rattle.arow.proofs.spread_of.Statement.{statement}
+use Rattle.arow.proofs.spread_of.Tie as tie
 
 abbrev Inv-loop : tie.InvT-loop
 Inv-loop features weight gamma truly predicted covariance frac₀ i₀ frac i = (i ≤ features) × (frac ≡ through (spread truly predicted weight covariance) 0 i gamma)
