@@ -1,10 +1,10 @@
--- `arow_narrow::over` meets its contract. Assumes nothing.
+-- `arow::over` meets its contract. Assumes nothing.
 use mathlib.Core.Path.{sym}
 use borrow.Author.Needs.{needs}
 use lib.Ieee.{ofBits}
 use Rattle.training_tables.proofs.Rounded.{over-one}
-use Rattle.arow_narrow.proofs.over.Statement.{statement}
-use Rattle.arow_narrow.proofs.over.Tie as tie
+use Rattle.arow.proofs.over.Statement.{statement}
+use Rattle.arow.proofs.over.Tie as tie
 
 returns : tie.Need-returns
 unfolding ofBits

@@ -1,4 +1,4 @@
--- `arow_narrow::narrow` meets its contract: the loop is a pass of `narrowed`, and the flag the finite test of what it stored. Assumes nothing.
+-- `arow::narrow` meets its contract: the loop is a pass of `narrowed`, and the flag the finite test of what it stored. Assumes nothing.
 use mathlib.Core.Path.{_≡_, refl}
 use Prim.Native.Nat.{_≤_, _-_}
 use native.Mathlib.Omega.{arith}
@@ -10,8 +10,8 @@ use Rattle.training.specs.Rules.{narrowed}
 use Rattle.training_tables.specs.Tables.{Moved}
 use Rattle.training_tables.proofs.Finite.{finite-stored}
 use Rattle.training_tables.proofs.Moves.{moved-none, moved-next, moved-end}
-use Rattle.arow_narrow.proofs.narrow.Statement.{statement}
-use Rattle.arow_narrow.proofs.narrow.Tie as tie
+use Rattle.arow.proofs.narrow.Statement.{statement}
+use Rattle.arow.proofs.narrow.Tie as tie
 
 abbrev Inv-loop : tie.InvT-loop
 Inv-loop features weight gamma alpha truly predicted weights₀ covariance₀ all₀ i₀ weights covariance all i =
