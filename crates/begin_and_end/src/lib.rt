@@ -126,7 +126,7 @@ pub fn conclude(
     let step = ran.step;
     let visit = step.visit;
     let visits = step.visits;
-    if steps::is_refused(visit) {
+    if updates::is_refused(visit) {
         training_tables::fill(weights, features, 0.0);
         return Training::Refused(why_of(visit));
     }

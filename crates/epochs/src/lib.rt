@@ -86,7 +86,7 @@ pub fn run(
             predicted,
         );
         e += 1;
-        if steps::ends(trainer, epsilon, n, step) {
+        if updates::ends(trainer, epsilon, n, step) {
             return Ran {
                 step: step,
                 epochs: e,

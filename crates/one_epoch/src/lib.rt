@@ -80,7 +80,7 @@ pub fn epoch(
             predicted,
         );
         let v = step.visit;
-        if steps::is_refused(v) {
+        if updates::is_refused(v) {
             return step;
         }
         j += 1;

@@ -11,7 +11,7 @@ use Rattle.begin_and_end.proofs.conclude.Statement.{statement}
 use Rattle.begin_and_end.proofs.conclude.Tie as tie
 use Rattle.begin_and_end.proofs.conclude.Reads as reads
 use Rattle.begin_and_end.proofs.conclude.Lts as lts
-use Rattle.steps.proofs.is_refused.Reads as is-refused-reads
+use Rattle.updates.proofs.is_refused.Reads as is-refused-reads
 use Rattle.begin_and_end.proofs.average.Reads as average-reads
 use Rattle.begin_and_end.proofs.why_of.Reads as why-of-reads
 use Rattle.training_tables.proofs.fill.Reads as fill-reads

@@ -21,7 +21,7 @@ use Rattle.epochs.proofs.run.Statement.{statement}
 use Rattle.epochs.proofs.run.Tie as tie
 use Rattle.epochs.proofs.run.Reads as reads
 use Rattle.epochs.proofs.run.Lts as lts
-use Rattle.steps.proofs.ends.Reads as ends-reads
+use Rattle.updates.proofs.ends.Reads as ends-reads
 use Rattle.one_epoch.proofs.epoch.Reads as epoch-reads
 use Rattle.begin_and_end.proofs.deal.Reads as deal-reads
 

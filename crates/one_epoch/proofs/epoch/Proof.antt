@@ -19,7 +19,7 @@ use Rattle.one_epoch.proofs.epoch.Statement.{statement}
 use Rattle.one_epoch.proofs.epoch.Tie as tie
 use Rattle.one_epoch.proofs.epoch.Reads as reads
 use Rattle.one_epoch.proofs.epoch.Lts as lts
-use Rattle.steps.proofs.is_refused.Reads as is-refused-reads
+use Rattle.updates.proofs.is_refused.Reads as is-refused-reads
 use Rattle.lines.proofs.at.Reads as at-reads
 use Rattle.visits.proofs.visit.Reads as visit-reads
 

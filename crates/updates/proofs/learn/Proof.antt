@@ -10,9 +10,9 @@ use Rattle.updates.proofs.learn.Statement.{statement}
 use Rattle.updates.proofs.learn.Tie as tie
 use Rattle.updates.proofs.learn.Reads as reads
 use Rattle.updates.proofs.learn.Lts as lts
-use Rattle.steps.proofs.holds.Reads as holds-reads
+use Rattle.updates.proofs.holds.Reads as holds-reads
 use Rattle.training_tables.proofs.both_finite.Reads as both-finite-reads
-use Rattle.steps.proofs.refuse.Reads as refuse-reads
+use Rattle.updates.proofs.refuse.Reads as refuse-reads
 use Rattle.updates.proofs.update.Reads as update-reads
 
 -- the start, found from the update

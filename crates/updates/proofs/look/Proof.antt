@@ -1,7 +1,7 @@
--- `steps::look` meets its contract. Assumes nothing.
+-- `updates::look` meets its contract. Assumes nothing.
 use borrow.Author.Needs.{needs}
-use Rattle.steps.proofs.look.Statement.{statement}
-use Rattle.steps.proofs.look.Tie as tie
+use Rattle.updates.proofs.look.Statement.{statement}
+use Rattle.updates.proofs.look.Tie as tie
 
 look-at-requires : tie.Need-look-at-requires
 look-at-requires c κs = search needs

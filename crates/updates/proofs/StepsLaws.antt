@@ -6,9 +6,9 @@ use Prim.Native.Nat.{ℕ}
 use native.Mathlib.Omega.{arith}
 use Rattle.training.specs.declared.Step.{Step}
 use Rattle.training.specs.Visits.{State, refusedAs, unchanged}
-use Rattle.steps.specs.declared.Found.{Found}
-use Rattle.steps.specs.declared.Found.the-variants.{Ended, Differ}
-use Rattle.steps.specs.Looked.{looked}
+use Rattle.updates.specs.declared.Found.{Found}
+use Rattle.updates.specs.declared.Found.the-variants.{Ended, Differ}
+use Rattle.updates.specs.Looked.{looked}
 
 pub never : {r : Step} → Ended r ≡ Differ → ⊥
 never e = let z : _≡_ {A = ℕ} 0 1 = cc in omega arith

@@ -1,9 +1,9 @@
--- `steps::look_at` meets its contract. Assumes nothing.
+-- `updates::look_at` meets its contract. Assumes nothing.
 use borrow.Author.Needs.{needs}
 use borrow.Author.Tests.{not-true, not-false}
-use Rattle.steps.proofs.Laws.{not-scored, agreeing, differing}
-use Rattle.steps.proofs.look_at.Statement.{statement}
-use Rattle.steps.proofs.look_at.Tie as tie
+use Rattle.updates.proofs.StepsLaws.{not-scored, agreeing, differing}
+use Rattle.updates.proofs.look_at.Statement.{statement}
+use Rattle.updates.proofs.look_at.Tie as tie
 
 refuse-requires : tie.Need-refuse-requires
 refuse-requires c κs = search needs

@@ -1,8 +1,8 @@
 use mathlib.Core.Path.{_≡_, refl}
 use native.Mathlib.Omega.{arith}
 use Rattle.training.specs.Visits.{unchanged}
-use Rattle.steps.proofs.unchanged.Statement.{statement}
-use Rattle.steps.proofs.unchanged.Tie as tie
+use Rattle.updates.proofs.unchanged.Statement.{statement}
+use Rattle.updates.proofs.unchanged.Tie as tie
 
 add-visits : tie.Need-add-t3
 add-visits c = omega (arith, c .before .pre)

@@ -5,10 +5,10 @@ use native.Mathlib.Nat.{le-trans}
 use native.Mathlib.Omega.{arith}
 use borrow.Author.Needs.{needs}
 use Rattle.training.specs.Rules.{stops}
-use Rattle.steps.proofs.is_low.Statement.{statement}
-use Rattle.steps.proofs.is_low.Tie as tie
-use Rattle.steps.proofs.is_low.Reads as reads
-use Rattle.steps.proofs.is_low.Lts as lts
+use Rattle.updates.proofs.is_low.Statement.{statement}
+use Rattle.updates.proofs.is_low.Tie as tie
+use Rattle.updates.proofs.is_low.Reads as reads
+use Rattle.updates.proofs.is_low.Lts as lts
 
 enum-told : tie.Need-enum-told
 enum-told c = search needs

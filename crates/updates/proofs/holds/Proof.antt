@@ -1,7 +1,7 @@
--- `steps::holds` meets its contract. Assumes nothing.
+-- `updates::holds` meets its contract. Assumes nothing.
 use borrow.Author.Needs.{needs}
-use Rattle.steps.proofs.holds.Statement.{statement}
-use Rattle.steps.proofs.holds.Tie as tie
+use Rattle.updates.proofs.holds.Statement.{statement}
+use Rattle.updates.proofs.holds.Tie as tie
 
 is-finite-requires : tie.Need-is-finite-requires
 is-finite-requires c κs = search needs

@@ -4,10 +4,10 @@ use Prim.Native.Nat.{_+_, _-_, _*_, _≤_, _<_}
 use native.Mathlib.Omega.{arith}
 use borrow.Author.Needs.{needs}
 use Rattle.training.specs.Visits.{refusedAs}
-use Rattle.steps.proofs.refuse.Statement.{statement}
-use Rattle.steps.proofs.refuse.Tie as tie
-use Rattle.steps.proofs.refuse.Reads as reads
-use Rattle.steps.proofs.refuse.Lts as lts
+use Rattle.updates.proofs.refuse.Statement.{statement}
+use Rattle.updates.proofs.refuse.Tie as tie
+use Rattle.updates.proofs.refuse.Reads as reads
+use Rattle.updates.proofs.refuse.Lts as lts
 
 returns : tie.Need-returns
 unfolding refusedAs

@@ -6,12 +6,12 @@ use native.Mathlib.Omega.{arith}
 use borrow.Author.Needs.{needs}
 use lib.Dec.{le→leb}
 use lib.Ieee.{inFloat}
-use Rattle.steps.proofs.ends.Statement.{statement}
-use Rattle.steps.proofs.ends.Tie as tie
-use Rattle.steps.proofs.ends.Reads as reads
-use Rattle.steps.proofs.ends.Lts as lts
-use Rattle.steps.proofs.is_low.Reads as is-low-reads
-use Rattle.steps.proofs.is_refused.Reads as is-refused-reads
+use Rattle.updates.proofs.ends.Statement.{statement}
+use Rattle.updates.proofs.ends.Tie as tie
+use Rattle.updates.proofs.ends.Reads as reads
+use Rattle.updates.proofs.ends.Lts as lts
+use Rattle.updates.proofs.is_low.Reads as is-low-reads
+use Rattle.updates.proofs.is_refused.Reads as is-refused-reads
 
 is-refused-requires : tie.Need-is-refused-requires
 is-refused-requires c κs = search needs
