@@ -17,7 +17,7 @@ use Rattle.refusal_rows.specs.Tests.{checks}
 use Rattle.refusal_rows.proofs.Means.{broken-parts}
 use Rattle.feature_gen.specs.Rows.{modelLimits, weightLimits, idTests, weightTests}
 use Rattle.line_check.specs.Rows.{Scoring, lineLimits, scoreLimits, scoringLimits, lineStarts, valueTests, scoringChecked}
-use Rattle.scoring.specs.Promise.{Given}
+use Rattle.compute_scores.specs.Promise.{Given}
 use Rattle.label_check.specs.Rows.{labelLimits, labelChecked}
 
 -- one row of 2 in two parts, before and after

@@ -8,7 +8,7 @@ use Rattle.refusal_rows.specs.Limits.{Limit, room, two}
 use Rattle.refusal_rows.specs.Tests.{checks}
 use Rattle.feature_gen.specs.Rows.{modelLimits, weightLimits, idTests, weightTests}
 use Rattle.line_check.specs.Rows.{lineLimits, lineStarts, valueTests}
-use Rattle.scoring.specs.Promise.{Given}
+use Rattle.compute_scores.specs.Promise.{Given}
 
 -- 2 | "a count .. outside its bound, or a lent buffer too short": the model, its weights, the line, and T labels of the path | 0
 abbrev pub labelLimits : Given → ℕ → List Limit

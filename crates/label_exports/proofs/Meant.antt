@@ -16,7 +16,7 @@ use Rattle.best_path.proofs.Laws.{decoded-length}
 use Rattle.best_path.proofs.Demand3.{demand-3}
 use Rattle.refusal_rows.proofs.Groups.{above-zero}
 use Rattle.finished.proofs.Meant.{scores-mean}
-use Rattle.scoring.specs.Promise.{statesOfLine, transitionsOfLine, finishedOf}
+use Rattle.compute_scores.specs.Promise.{statesOfLine, transitionsOfLine, finishedOf}
 use Rattle.viterbi.specs.Promise.{SumAndLead}
 use Rattle.label_line.specs.Promise.{scoresOf, checkedOf, answerTo, pathAfter}
 use Rattle.label_line.proofs.Meant.{checks-mean, labelled-so}

@@ -13,7 +13,7 @@ use Rattle.best_path.proofs.Demand3.{demand-3}
 use Rattle.score_tables.proofs.Laws.{within}
 use Rattle.viterbi.specs.Promise.{SumAndLead}
 use Rattle.finished.proofs.Meant.{scores-mean}
-use Rattle.scoring.specs.Promise.{Given, statesOfLine, transitionsOfLine, finishedOf}
+use Rattle.compute_scores.specs.Promise.{Given, statesOfLine, transitionsOfLine, finishedOf}
 use Rattle.label_line.specs.Promise.{scoresOf, checkedOf, answerTo, pathAfter}
 use Rattle.label_line.specs.Demand3.{AnswersAreBest}
 use Rattle.label_line.proofs.Meant.{checks-mean}

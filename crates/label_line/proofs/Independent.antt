@@ -12,8 +12,8 @@ use Rattle.best_path.specs.Decoded.{decodedPath}
 use Rattle.best_path.proofs.Laws.{decoded-length}
 use Rattle.viterbi.specs.Promise.{decoded, said}
 use Rattle.same_scores.proofs.Same.{only-named-matters}
-use Rattle.scoring.specs.Promise.{Given, finishedOf}
-use Rattle.scoring.specs.Independent.{inputOf}
+use Rattle.compute_scores.specs.Promise.{Given, finishedOf}
+use Rattle.compute_scores.specs.Independent.{inputOf}
 use Rattle.label_line.specs.Promise.{Outcome, scoresOf, checkedOf, decodedOf, answerTo, pathAfter, Promised}
 use Rattle.label_line.specs.Independent.{IsLabelled, SameLabels}
 use Rattle.label_line.proofs.Meant.{checks-mean}

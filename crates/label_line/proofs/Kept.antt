@@ -10,8 +10,8 @@ use Rattle.refusals.specs.declared.Checked.the-variants.{Accepted, Refused}
 use Rattle.refusals.specs.Refusals.{orNext}
 use Rattle.lines.proofs.Fronts.{length-states, length-transitions}
 use Rattle.viterbi.specs.declared.Decoding.{Decoding}
-use Rattle.scoring.specs.Promise.{Given, Buffers, stateEntries, transitionEntries, statesOfLine, transitionsOfLine}
-use Rattle.scoring.proofs.Kept.{finished-is}
+use Rattle.compute_scores.specs.Promise.{Given, Buffers, stateEntries, transitionEntries, statesOfLine, transitionsOfLine}
+use Rattle.compute_scores.proofs.Kept.{finished-is}
 use Rattle.decode_scores.specs.Finished.{Finished}
 use Rattle.label_line.specs.Promise.{checkedOf, answerTo, pathAfter, Labelled, Promised}
 

@@ -9,8 +9,8 @@ use Rattle.refusals.specs.Said.{refused}
 use Rattle.best_path.specs.Lead.{Lead}
 use Rattle.viterbi.specs.Promise.{decoded, said}
 use Rattle.finished.specs.Answers as line
-use Rattle.scoring.specs.Promise.{Given}
-use Rattle.scoring.specs.Meaning.{startsOf, idsOf, numbersOf, EightIn, ScoresFinite}
+use Rattle.compute_scores.specs.Promise.{Given}
+use Rattle.compute_scores.specs.Meaning.{startsOf, idsOf, numbersOf, EightIn, ScoresFinite}
 use Rattle.label_check.specs.Rows.{labelLimits}
 use Rattle.label_line.specs.Promise.{Outcome, Promised}
 

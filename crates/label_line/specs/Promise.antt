@@ -13,7 +13,7 @@ use Rattle.best_path.specs.Lead.{lead}
 use Rattle.viterbi.specs.declared.Decoding.{Decoding}
 use Rattle.viterbi.specs.Promise.{SumAndLead, decoded, said}
 use Rattle.finished.specs.After.{contents}
-use Rattle.scoring.specs.Promise.{Given, statesOfLine, transitionsOfLine, finishedOf}
+use Rattle.compute_scores.specs.Promise.{Given, statesOfLine, transitionsOfLine, finishedOf}
 use Rattle.label_check.specs.Rows.{labelChecked}
 
 -- the answer, and what the lent buffer holds afterwards

@@ -35,7 +35,7 @@ fn label_accepted(
     requires { ⌜ words ≤ length (now path) ⌝ }
     ensures { λ r. ⌜ Labelled (record { model = modelOf labels counts (now (kinds .entry)) (now (destinations .entry)) (now (sources .entry)) (now («attribute_starts» .entry)) (now («attribute_entries» .entry)) (now («label_starts» .entry)) (now («label_entries» .entry)); weights = now (weights .entry); words = words; line = record { starts = now (begins .entry); size = attributes; ids = now (ids .entry); values = now (values .entry) } }) (now (path .entry)) (record { answer = r; path = now (path .exit) }) ⌝ }
 {
-    scoring::fill_scores(
+    compute_scores::fill_scores(
         labels,
         words,
         counts,

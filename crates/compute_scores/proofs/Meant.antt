@@ -7,8 +7,8 @@ use Rattle.line_check.specs.Rows.{scoringLimits}
 use Rattle.refusals.proofs.Said.{refused-said, done-said}
 use Rattle.finished.proofs.Meant.{scores-mean}
 use Rattle.finished.proofs.Answers.{answered}
-use Rattle.scoring.specs.Promise.{statesOfLine, transitionsOfLine, scoringOf, checkedOf, finishedOf, answerTo}
-use Rattle.scoring.specs.Meaning.{startsOf, idsOf, numbersOf, EightIn, ScoresFinite, ScoringMeans}
+use Rattle.compute_scores.specs.Promise.{statesOfLine, transitionsOfLine, scoringOf, checkedOf, finishedOf, answerTo}
+use Rattle.compute_scores.specs.Meaning.{startsOf, idsOf, numbersOf, EightIn, ScoresFinite, ScoringMeans}
 
 pub scores-meant : ScoringMeans
 unfolding answerTo

@@ -8,8 +8,8 @@ use Rattle.lines.proofs.Fronts.{length-states, length-transitions}
 use Rattle.refusals.specs.Said.{accepted, saidOf}
 use Rattle.refusals.proofs.Said.{done-said}
 use Rattle.same_scores.proofs.Same.{only-named-matters}
-use Rattle.scoring.specs.Promise.{Given, Buffers, Outcome, stateEntries, transitionEntries, statesOfLine, transitionsOfLine, checkedOf, finishedOf, answerTo, statesAfter, transitionsAfter, Promised}
-use Rattle.scoring.specs.Independent.{inputOf, SameScores}
+use Rattle.compute_scores.specs.Promise.{Given, Buffers, Outcome, stateEntries, transitionEntries, statesOfLine, transitionsOfLine, checkedOf, finishedOf, answerTo, statesAfter, transitionsAfter, Promised}
+use Rattle.compute_scores.specs.Independent.{inputOf, SameScores}
 
 -- the fronts of a line that is scored hold its scores
 module _ (given : Given) (before : Buffers) (outcome : Outcome) (kept : Promised given before outcome) (scored : saidOf (outcome .answer) ≡ accepted tt) where

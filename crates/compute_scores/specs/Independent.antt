@@ -4,7 +4,7 @@ use lib.ListN.{take}
 use Rattle.refusals.specs.Said.{accepted, saidOf}
 use Rattle.same_scores.specs.Named.{Input}
 use Rattle.same_scores.specs.Agree.{Agree}
-use Rattle.scoring.specs.Promise.{Given, Buffers, Outcome, stateEntries, transitionEntries, Promised}
+use Rattle.compute_scores.specs.Promise.{Given, Buffers, Outcome, stateEntries, transitionEntries, Promised}
 
 abbrev pub inputOf : Given → Input
 inputOf given = record {

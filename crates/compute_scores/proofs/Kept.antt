@@ -14,7 +14,7 @@ use Rattle.line_check.specs.Sound.{SoundScoring}
 use Rattle.finished.specs.Rows.{scoresFinished}
 use Rattle.finished.specs.After.{clearedWhere}
 use Rattle.finished.proofs.Laws.{scores-front, contents-kept}
-use Rattle.scoring.specs.Promise.{Given, Buffers, stateEntries, transitionEntries, statesOfLine, transitionsOfLine, scoringOf, checkedOf, finishedOf, answerTo, statesAfter, transitionsAfter, Promised}
+use Rattle.compute_scores.specs.Promise.{Given, Buffers, stateEntries, transitionEntries, statesOfLine, transitionsOfLine, scoringOf, checkedOf, finishedOf, answerTo, statesAfter, transitionsAfter, Promised}
 
 -- tables that are as long as an accepted call's buffers have room
 pub sized : (given : Given) (before : Buffers) → SoundScoring (scoringOf given before) → (states transitions : List Float) → length states ≡ length (before .states) → length transitions ≡ length (before .transitions) → Sized (given .model .labels) (given .words) transitions states

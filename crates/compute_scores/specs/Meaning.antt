@@ -10,7 +10,7 @@ use Rattle.feature_gen.specs.Rows.{idTests, weightTests}
 use Rattle.line_check.specs.Rows.{scoringLimits, lineStarts, valueTests}
 use Rattle.finished.specs.Meaning.{EightAt}
 use Rattle.finished.specs.Answers.{Answers}
-use Rattle.scoring.specs.Promise.{Given, Buffers, Outcome, stateEntries, transitionEntries, statesOfLine, transitionsOfLine, scoringOf, Promised}
+use Rattle.compute_scores.specs.Promise.{Given, Buffers, Outcome, stateEntries, transitionEntries, statesOfLine, transitionsOfLine, scoringOf, Promised}
 
 -- the tables that 3, 5 and 6 look at, in order
 abbrev pub startsOf : Given → List Test

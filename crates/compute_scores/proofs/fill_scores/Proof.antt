@@ -1,10 +1,10 @@
--- `scoring::fill_scores` meets its contract: an accepted line meets what its scores require. Assumes nothing.
+-- `compute_scores::fill_scores` meets its contract: an accepted line meets what its scores require. Assumes nothing.
 use borrow.Author.Needs.{needs}
 use Rattle.lines.specs.Tables.{Model}
 use Rattle.feature_gen.specs.Lent.{modelOf}
 use Rattle.finished.proofs.Laws.{from-first}
-use Rattle.scoring.proofs.fill_scores.Statement.{statement}
-use Rattle.scoring.proofs.fill_scores.Tie as tie
+use Rattle.compute_scores.proofs.fill_scores.Statement.{statement}
+use Rattle.compute_scores.proofs.fill_scores.Tie as tie
 
 abbrev start : tie.After-slice-known → tie.Start
 start c = c .before .before .before .before .before .before .before .before .before .before .before .before

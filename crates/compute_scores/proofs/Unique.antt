@@ -1,7 +1,7 @@
 -- No two different outcomes satisfy the promise of scoring a line. Assumes nothing.
 use mathlib.Core.Path.{sym, _∙_}
 use Rattle.refusals.proofs.Said.{said-once}
-use Rattle.scoring.specs.Promise.{OnlyOne}
+use Rattle.compute_scores.specs.Promise.{OnlyOne}
 
 pub only-one : OnlyOne
 only-one given before a b p q =

@@ -1,13 +1,13 @@
--- `scoring::compute_scores` keeps its promise. Assumes nothing.
+-- `compute_scores::compute_scores` keeps its promise. Assumes nothing.
 use mathlib.Core.Path.{_≡_, sym, _∙_}
 use borrow.Author.Needs.{needs}
 use Rattle.refusals.specs.declared.Checked.the-variants.{Accepted}
 use Rattle.feature_gen.specs.Lent.{modelOf}
 use Rattle.line_check.proofs.Meant.{scoring-sound}
-use Rattle.scoring.specs.Promise.{Given, Buffers, scoringOf, checkedOf}
-use Rattle.scoring.proofs.Kept.{sized, refused-kept, made-kept}
-use Rattle.scoring.proofs.compute_scores.Statement.{statement}
-use Rattle.scoring.proofs.compute_scores.Tie as tie
+use Rattle.compute_scores.specs.Promise.{Given, Buffers, scoringOf, checkedOf}
+use Rattle.compute_scores.proofs.Kept.{sized, refused-kept, made-kept}
+use Rattle.compute_scores.proofs.compute_scores.Statement.{statement}
+use Rattle.compute_scores.proofs.compute_scores.Tie as tie
 
 -- what the call is given, what it is lent, and that it is accepted
 abbrev given : tie.Start → Given
