@@ -1,3 +1,4 @@
+pub mod Parted
 pub mod Unique
 pub mod Meant
 pub mod Kept

@@ -19,7 +19,7 @@ use Rattle.finished.proofs.Meant.{scores-mean}
 use Rattle.finished.proofs.Answers.{answered}
 use Rattle.compute_scores.specs.Promise.{Given, statesOfLine, transitionsOfLine, finishedOf}
 use Rattle.compute_scores.specs.Meaning.{startsOf, idsOf, numbersOf, EightIn, ScoresFinite}
-use Rattle.label_check.specs.Rows.{labelLimits, labelChecked}
+use Rattle.label_line.specs.Rows.{labelLimits, labelChecked}
 use Rattle.label_line.specs.Promise.{scoresOf, checkedOf, answerTo}
 use Rattle.label_line.specs.Meaning.{Meaning, LabellingMeans}
 

@@ -1,3 +1,4 @@
+pub mod Rows
 pub mod Promise
 pub mod Meaning
 pub mod Demand3

@@ -11,7 +11,7 @@ use Rattle.viterbi.specs.Promise.{decoded, said}
 use Rattle.finished.specs.Answers as line
 use Rattle.compute_scores.specs.Promise.{Given}
 use Rattle.compute_scores.specs.Meaning.{startsOf, idsOf, numbersOf, EightIn, ScoresFinite}
-use Rattle.label_check.specs.Rows.{labelLimits}
+use Rattle.label_line.specs.Rows.{labelLimits}
 use Rattle.label_line.specs.Promise.{Outcome, Promised}
 
 -- `Refuses number place` says how a refusal is answered, `Accepts` how none is

@@ -14,7 +14,7 @@ use Rattle.viterbi.specs.declared.Decoding.{Decoding}
 use Rattle.viterbi.specs.Promise.{SumAndLead, decoded, said}
 use Rattle.finished.specs.After.{contents}
 use Rattle.compute_scores.specs.Promise.{Given, statesOfLine, transitionsOfLine, finishedOf}
-use Rattle.label_check.specs.Rows.{labelChecked}
+use Rattle.label_line.specs.Rows.{labelChecked}
 
 -- the answer, and what the lent buffer holds afterwards
 pub record Outcome : Type 0 where

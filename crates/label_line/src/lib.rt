@@ -1,14 +1,64 @@
 // Labelling a line under a model: its scores, which stay inside, then the decoded path with its sum and lead.
+ghost use mathlib.Core.Path.{_≡_};
+ghost use Rattle.feature_gen.specs.Lent.{modelOf};
+ghost use Rattle.label_line.specs.Rows.{labelChecked};
 ghost use Prim.Native.Nat.{_≤_};
 ghost use lib.ListN.{length};
-ghost use Rattle.feature_gen.specs.Lent.{modelOf};
 ghost use Rattle.line_check.specs.Sound.{SoundScoring};
 ghost use Rattle.label_line.specs.Promise.{Labelled, Promised};
 use feature_gen::Counts;
-use label_check::MOST_STATES;
-use label_check::MOST_TRANSITIONS;
 use refusals::Checked;
 use viterbi::Decoding;
+
+// The most states of a line, and the most transitions: room for every line.
+pub const MOST_STATES: usize = 4096;
+
+pub const MOST_TRANSITIONS: usize = 1024;
+
+// 1, 4, 2, 3, 5 and 6. The scores have room, so of the buffers only the path can be too short.
+pub fn check_line(
+    labels: u32,
+    words: u32,
+    counts: Counts,
+    kinds: &[u8],
+    destinations: &[u32],
+    sources: &[u32],
+    weights: &[f64],
+    attribute_starts: &[u32],
+    attribute_entries: &[u32],
+    label_starts: &[u32],
+    label_entries: &[u32],
+    attributes: u32,
+    begins: &[u32],
+    ids: &[u32],
+    values: &[f64],
+    path: usize,
+) -> Checked
+    ensures { λ r. ⌜ r ≡ labelChecked (record { model = modelOf labels counts (now (kinds .entry)) (now (destinations .entry)) (now (sources .entry)) (now («attribute_starts» .entry)) (now («attribute_entries» .entry)) (now («label_starts» .entry)) (now («label_entries» .entry)); weights = now (weights .entry); words = words; line = record { starts = now (begins .entry); size = attributes; ids = now (ids .entry); values = now (values .entry) } }) path ⌝ }
+{
+    let bounds = score_tables::check_bounds(labels, words);
+    let room = refusals::refuse_if(bounds, 2, 0, refusals::is_short(path, words as usize));
+    let scoring = line_check::check_scoring(
+        labels,
+        counts,
+        kinds,
+        destinations,
+        sources,
+        weights,
+        attribute_starts,
+        attribute_entries,
+        label_starts,
+        label_entries,
+        words,
+        attributes,
+        begins,
+        ids,
+        values,
+        MOST_TRANSITIONS,
+        MOST_STATES,
+    );
+    refusals::or_next(room, scoring)
+}
 
 // The labels of a line that is accepted, its scores in buffers that are long enough.
 fn label_accepted(
@@ -78,7 +128,7 @@ pub fn label_line(
 ) -> Decoding
     ensures { λ r. ⌜ Promised (record { model = modelOf labels counts (now (kinds .entry)) (now (destinations .entry)) (now (sources .entry)) (now («attribute_starts» .entry)) (now («attribute_entries» .entry)) (now («label_starts» .entry)) (now («label_entries» .entry)); weights = now (weights .entry); words = words; line = record { starts = now (begins .entry); size = attributes; ids = now (ids .entry); values = now (values .entry) } }) (now (path .entry)) (record { answer = r; path = now (path .exit) }) ⌝ }
 {
-    let checked = label_check::check_line(
+    let checked = check_line(
         labels,
         words,
         counts,

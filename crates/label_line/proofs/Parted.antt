@@ -18,7 +18,7 @@ use Rattle.refusal_rows.proofs.Means.{broken-parts}
 use Rattle.feature_gen.specs.Rows.{modelLimits, weightLimits, idTests, weightTests}
 use Rattle.line_check.specs.Rows.{Scoring, lineLimits, scoreLimits, scoringLimits, lineStarts, valueTests, scoringChecked}
 use Rattle.compute_scores.specs.Promise.{Given}
-use Rattle.label_check.specs.Rows.{labelLimits, labelChecked}
+use Rattle.label_line.specs.Rows.{labelLimits, labelChecked}
 
 -- one row of 2 in two parts, before and after
 parted-rows : (answer : Checked) (p q all : Bool) (rest : List Checked) → (answer ≡ Accepted → all ≡ (p || q)) → firstFrom (orNext answer (refuse 2 0 all)) rest ≡ orNext (orNext answer (refuse 2 0 p)) (firstFrom (orNext answer (refuse 2 0 q)) rest)

@@ -1,8 +1,8 @@
--- `label_check::check_line` meets its contract. Assumes nothing.
+-- `label_line::check_line` meets its contract. Assumes nothing.
 use borrow.Author.Needs.{needs}
-use Rattle.label_check.proofs.Parted.{in-order}
-use Rattle.label_check.proofs.check_line.Statement.{statement}
-use Rattle.label_check.proofs.check_line.Tie as tie
+use Rattle.label_line.proofs.Parted.{in-order}
+use Rattle.label_line.proofs.check_line.Statement.{statement}
+use Rattle.label_line.proofs.check_line.Tie as tie
 
 check-bounds-requires : tie.Need-check-bounds-requires
 check-bounds-requires c κs = search needs
