@@ -1,3 +1,4 @@
+mod DecodeScoresKept
 pub mod Parted
 pub mod Unique
 pub mod Meant

@@ -1,3 +1,4 @@
+pub mod Finished
 pub mod Rows
 pub mod Promise
 pub mod Meaning

@@ -1,14 +1,66 @@
 // Labelling a line under a model: its scores, which stay inside, then the decoded path with its sum and lead.
 ghost use mathlib.Core.Path.{_≡_};
+ghost use Prim.Native.Nat.{_*_, _≤_};
+ghost use lib.ListN.{length, take};
+ghost use Rattle.viterbi.specs.Answered.{Ready, Answered};
+ghost use Rattle.finished.specs.After.{cleared};
+ghost use Rattle.label_line.specs.Finished.{Finished};
 ghost use Rattle.feature_gen.specs.Lent.{modelOf};
 ghost use Rattle.label_line.specs.Rows.{labelChecked};
-ghost use Prim.Native.Nat.{_≤_};
-ghost use lib.ListN.{length};
 ghost use Rattle.line_check.specs.Sound.{SoundScoring};
 ghost use Rattle.label_line.specs.Promise.{Labelled, Promised};
 use feature_gen::Counts;
 use refusals::Checked;
 use viterbi::Decoding;
+use viterbi_end::Found;
+
+// The first n labels are 0, and what comes after them stays.
+fn clear_path(path: &mut [u32], n: usize)
+    requires { ⌜ n ≤ length (now path) ⌝ }
+    ensures { λ _. ⌜ now (path .exit) ≡ cleared 0 n (now (path .entry)) ⌝ }
+{
+    let mut i = 0usize;
+    while i < n {
+        path[i] = 0;
+        i += 1;
+    }
+}
+
+// Decoding over the fronts of two tables.
+fn decode_front(
+    labels: u32,
+    words: u32,
+    transitions: &[f64],
+    states: &[f64],
+    path: &mut [u32],
+) -> Found
+    requires { ⌜ Ready labels words (now transitions) (now states) (now path) ⌝ }
+    ensures { λ r. ⌜ Answered labels words (take (labels * labels) (now (transitions .entry))) (take (words * labels) (now (states .entry))) (now (path .entry)) r (now (path .exit)) ⌝ }
+{
+    let n = score_tables::entries(words, labels);
+    let m = score_tables::entries(labels, labels);
+    let needed = &transitions[..m];
+    viterbi::decode_tables(labels as usize, words as usize, needed, &states[..n], path)
+}
+
+// The labels by the scores of a line: 8 clears the path.
+pub fn decode_scores(
+    labels: u32,
+    words: u32,
+    transitions: &[f64],
+    states: &[f64],
+    path: &mut [u32],
+) -> Decoding
+    requires { ⌜ Ready labels words (now transitions) (now states) (now path) ⌝ }
+    ensures { λ r. ⌜ Finished labels words (now (transitions .entry)) (now (states .entry)) (now (path .entry)) r (now (path .exit)) ⌝ }
+{
+    let finished = finished::check_scores(labels, words, transitions, states);
+    if let Checked::Refused(late) = finished {
+        clear_path(path, words as usize);
+        return Decoding::Refused(late);
+    }
+    Decoding::Decoded(decode_front(labels, words, transitions, states, path))
+}
 
 // The most states of a line, and the most transitions: room for every line.
 pub const MOST_STATES: usize = 4096;
@@ -104,7 +156,7 @@ fn label_accepted(
         transitions,
         states,
     );
-    decode_scores::decode_scores(labels, words, transitions, states, path)
+    decode_scores(labels, words, transitions, states, path)
 }
 
 // The labels of a line, at the front of `path`, with the sum and the lead; or the refusal.

@@ -1,11 +1,11 @@
--- `decode_scores::decode_front` meets its contract. Assumes nothing.
+-- `label_line::decode_front` meets its contract. Assumes nothing.
 use mathlib.Core.Path.{sym}
 use native.Mathlib.Omega.{arith}
 use borrow.Author.Needs.{needs}
 use lib.Seq.{length-take-le}
-use Rattle.decode_scores.proofs.Kept.{fronts-ready, fronts-answered}
-use Rattle.decode_scores.proofs.decode_front.Statement.{statement}
-use Rattle.decode_scores.proofs.decode_front.Tie as tie
+use Rattle.label_line.proofs.DecodeScoresKept.{fronts-ready, fronts-answered}
+use Rattle.label_line.proofs.decode_front.Statement.{statement}
+use Rattle.label_line.proofs.decode_front.Tie as tie
 
 entries-requires : tie.Need-entries-requires
 entries-requires c κs = search needs

@@ -1,8 +1,8 @@
--- `decode_scores::decode_scores` meets its contract. Assumes nothing.
+-- `label_line::decode_scores` meets its contract. Assumes nothing.
 use borrow.Author.Needs.{needs}
-use Rattle.decode_scores.proofs.Kept.{eight, path-found}
-use Rattle.decode_scores.proofs.decode_scores.Statement.{statement}
-use Rattle.decode_scores.proofs.decode_scores.Tie as tie
+use Rattle.label_line.proofs.DecodeScoresKept.{eight, path-found}
+use Rattle.label_line.proofs.decode_scores.Statement.{statement}
+use Rattle.label_line.proofs.decode_scores.Tie as tie
 
 check-scores-requires : tie.Need-check-scores-requires
 check-scores-requires c κs = search needs

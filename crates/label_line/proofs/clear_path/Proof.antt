@@ -1,4 +1,4 @@
--- `decode_scores::clear_path` meets its contract. Assumes nothing.
+-- `label_line::clear_path` meets its contract. Assumes nothing.
 use mathlib.Core.Path.{_≡_}
 use mathlib.Core.List.{_++_}
 use Prim.Native.Nat.{_≤_, _<_, _-_}
@@ -6,8 +6,8 @@ use native.Mathlib.Omega.{arith}
 use borrow.Author.Needs.{needs}
 use lib.ListN.{length, drop, replicate}
 use Rattle.lines.proofs.Laws.{fill-more}
-use Rattle.decode_scores.proofs.clear_path.Statement.{statement}
-use Rattle.decode_scores.proofs.clear_path.Tie as tie
+use Rattle.label_line.proofs.clear_path.Statement.{statement}
+use Rattle.label_line.proofs.clear_path.Tie as tie
 
 abbrev Inv-loop : tie.InvT-loop
 Inv-loop path₀ n i₀ path i = (i ≤ n) × (length path ≡ length path₀) × (path ≡ replicate i 0 ++ drop i path₀)

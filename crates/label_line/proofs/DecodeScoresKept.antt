@@ -14,7 +14,7 @@ use Rattle.viterbi.specs.declared.Decoding.{Decoding}
 use Rattle.viterbi.specs.Answered.{Ready, Answered}
 use Rattle.finished.specs.Rows.{scoresFinished}
 use Rattle.finished.specs.After.{cleared}
-use Rattle.decode_scores.specs.Finished.{Finished}
+use Rattle.label_line.specs.Finished.{Finished}
 
 -- the fronts of tables are enough
 pub fronts-ready : {labels words n m : ℕ} {transitions states : List Float} {path : List ℕ} → n ≡ words * labels → m ≡ labels * labels → Ready labels words transitions states path → Ready labels words (take m transitions) (take n states) path
