@@ -1,11 +1,11 @@
--- `count_attribute::note` meets its contract. Assumes nothing.
+-- `extract_features::note` meets its contract. Assumes nothing.
 use mathlib.Core.Path.{_≡_, refl}
 use native.Mathlib.Omega.{arith}
 use lib.ListN.{getD}
 use borrow.Author.Tests.{eq-eqb, ne-eqb}
 use borrow.Author.Needs.{needs}
-use Rattle.count_attribute.proofs.note.Statement.{statement}
-use Rattle.count_attribute.proofs.note.Tie as tie
+use Rattle.extract_features.proofs.note.Statement.{statement}
+use Rattle.extract_features.proofs.note.Tie as tie
 
 at-requires : tie.Need-at-requires
 at-requires c κs = search needs

@@ -1,10 +1,10 @@
--- `count_attribute::add_note` meets its contract. Assumes nothing.
+-- `extract_features::add_note` meets its contract. Assumes nothing.
 use borrow.Author.Tests.{eq-eqb, ne-eqb}
 use borrow.Author.Needs.{needs}
 use Rattle.lines.specs.Passes.{raised}
-use Rattle.count_attribute.specs.Noted.{noteAdded}
-use Rattle.count_attribute.proofs.add_note.Statement.{statement}
-use Rattle.count_attribute.proofs.add_note.Tie as tie
+use Rattle.extract_features.specs.Noted.{noteAdded}
+use Rattle.extract_features.proofs.add_note.Statement.{statement}
+use Rattle.extract_features.proofs.add_note.Tie as tie
 
 mul-i : tie.Need-mul-i
 mul-i c = search needs

@@ -1,4 +1,4 @@
--- `count_attribute::count_attribute` meets its contract. The loop's invariant: once the notes are added, the entries before this one have counted. Assumes nothing.
+-- `extract_features::count_attribute` meets its contract. The loop's invariant: once the notes are added, the entries before this one have counted. Assumes nothing.
 use Prim.Native.Nat.{_-_}
 use mathlib.Core.Path.{refl}
 use mathlib.Core.List.{[]}
@@ -7,10 +7,10 @@ use borrow.Author.Needs.{needs}
 use Rattle.lines.specs.Counted.{stateCount}
 use Rattle.lines.specs.Lent.{bare, withCounts}
 use Rattle.lines.proofs.Laws.{Passed, passed-none, passed-next, passed-end}
-use Rattle.count_attribute.specs.Noted.{settled}
-use Rattle.count_attribute.proofs.Notes.{Going}
-use Rattle.count_attribute.proofs.count_attribute.Statement.{statement}
-use Rattle.count_attribute.proofs.count_attribute.Tie as tie
+use Rattle.extract_features.specs.Noted.{settled}
+use Rattle.extract_features.proofs.Notes.{Going}
+use Rattle.extract_features.proofs.count_attribute.Statement.{statement}
+use Rattle.extract_features.proofs.count_attribute.Tie as tie
 
 abbrev Inv-loop : tie.InvT-loop
 Inv-loop features kinds destinations entries label noted who₀ what₀ counts₀ value last n₀ e₀ who what counts n e =

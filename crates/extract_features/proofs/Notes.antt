@@ -14,7 +14,7 @@ use Rattle.lines.specs.Passes.{through, raised}
 use Rattle.lines.specs.Tables.{Model, State}
 use Rattle.lines.specs.Counted.{stateCount}
 use Rattle.lines.proofs.Laws.{through-none, through-more, through-cong}
-use Rattle.count_attribute.specs.Noted.{noteAdded, settled, Notes}
+use Rattle.extract_features.specs.Noted.{noteAdded, settled, Notes}
 
 -- no notes
 pub settled-none : (kinds who : List ℕ) (what : List Float) (counts : List Float) → counts ≡ settled kinds who what 0 counts

@@ -1,4 +1,4 @@
--- `count_attribute::add_notes` meets its contract. The loop's invariant: the notes before this one are added. Assumes nothing.
+-- `extract_features::add_notes` meets its contract. The loop's invariant: the notes before this one are added. Assumes nothing.
 use Prim.Native.Nat.{_≤_, _-_}
 use mathlib.Core.Path.{_≡_, refl, _∙_}
 use native.Mathlib.Omega.{arith}
@@ -6,9 +6,9 @@ use borrow.Author.Needs.{needs}
 use lib.ListN.{length}
 use Rattle.lines.specs.Passes.{through}
 use Rattle.lines.proofs.Laws.{through-none, through-next, through-end}
-use Rattle.count_attribute.specs.Noted.{noteAdded, settled}
-use Rattle.count_attribute.proofs.add_notes.Statement.{statement}
-use Rattle.count_attribute.proofs.add_notes.Tie as tie
+use Rattle.extract_features.specs.Noted.{noteAdded, settled}
+use Rattle.extract_features.proofs.add_notes.Statement.{statement}
+use Rattle.extract_features.proofs.add_notes.Tie as tie
 
 abbrev Inv-loop : tie.InvT-loop
 Inv-loop features kinds who what noted counts₀ j₀ counts j = (j ≤ noted) × (length counts ≡ length counts₀) × (counts ≡ through (noteAdded kinds who what) 0 j counts₀)

@@ -1,4 +1,4 @@
--- `count_attribute::count_entry` meets its contract: noted and, where the notes are full, added, the entry has counted. Assumes nothing.
+-- `extract_features::count_entry` meets its contract: noted and, where the notes are full, added, the entry has counted. Assumes nothing.
 use Prim.Native.Nat.{zero-le}
 use mathlib.Core.Path.{_≡_, sym, _∙_}
 use mathlib.Core.List.{[]}
@@ -8,10 +8,10 @@ use lib.Dec.{eqb}
 use lib.ListN.{getD}
 use Rattle.lines.specs.Counted.{stateCount}
 use Rattle.lines.specs.Lent.{bare, withCounts}
-use Rattle.count_attribute.specs.Noted.{settled, Notes}
-use Rattle.count_attribute.proofs.Notes.{settled-none, still-notes, entry-noted}
-use Rattle.count_attribute.proofs.count_entry.Statement.{statement}
-use Rattle.count_attribute.proofs.count_entry.Tie as tie
+use Rattle.extract_features.specs.Noted.{settled, Notes}
+use Rattle.extract_features.proofs.Notes.{settled-none, still-notes, entry-noted}
+use Rattle.extract_features.proofs.count_entry.Statement.{statement}
+use Rattle.extract_features.proofs.count_entry.Tie as tie
 
 abbrev start : tie.After-note → tie.Start
 start k = k .before .before .before .before .before .before .before .before .before
