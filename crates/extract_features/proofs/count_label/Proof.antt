@@ -1,4 +1,4 @@
--- `count_transitions::count_label` meets its contract. The loop's invariant: the entries before this one have counted. Assumes nothing.
+-- `extract_features::count_label` meets its contract. The loop's invariant: the entries before this one have counted. Assumes nothing.
 use Prim.Native.Nat.{_-_}
 use mathlib.Core.Path.{_≡_, refl}
 use mathlib.Core.List.{[]}
@@ -8,8 +8,8 @@ use lib.ListN.{length}
 use Rattle.lines.specs.Counted.{transitionCount}
 use Rattle.lines.specs.Lent.{bare, withCounts}
 use Rattle.lines.proofs.Laws.{Passed, passed-none, passed-next, passed-end}
-use Rattle.count_transitions.proofs.count_label.Statement.{statement}
-use Rattle.count_transitions.proofs.count_label.Tie as tie
+use Rattle.extract_features.proofs.count_label.Statement.{statement}
+use Rattle.extract_features.proofs.count_label.Tie as tie
 
 abbrev Inv-loop : tie.InvT-loop
 Inv-loop features kinds destinations sources entries previous label counts₀ last e₀ counts e =

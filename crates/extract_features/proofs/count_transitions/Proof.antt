@@ -1,4 +1,4 @@
--- `count_transitions::count_transitions` meets its contract. The loop's invariant: the words before this one have counted. Assumes nothing.
+-- `extract_features::count_transitions` meets its contract. The loop's invariant: the words before this one have counted. Assumes nothing.
 use Prim.Native.Nat.{_-_}
 use mathlib.Core.Path.{_≡_, refl}
 use mathlib.Core.List.{[]}
@@ -9,9 +9,9 @@ use Rattle.lines.specs.Counted.{transitionCount, countedTransition}
 use Rattle.lines.specs.Lent.{bare, withCounts}
 use Rattle.lines.proofs.Laws.{Passed, passed-none, passed-next, passed-end}
 use Rattle.lines.proofs.Spans.{span-sound}
-use Rattle.count_transitions.proofs.Turns.{transition-turn}
-use Rattle.count_transitions.proofs.count_transitions.Statement.{statement}
-use Rattle.count_transitions.proofs.count_transitions.Tie as tie
+use Rattle.extract_features.proofs.CountTransitionsTurns.{transition-turn}
+use Rattle.extract_features.proofs.count_transitions.Statement.{statement}
+use Rattle.extract_features.proofs.count_transitions.Tie as tie
 
 abbrev Inv-loop : tie.InvT-loop
 Inv-loop features kinds destinations sources lists starts entries words labels counts₀ word₀ counts word =

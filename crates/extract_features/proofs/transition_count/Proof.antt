@@ -1,4 +1,4 @@
--- `count_transitions::transition_count` meets its contract. Assumes nothing.
+-- `extract_features::transition_count` meets its contract. Assumes nothing.
 use mathlib.Core.Path.{_≡_}
 use mathlib.Core.Bool.{and-false}
 use native.Mathlib.Omega.{arith}
@@ -8,8 +8,8 @@ use borrow.Author.Needs.{needs}
 use Rattle.lines.specs.Passes.{raised}
 use Rattle.lines.specs.Counted.{transitionCount}
 use Rattle.lines.proofs.Literals.{literal-one}
-use Rattle.count_transitions.proofs.transition_count.Statement.{statement}
-use Rattle.count_transitions.proofs.transition_count.Tie as tie
+use Rattle.extract_features.proofs.transition_count.Statement.{statement}
+use Rattle.extract_features.proofs.transition_count.Tie as tie
 
 at-requires : tie.Need-at-requires
 at-requires c κs = search needs
