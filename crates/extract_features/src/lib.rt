@@ -1,5 +1,7 @@
 // The feature counts of a line under labels: `extract_features` of trainer.rs, over flat tables and into a lent buffer.
 ghost use mathlib.Core.Path.{_≡_};
+ghost use Rattle.feature_gen.specs.Lent.{modelOf};
+ghost use Rattle.extract_features.specs.Promise.{Promised};
 ghost use mathlib.Core.List.{[], _++_};
 ghost use Prim.Native.Nat.{_-_, _≤_, _<_, _+_, ℕ};
 ghost use lib.ListN.{length, getD, set, drop};
@@ -12,8 +14,76 @@ ghost use mathlib.Core.Bool.{cond};
 ghost use lib.Dec.{eqb};
 ghost use Rattle.extract_features.specs.Noted.{noteAdded, settled, Notes};
 ghost use Rattle.lines.specs.Tables.{Model};
+use feature_gen::Counts;
 use lines::Attribute;
 use lines::Span;
+use refusals::Checked;
+
+// The feature counts of a line under the labels of `path`, in the front of `amounts`; or the refusal.
+pub fn extract_features(
+    labels: u32,
+    words: u32,
+    counts: Counts,
+    kinds: &[u8],
+    destinations: &[u32],
+    sources: &[u32],
+    attribute_starts: &[u32],
+    attribute_entries: &[u32],
+    label_starts: &[u32],
+    label_entries: &[u32],
+    attributes: u32,
+    begins: &[u32],
+    ids: &[u32],
+    values: &[f64],
+    path: &[u32],
+    amounts: &mut [f64],
+) -> Checked
+    ensures { λ r. ⌜ Promised (record { model = modelOf labels counts (now (kinds .entry)) (now (destinations .entry)) (now (sources .entry)) (now («attribute_starts» .entry)) (now («attribute_entries» .entry)) (now («label_starts» .entry)) (now («label_entries» .entry)); words = words; line = record { starts = now (begins .entry); size = attributes; ids = now (ids .entry); values = now (values .entry) }; path = now (path .entry) }) (now (amounts .entry)) (record { answer = r; amounts = now (amounts .exit) }) ⌝ }
+{
+    let features = counts.features as usize;
+    let checked = line_check::check_counting(
+        labels,
+        counts,
+        kinds,
+        destinations,
+        sources,
+        attribute_starts,
+        attribute_entries,
+        label_starts,
+        label_entries,
+        words,
+        attributes,
+        begins,
+        ids,
+        values,
+        path,
+        amounts.len(),
+    );
+    if let Checked::Refused(why) = checked {
+        return finished::refuse_counts(why, amounts);
+    }
+    extract_features::count_line(
+        features,
+        kinds,
+        destinations,
+        sources,
+        counts.attribute_lists as usize,
+        attribute_starts,
+        attribute_entries,
+        counts.label_lists as usize,
+        label_starts,
+        label_entries,
+        begins,
+        ids,
+        values,
+        0,
+        words as usize,
+        path,
+        amounts,
+    );
+    let finished = finished::finish_counts(features, amounts);
+    finished
+}
 
 // The entry at a place of the label lists: a Transition adds 1 where its source is the previous label and its destination the
 // label at hand.

@@ -9,7 +9,7 @@ use Rattle.refusals.specs.Said.{accepted, refused, saidOf}
 use Rattle.feature_gen.specs.Rows.{idTests}
 use Rattle.line_check.specs.Rows.{countingLimits, lineStarts, labelTests, valueTests}
 use Rattle.finished.specs.Answers.{Answers}
-use Rattle.counting.specs.Promise.{Given, Outcome, needed, countsOfLine, countingOf, Promised}
+use Rattle.extract_features.specs.Promise.{Given, Outcome, needed, countsOfLine, countingOf, Promised}
 
 abbrev pub CountingMeans : Type 0
 CountingMeans =

@@ -11,8 +11,8 @@ use Rattle.line_check.specs.Rows.{countingLimits, lineStarts, labelTests, value
 use Rattle.line_check.proofs.Meant.{counting-means}
 use Rattle.finished.proofs.Meant.{counts-mean}
 use Rattle.finished.proofs.Answers.{answered}
-use Rattle.counting.specs.Promise.{needed, countsOfLine, countingOf, checkedOf, finishedOf, answerTo}
-use Rattle.counting.specs.Meaning.{CountingMeans}
+use Rattle.extract_features.specs.Promise.{needed, countsOfLine, countingOf, checkedOf, finishedOf, answerTo}
+use Rattle.extract_features.specs.Meaning.{CountingMeans}
 
 pub counts-meant : CountingMeans
 unfolding answerTo

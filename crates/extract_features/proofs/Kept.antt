@@ -11,7 +11,7 @@ use Rattle.lines.proofs.Fronts.{length-counts}
 use Rattle.finished.specs.Rows.{finishedChecked}
 use Rattle.finished.specs.After.{clearedWhere}
 use Rattle.finished.proofs.Laws.{front-checked, contents-kept}
-use Rattle.counting.specs.Promise.{Given, needed, countsOfLine, checkedOf, finishedOf, answerTo, amountsAfter, Promised}
+use Rattle.extract_features.specs.Promise.{Given, needed, countsOfLine, checkedOf, finishedOf, answerTo, amountsAfter, Promised}
 
 -- a refusal beforehand leaves the buffer
 pub refused-kept : (given : Given) (before : List Float) {answer : Checked} {amounts : List Float} (why : Refusal) →

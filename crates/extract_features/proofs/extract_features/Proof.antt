@@ -1,4 +1,4 @@
--- `counting::extract_features` keeps its promise. Assumes nothing.
+-- `extract_features::extract_features` keeps its promise. Assumes nothing.
 use mathlib.Core.Path.{_≡_, sym, _∙_}
 use native.Mathlib.Omega.{arith}
 use borrow.Author.Needs.{needs}
@@ -7,10 +7,10 @@ use Rattle.feature_gen.specs.Lent.{modelOf}
 use Rattle.line_check.specs.Sound.{SoundCounting}
 use Rattle.line_check.proofs.Meant.{counting-sound}
 use Rattle.finished.proofs.Laws.{from-first}
-use Rattle.counting.specs.Promise.{Given, countingOf, checkedOf}
-use Rattle.counting.proofs.Kept.{refused-kept, made-kept}
-use Rattle.counting.proofs.extract_features.Statement.{statement}
-use Rattle.counting.proofs.extract_features.Tie as tie
+use Rattle.extract_features.specs.Promise.{Given, countingOf, checkedOf}
+use Rattle.extract_features.proofs.Kept.{refused-kept, made-kept}
+use Rattle.extract_features.proofs.extract_features.Statement.{statement}
+use Rattle.extract_features.proofs.extract_features.Tie as tie
 
 -- what the call is given, and that it is accepted
 abbrev given : tie.Start → Given
