@@ -43,7 +43,7 @@ pub fn fill_scores(
 {
     let width = labels as usize;
     let features = counts.features as usize;
-    compute_scores::score_line(
+    score_line(
         width,
         features,
         kinds,
@@ -59,7 +59,7 @@ pub fn fill_scores(
         words as usize,
         states,
     );
-    compute_scores::score_transitions(
+    score_transitions(
         width,
         features,
         kinds,

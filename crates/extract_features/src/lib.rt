@@ -62,7 +62,7 @@ pub fn extract_features(
     if let Checked::Refused(why) = checked {
         return finished::refuse_counts(why, amounts);
     }
-    extract_features::count_line(
+    count_line(
         features,
         kinds,
         destinations,

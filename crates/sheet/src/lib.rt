@@ -5,11 +5,10 @@ ghost use Prim.Native.Nat.{_+_, _*_, _≤_, _<_};
 ghost use lib.ListN.{length, drop, getD, take};
 ghost use Rattle.refusals.specs.Refusals.{orNext, first};
 ghost use Rattle.refusals.specs.Tables.{numbersChecked};
-ghost use Rattle.sheet.specs.Fields.{numbersIn};
+ghost use Rattle.sheet.specs.Fields.{numbersIn, valueOf, versionIn, labelsIn, wordsIn, statesFrom, wholeLength};
 ghost use Rattle.sheet.specs.Rows.{wrongHead, wrongLength, sizesChecked, tablesShort, sheetChecked};
 ghost use lib.Ieee.{binary64, ofBits};
 ghost use lib.Ieee.Scale.{finite};
-ghost use Rattle.sheet.specs.Fields.{valueOf, versionIn, labelsIn, wordsIn, statesFrom, wholeLength, numbersIn};
 ghost use Rattle.sheet.specs.Steps.{filled};
 ghost use Rattle.sheet.specs.Promise.{Promised};
 use refusals::Checked;
@@ -21,17 +20,17 @@ fn is_wrong_head(bytes: &[u8]) -> bool
     ensures { λ r. ⌜ r ≡ wrongHead (now (bytes .entry)) ⌝ }
 {
     (bytes.len() < 8)
-        | (sheet::byte_at(bytes, 0) != 84)
-        | (sheet::byte_at(bytes, 1) != 76)
-        | (sheet::byte_at(bytes, 2) != 71)
-        | (sheet::version_in(bytes) != 1)
+        | (byte_at(bytes, 0) != 84)
+        | (byte_at(bytes, 1) != 76)
+        | (byte_at(bytes, 2) != 71)
+        | (version_in(bytes) != 1)
 }
 
 // 10 on length.
 fn is_wrong_length(bytes: &[u8]) -> bool
     ensures { λ r. ⌜ r ≡ wrongLength (now (bytes .entry)) ⌝ }
 {
-    bytes.len() != sheet::whole_length(bytes)
+    bytes.len() != whole_length(bytes)
 }
 
 // The rows of the sizes in their order: 10 on the head, 1 and 4, 2, 10 on length.
@@ -47,8 +46,8 @@ fn in_order(head: Checked, bounds: Checked, room: Checked, length: Checked) -> C
 fn check_sizes(bytes: &[u8], transitions: &[f64], states: &[f64]) -> Checked
     ensures { λ r. ⌜ r ≡ sizesChecked (now (bytes .entry)) (tablesShort (now (bytes .entry)) (record { transitions = now (transitions .entry); states = now (states .entry) })) ⌝ }
 {
-    let labels = sheet::labels_in(bytes);
-    let words = sheet::words_in(bytes);
+    let labels = labels_in(bytes);
+    let words = words_in(bytes);
     let head = refusals::refuse_if(Checked::Accepted, 10, 0, is_wrong_head(bytes));
     let bounds = score_tables::check_bounds(labels, words);
     let room = score_tables::check_room(Checked::Accepted, labels, words, transitions, states);
@@ -64,7 +63,7 @@ fn check_part(answer: Checked, bytes: &[u8], at: usize, n: usize) -> Checked
     let end = refusals::to_check(answer, n);
     let mut i = 0usize;
     while i < end {
-        let bad = !sheet::is_finite_pattern(sheet::word_at(bytes, at + 8 * i));
+        let bad = !is_finite_pattern(word_at(bytes, at + 8 * i));
         if bad {
             break;
         }
@@ -81,13 +80,13 @@ pub fn check_sheet(bytes: &[u8], transitions: &[f64], states: &[f64]) -> Checked
     if let Checked::Refused(why) = sizes {
         return Checked::Refused(why);
     }
-    let labels = sheet::labels_in(bytes);
-    let words = sheet::words_in(bytes);
+    let labels = labels_in(bytes);
+    let words = words_in(bytes);
     let first = check_part(sizes, bytes, 8, entries(labels, labels));
     check_part(
         first,
         bytes,
-        sheet::states_from(bytes),
+        states_from(bytes),
         entries(words, labels),
     )
 }
