@@ -17,6 +17,28 @@ pub fn over(square: f64, gamma: f64) -> f64
     if gamma == 1.0 { square } else { square / gamma }
 }
 
+// Gamma, and each feature's weighted difference of counts, squared, times its covariance.
+pub fn spread_of(
+    features: usize,
+    weight: f64,
+    gamma: f64,
+    truly: &[f64],
+    predicted: &[f64],
+    covariance: &[f64],
+) -> f64
+    requires { ⌜ Both features (length (now truly)) (length (now predicted)) × (features ≤ length (now covariance)) ⌝ }
+    ensures { λ r. ⌜ r ≡ through (spread (now (truly .entry)) (now (predicted .entry)) weight (now (covariance .entry))) 0 features gamma ⌝ }
+{
+    let mut frac = gamma;
+    let mut i = 0usize;
+    while i < features {
+        let delta = (truly[i] - predicted[i]) * weight;
+        frac = frac + delta * delta * covariance[i];
+        i += 1;
+    }
+    frac
+}
+
 // Each feature's weight moves by its weighted difference of counts, as far as its covariance allows, and the covariance
 // narrows. The answer is whether both tables are finite then.
 pub fn narrow(
@@ -45,28 +67,6 @@ pub fn narrow(
         i += 1;
     }
     all
-}
-
-// Gamma, and each feature's weighted difference of counts, squared, times its covariance.
-pub fn spread_of(
-    features: usize,
-    weight: f64,
-    gamma: f64,
-    truly: &[f64],
-    predicted: &[f64],
-    covariance: &[f64],
-) -> f64
-    requires { ⌜ Both features (length (now truly)) (length (now predicted)) × (features ≤ length (now covariance)) ⌝ }
-    ensures { λ r. ⌜ r ≡ through (spread (now (truly .entry)) (now (predicted .entry)) weight (now (covariance .entry))) 0 features gamma ⌝ }
-{
-    let mut frac = gamma;
-    let mut i = 0usize;
-    while i < features {
-        let delta = (truly[i] - predicted[i]) * weight;
-        frac = frac + delta * delta * covariance[i];
-        i += 1;
-    }
-    frac
 }
 
 // How far the predicted path's score is above the true one's, and the number of wrong labels.

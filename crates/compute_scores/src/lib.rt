@@ -1,4 +1,5 @@
-// The state and transition scores of a line: `compute_scores` of crf_context.rs, over flat tables and into lent buffers.
+// The state and transition scores of a line: `compute_scores` of crf_context.rs, over flat tables and into lent buffers. First the
+// loops, which training uses too; then the call, which tests all it is given, with refusals 1 to 6 beforehand and 8 afterwards.
 ghost use mathlib.Core.Path.{_≡_};
 ghost use mathlib.Core.List.{_++_, []};
 ghost use Prim.Native.Nat.{_*_, _≤_, _<_, _+_, ℕ, _-_};
@@ -16,191 +17,6 @@ use feature_gen::Counts;
 use lines::Attribute;
 use lines::Span;
 use refusals::Checked;
-
-// The scores of a line that is accepted, in the fronts of the buffers.
-pub fn fill_scores(
-    labels: u32,
-    words: u32,
-    counts: Counts,
-    kinds: &[u8],
-    destinations: &[u32],
-    sources: &[u32],
-    weights: &[f64],
-    attribute_starts: &[u32],
-    attribute_entries: &[u32],
-    label_starts: &[u32],
-    label_entries: &[u32],
-    attributes: u32,
-    begins: &[u32],
-    ids: &[u32],
-    values: &[f64],
-    transitions: &mut [f64],
-    states: &mut [f64],
-)
-    requires { ⌜ SoundScoring (record { model = modelOf labels counts (now kinds) (now destinations) (now sources) (now «attribute_starts») (now «attribute_entries») (now «label_starts») (now «label_entries»); weights = now weights; words = words; line = record { starts = now begins; size = attributes; ids = now ids; values = now values }; transitions = length (now transitions); states = length (now states) }) ⌝ }
-    ensures { λ _. ⌜ now (transitions .exit) ≡ transitionsOfLine (record { model = modelOf labels counts (now (kinds .entry)) (now (destinations .entry)) (now (sources .entry)) (now («attribute_starts» .entry)) (now («attribute_entries» .entry)) (now («label_starts» .entry)) (now («label_entries» .entry)); weights = now (weights .entry); words = words; line = record { starts = now (begins .entry); size = attributes; ids = now (ids .entry); values = now (values .entry) } }) ++ drop (labels * labels) (now (transitions .entry)) ⌝ }
-    ensures { λ _. ⌜ now (states .exit) ≡ statesOfLine (record { model = modelOf labels counts (now (kinds .entry)) (now (destinations .entry)) (now (sources .entry)) (now («attribute_starts» .entry)) (now («attribute_entries» .entry)) (now («label_starts» .entry)) (now («label_entries» .entry)); weights = now (weights .entry); words = words; line = record { starts = now (begins .entry); size = attributes; ids = now (ids .entry); values = now (values .entry) } }) ++ drop (words * labels) (now (states .entry)) ⌝ }
-{
-    let width = labels as usize;
-    let features = counts.features as usize;
-    score_line(
-        width,
-        features,
-        kinds,
-        destinations,
-        weights,
-        counts.attribute_lists as usize,
-        attribute_starts,
-        attribute_entries,
-        begins,
-        ids,
-        values,
-        0,
-        words as usize,
-        states,
-    );
-    score_transitions(
-        width,
-        features,
-        kinds,
-        destinations,
-        sources,
-        weights,
-        counts.label_lists as usize,
-        label_starts,
-        label_entries,
-        transitions,
-    );
-}
-
-// The transition and state scores of a line, in the fronts of `transitions` and `states`; or the refusal.
-pub fn compute_scores(
-    labels: u32,
-    words: u32,
-    counts: Counts,
-    kinds: &[u8],
-    destinations: &[u32],
-    sources: &[u32],
-    weights: &[f64],
-    attribute_starts: &[u32],
-    attribute_entries: &[u32],
-    label_starts: &[u32],
-    label_entries: &[u32],
-    attributes: u32,
-    begins: &[u32],
-    ids: &[u32],
-    values: &[f64],
-    transitions: &mut [f64],
-    states: &mut [f64],
-) -> Checked
-    ensures { λ r. ⌜ Promised (record { model = modelOf labels counts (now (kinds .entry)) (now (destinations .entry)) (now (sources .entry)) (now («attribute_starts» .entry)) (now («attribute_entries» .entry)) (now («label_starts» .entry)) (now («label_entries» .entry)); weights = now (weights .entry); words = words; line = record { starts = now (begins .entry); size = attributes; ids = now (ids .entry); values = now (values .entry) } }) (record { transitions = now (transitions .entry); states = now (states .entry) }) (record { answer = r; transitions = now (transitions .exit); states = now (states .exit) }) ⌝ }
-{
-    let checked = line_check::check_scoring(
-        labels,
-        counts,
-        kinds,
-        destinations,
-        sources,
-        weights,
-        attribute_starts,
-        attribute_entries,
-        label_starts,
-        label_entries,
-        words,
-        attributes,
-        begins,
-        ids,
-        values,
-        transitions.len(),
-        states.len(),
-    );
-    if let Checked::Refused(why) = checked {
-        return finished::refuse_scores(why, states, transitions);
-    }
-    fill_scores(
-        labels,
-        words,
-        counts,
-        kinds,
-        destinations,
-        sources,
-        weights,
-        attribute_starts,
-        attribute_entries,
-        label_starts,
-        label_entries,
-        attributes,
-        begins,
-        ids,
-        values,
-        transitions,
-        states,
-    );
-    let finished = finished::finish_scores(labels, words, transitions, states);
-    finished
-}
-
-// The entry at a place of the label lists: a Transition adds its weight at its own source and destination.
-fn transition_entry(
-    labels: usize,
-    features: usize,
-    kinds: &[u8],
-    destinations: &[u32],
-    sources: &[u32],
-    weights: &[f64],
-    entries: &[u32],
-    e: usize,
-    transitions: &mut [f64],
-)
-    requires { ⌜ SoundTransitions labels features (now kinds) (now destinations) (now sources) (now weights) ⌝ }
-    requires { ⌜ e < length (now entries) ⌝ }
-    requires { ⌜ getD (now entries) e 0 < features ⌝ }
-    requires { ⌜ labels * labels ≤ length (now transitions) ⌝ }
-    ensures { λ _. ⌜ now (transitions .exit) ≡ transitionEntry (withTransitions bare labels features (now (kinds .entry)) (now (destinations .entry)) (now (sources .entry)) 0 [] (now (entries .entry))) (now (weights .entry)) e (now (transitions .entry)) ⌝ }
-{
-    let i = lines::at(entries, e);
-    if kinds[i] == 1 {
-        let source = lines::at(sources, i);
-        let destination = lines::at(destinations, i);
-        let p = source * labels + destination;
-        transitions[p] = transitions[p] + weights[i];
-    }
-}
-
-// The entries of a label's list.
-pub fn score_label(
-    labels: usize,
-    features: usize,
-    kinds: &[u8],
-    destinations: &[u32],
-    sources: &[u32],
-    weights: &[f64],
-    entries: &[u32],
-    span: Span,
-    transitions: &mut [f64],
-)
-    requires { ⌜ SoundTransitions labels features (now kinds) (now destinations) (now sources) (now weights) ⌝ }
-    requires { ⌜ SoundSpan span (now entries) features ⌝ }
-    requires { ⌜ labels * labels ≤ length (now transitions) ⌝ }
-    ensures { λ _. ⌜ now (transitions .exit) ≡ throughSpan (transitionEntry (withTransitions bare labels features (now (kinds .entry)) (now (destinations .entry)) (now (sources .entry)) 0 [] (now (entries .entry))) (now (weights .entry))) span (now (transitions .entry)) ⌝ }
-{
-    let last = span.last;
-    let mut e = span.first;
-    while e < last {
-        transition_entry(
-            labels,
-            features,
-            kinds,
-            destinations,
-            sources,
-            weights,
-            entries,
-            e,
-            transitions,
-        );
-        e += 1;
-    }
-}
 
 // The entry at a place of the attribute lists: a State adds weight·value in the word's row, at its destination.
 fn state_entry(
@@ -366,6 +182,68 @@ pub fn score_line(
     }
 }
 
+// The entry at a place of the label lists: a Transition adds its weight at its own source and destination.
+fn transition_entry(
+    labels: usize,
+    features: usize,
+    kinds: &[u8],
+    destinations: &[u32],
+    sources: &[u32],
+    weights: &[f64],
+    entries: &[u32],
+    e: usize,
+    transitions: &mut [f64],
+)
+    requires { ⌜ SoundTransitions labels features (now kinds) (now destinations) (now sources) (now weights) ⌝ }
+    requires { ⌜ e < length (now entries) ⌝ }
+    requires { ⌜ getD (now entries) e 0 < features ⌝ }
+    requires { ⌜ labels * labels ≤ length (now transitions) ⌝ }
+    ensures { λ _. ⌜ now (transitions .exit) ≡ transitionEntry (withTransitions bare labels features (now (kinds .entry)) (now (destinations .entry)) (now (sources .entry)) 0 [] (now (entries .entry))) (now (weights .entry)) e (now (transitions .entry)) ⌝ }
+{
+    let i = lines::at(entries, e);
+    if kinds[i] == 1 {
+        let source = lines::at(sources, i);
+        let destination = lines::at(destinations, i);
+        let p = source * labels + destination;
+        transitions[p] = transitions[p] + weights[i];
+    }
+}
+
+// The entries of a label's list.
+pub fn score_label(
+    labels: usize,
+    features: usize,
+    kinds: &[u8],
+    destinations: &[u32],
+    sources: &[u32],
+    weights: &[f64],
+    entries: &[u32],
+    span: Span,
+    transitions: &mut [f64],
+)
+    requires { ⌜ SoundTransitions labels features (now kinds) (now destinations) (now sources) (now weights) ⌝ }
+    requires { ⌜ SoundSpan span (now entries) features ⌝ }
+    requires { ⌜ labels * labels ≤ length (now transitions) ⌝ }
+    ensures { λ _. ⌜ now (transitions .exit) ≡ throughSpan (transitionEntry (withTransitions bare labels features (now (kinds .entry)) (now (destinations .entry)) (now (sources .entry)) 0 [] (now (entries .entry))) (now (weights .entry))) span (now (transitions .entry)) ⌝ }
+{
+    let last = span.last;
+    let mut e = span.first;
+    while e < last {
+        transition_entry(
+            labels,
+            features,
+            kinds,
+            destinations,
+            sources,
+            weights,
+            entries,
+            e,
+            transitions,
+        );
+        e += 1;
+    }
+}
+
 // The transition scores, in the front of the buffer: the label lists numbered below both L and their number, rising.
 pub fn score_transitions(
     labels: usize,
@@ -402,4 +280,127 @@ pub fn score_transitions(
         );
         label += 1;
     }
+}
+
+// The scores of a line that is accepted, in the fronts of the buffers.
+pub fn fill_scores(
+    labels: u32,
+    words: u32,
+    counts: Counts,
+    kinds: &[u8],
+    destinations: &[u32],
+    sources: &[u32],
+    weights: &[f64],
+    attribute_starts: &[u32],
+    attribute_entries: &[u32],
+    label_starts: &[u32],
+    label_entries: &[u32],
+    attributes: u32,
+    begins: &[u32],
+    ids: &[u32],
+    values: &[f64],
+    transitions: &mut [f64],
+    states: &mut [f64],
+)
+    requires { ⌜ SoundScoring (record { model = modelOf labels counts (now kinds) (now destinations) (now sources) (now «attribute_starts») (now «attribute_entries») (now «label_starts») (now «label_entries»); weights = now weights; words = words; line = record { starts = now begins; size = attributes; ids = now ids; values = now values }; transitions = length (now transitions); states = length (now states) }) ⌝ }
+    ensures { λ _. ⌜ now (transitions .exit) ≡ transitionsOfLine (record { model = modelOf labels counts (now (kinds .entry)) (now (destinations .entry)) (now (sources .entry)) (now («attribute_starts» .entry)) (now («attribute_entries» .entry)) (now («label_starts» .entry)) (now («label_entries» .entry)); weights = now (weights .entry); words = words; line = record { starts = now (begins .entry); size = attributes; ids = now (ids .entry); values = now (values .entry) } }) ++ drop (labels * labels) (now (transitions .entry)) ⌝ }
+    ensures { λ _. ⌜ now (states .exit) ≡ statesOfLine (record { model = modelOf labels counts (now (kinds .entry)) (now (destinations .entry)) (now (sources .entry)) (now («attribute_starts» .entry)) (now («attribute_entries» .entry)) (now («label_starts» .entry)) (now («label_entries» .entry)); weights = now (weights .entry); words = words; line = record { starts = now (begins .entry); size = attributes; ids = now (ids .entry); values = now (values .entry) } }) ++ drop (words * labels) (now (states .entry)) ⌝ }
+{
+    let width = labels as usize;
+    let features = counts.features as usize;
+    score_line(
+        width,
+        features,
+        kinds,
+        destinations,
+        weights,
+        counts.attribute_lists as usize,
+        attribute_starts,
+        attribute_entries,
+        begins,
+        ids,
+        values,
+        0,
+        words as usize,
+        states,
+    );
+    score_transitions(
+        width,
+        features,
+        kinds,
+        destinations,
+        sources,
+        weights,
+        counts.label_lists as usize,
+        label_starts,
+        label_entries,
+        transitions,
+    );
+}
+
+// The transition and state scores of a line, in the fronts of `transitions` and `states`; or the refusal.
+pub fn compute_scores(
+    labels: u32,
+    words: u32,
+    counts: Counts,
+    kinds: &[u8],
+    destinations: &[u32],
+    sources: &[u32],
+    weights: &[f64],
+    attribute_starts: &[u32],
+    attribute_entries: &[u32],
+    label_starts: &[u32],
+    label_entries: &[u32],
+    attributes: u32,
+    begins: &[u32],
+    ids: &[u32],
+    values: &[f64],
+    transitions: &mut [f64],
+    states: &mut [f64],
+) -> Checked
+    ensures { λ r. ⌜ Promised (record { model = modelOf labels counts (now (kinds .entry)) (now (destinations .entry)) (now (sources .entry)) (now («attribute_starts» .entry)) (now («attribute_entries» .entry)) (now («label_starts» .entry)) (now («label_entries» .entry)); weights = now (weights .entry); words = words; line = record { starts = now (begins .entry); size = attributes; ids = now (ids .entry); values = now (values .entry) } }) (record { transitions = now (transitions .entry); states = now (states .entry) }) (record { answer = r; transitions = now (transitions .exit); states = now (states .exit) }) ⌝ }
+{
+    let checked = line_check::check_scoring(
+        labels,
+        counts,
+        kinds,
+        destinations,
+        sources,
+        weights,
+        attribute_starts,
+        attribute_entries,
+        label_starts,
+        label_entries,
+        words,
+        attributes,
+        begins,
+        ids,
+        values,
+        transitions.len(),
+        states.len(),
+    );
+    if let Checked::Refused(why) = checked {
+        return finished::refuse_scores(why, states, transitions);
+    }
+    fill_scores(
+        labels,
+        words,
+        counts,
+        kinds,
+        destinations,
+        sources,
+        weights,
+        attribute_starts,
+        attribute_entries,
+        label_starts,
+        label_entries,
+        attributes,
+        begins,
+        ids,
+        values,
+        transitions,
+        states,
+    );
+    let finished = finished::finish_scores(labels, words, transitions, states);
+    finished
 }

@@ -1,4 +1,5 @@
-// The feature counts of a line under labels: `extract_features` of trainer.rs, over flat tables and into a lent buffer.
+// The feature counts of a line under labels: `extract_features` of trainer.rs, over flat tables and into a lent buffer. First the
+// loops, which training uses too; then the call, which tests all it is given, with refusals 1 to 6 beforehand and 8 afterwards.
 ghost use mathlib.Core.Path.{_≡_};
 ghost use Rattle.feature_gen.specs.Lent.{modelOf};
 ghost use Rattle.extract_features.specs.Promise.{Promised};
@@ -19,178 +20,9 @@ use lines::Attribute;
 use lines::Span;
 use refusals::Checked;
 
-// The feature counts of a line under the labels of `path`, in the front of `amounts`; or the refusal.
-pub fn extract_features(
-    labels: u32,
-    words: u32,
-    counts: Counts,
-    kinds: &[u8],
-    destinations: &[u32],
-    sources: &[u32],
-    attribute_starts: &[u32],
-    attribute_entries: &[u32],
-    label_starts: &[u32],
-    label_entries: &[u32],
-    attributes: u32,
-    begins: &[u32],
-    ids: &[u32],
-    values: &[f64],
-    path: &[u32],
-    amounts: &mut [f64],
-) -> Checked
-    ensures { λ r. ⌜ Promised (record { model = modelOf labels counts (now (kinds .entry)) (now (destinations .entry)) (now (sources .entry)) (now («attribute_starts» .entry)) (now («attribute_entries» .entry)) (now («label_starts» .entry)) (now («label_entries» .entry)); words = words; line = record { starts = now (begins .entry); size = attributes; ids = now (ids .entry); values = now (values .entry) }; path = now (path .entry) }) (now (amounts .entry)) (record { answer = r; amounts = now (amounts .exit) }) ⌝ }
-{
-    let features = counts.features as usize;
-    let checked = line_check::check_counting(
-        labels,
-        counts,
-        kinds,
-        destinations,
-        sources,
-        attribute_starts,
-        attribute_entries,
-        label_starts,
-        label_entries,
-        words,
-        attributes,
-        begins,
-        ids,
-        values,
-        path,
-        amounts.len(),
-    );
-    if let Checked::Refused(why) = checked {
-        return finished::refuse_counts(why, amounts);
-    }
-    count_line(
-        features,
-        kinds,
-        destinations,
-        sources,
-        counts.attribute_lists as usize,
-        attribute_starts,
-        attribute_entries,
-        counts.label_lists as usize,
-        label_starts,
-        label_entries,
-        begins,
-        ids,
-        values,
-        0,
-        words as usize,
-        path,
-        amounts,
-    );
-    let finished = finished::finish_counts(features, amounts);
-    finished
-}
-
-// The entry at a place of the label lists: a Transition adds 1 where its source is the previous label and its destination the
-// label at hand.
-fn transition_count(
-    features: usize,
-    kinds: &[u8],
-    destinations: &[u32],
-    sources: &[u32],
-    entries: &[u32],
-    previous: u32,
-    label: u32,
-    e: usize,
-    counts: &mut [f64],
-)
-    requires { ⌜ SoundCounts features (now kinds) (now destinations) ⌝ }
-    requires { ⌜ features ≤ length (now sources) ⌝ }
-    requires { ⌜ e < length (now entries) ⌝ }
-    requires { ⌜ getD (now entries) e 0 < features ⌝ }
-    requires { ⌜ features ≤ length (now counts) ⌝ }
-    ensures { λ _. ⌜ now (counts .exit) ≡ transitionCount (withCounts bare features (now (kinds .entry)) (now (destinations .entry)) (now (sources .entry)) 0 [] [] 0 [] (now (entries .entry))) previous label e (now (counts .entry)) ⌝ }
-{
-    let i = lines::at(entries, e);
-    if destinations[i] == label {
-        let source = sources[i];
-        if source == previous {
-            if kinds[i] == 1 {
-                counts[i] = counts[i] + 1.0;
-            }
-        }
-    }
-}
-
-// The entries of the previous label's list, at its places.
-fn count_label(
-    features: usize,
-    kinds: &[u8],
-    destinations: &[u32],
-    sources: &[u32],
-    entries: &[u32],
-    previous: u32,
-    label: u32,
-    span: Span,
-    counts: &mut [f64],
-)
-    requires { ⌜ SoundCounts features (now kinds) (now destinations) ⌝ }
-    requires { ⌜ features ≤ length (now sources) ⌝ }
-    requires { ⌜ SoundSpan span (now entries) features ⌝ }
-    requires { ⌜ features ≤ length (now counts) ⌝ }
-    ensures { λ _. ⌜ now (counts .exit) ≡ throughSpan (transitionCount (withCounts bare features (now (kinds .entry)) (now (destinations .entry)) (now (sources .entry)) 0 [] [] 0 [] (now (entries .entry))) previous label) span (now (counts .entry)) ⌝ }
-{
-    let last = span.last;
-    let mut e = span.first;
-    while e < last {
-        transition_count(
-            features,
-            kinds,
-            destinations,
-            sources,
-            entries,
-            previous,
-            label,
-            e,
-            counts,
-        );
-        e += 1;
-    }
-}
-
-// From the second word on, the list of the label before it. A label without a list has no transitions.
-pub fn count_transitions(
-    features: usize,
-    kinds: &[u8],
-    destinations: &[u32],
-    sources: &[u32],
-    lists: usize,
-    starts: &[u32],
-    entries: &[u32],
-    words: usize,
-    labels: &[u32],
-    counts: &mut [f64],
-)
-    requires { ⌜ SoundCounts features (now kinds) (now destinations) ⌝ }
-    requires { ⌜ features ≤ length (now sources) ⌝ }
-    requires { ⌜ SoundLists lists (now starts) (now entries) features ⌝ }
-    requires { ⌜ words ≤ length (now labels) ⌝ }
-    requires { ⌜ features ≤ length (now counts) ⌝ }
-    ensures { λ _. ⌜ now (counts .exit) ≡ through (countedTransition (withCounts bare features (now (kinds .entry)) (now (destinations .entry)) (now (sources .entry)) 0 [] [] lists (now (starts .entry)) (now (entries .entry))) (now (labels .entry))) 1 (words - 1) (now (counts .entry)) ⌝ }
-{
-    let mut word = 1;
-    while word < words {
-        let previous = labels[word - 1];
-        let label = labels[word];
-        let span = lines::list_span(lists, starts, previous as usize);
-        count_label(
-            features,
-            kinds,
-            destinations,
-            sources,
-            entries,
-            previous,
-            label,
-            span,
-            counts,
-        );
-        word += 1;
-    }
-}
+// How many entries are noted before they are added. Whether an entry is of the word's label cannot be foreseen, and a branch on
+// it would cost more than the note.
+const NOTES: usize = 64;
 
 // The entry at a place of the attribute lists is noted: the note stays where the entry's label is the word's, and otherwise the
 // next one takes its place.
@@ -336,10 +168,6 @@ pub fn count_attribute(
     n
 }
 
-// How many entries are noted before they are added. Whether an entry is of the word's label cannot be foreseen, and a branch on
-// it would cost more than the note.
-const NOTES: usize = 64;
-
 // The attributes of a word, in scoring order, each with its list found a turn ahead.
 fn count_word(
     features: usize,
@@ -451,6 +279,113 @@ fn count_words(
     add_notes(features, kinds, &who, &what, noted, counts);
 }
 
+// The entry at a place of the label lists: a Transition adds 1 where its source is the previous label and its destination the
+// label at hand.
+fn transition_count(
+    features: usize,
+    kinds: &[u8],
+    destinations: &[u32],
+    sources: &[u32],
+    entries: &[u32],
+    previous: u32,
+    label: u32,
+    e: usize,
+    counts: &mut [f64],
+)
+    requires { ⌜ SoundCounts features (now kinds) (now destinations) ⌝ }
+    requires { ⌜ features ≤ length (now sources) ⌝ }
+    requires { ⌜ e < length (now entries) ⌝ }
+    requires { ⌜ getD (now entries) e 0 < features ⌝ }
+    requires { ⌜ features ≤ length (now counts) ⌝ }
+    ensures { λ _. ⌜ now (counts .exit) ≡ transitionCount (withCounts bare features (now (kinds .entry)) (now (destinations .entry)) (now (sources .entry)) 0 [] [] 0 [] (now (entries .entry))) previous label e (now (counts .entry)) ⌝ }
+{
+    let i = lines::at(entries, e);
+    if destinations[i] == label {
+        let source = sources[i];
+        if source == previous {
+            if kinds[i] == 1 {
+                counts[i] = counts[i] + 1.0;
+            }
+        }
+    }
+}
+
+// The entries of the previous label's list, at its places.
+fn count_label(
+    features: usize,
+    kinds: &[u8],
+    destinations: &[u32],
+    sources: &[u32],
+    entries: &[u32],
+    previous: u32,
+    label: u32,
+    span: Span,
+    counts: &mut [f64],
+)
+    requires { ⌜ SoundCounts features (now kinds) (now destinations) ⌝ }
+    requires { ⌜ features ≤ length (now sources) ⌝ }
+    requires { ⌜ SoundSpan span (now entries) features ⌝ }
+    requires { ⌜ features ≤ length (now counts) ⌝ }
+    ensures { λ _. ⌜ now (counts .exit) ≡ throughSpan (transitionCount (withCounts bare features (now (kinds .entry)) (now (destinations .entry)) (now (sources .entry)) 0 [] [] 0 [] (now (entries .entry))) previous label) span (now (counts .entry)) ⌝ }
+{
+    let last = span.last;
+    let mut e = span.first;
+    while e < last {
+        transition_count(
+            features,
+            kinds,
+            destinations,
+            sources,
+            entries,
+            previous,
+            label,
+            e,
+            counts,
+        );
+        e += 1;
+    }
+}
+
+// From the second word on, the list of the label before it. A label without a list has no transitions.
+pub fn count_transitions(
+    features: usize,
+    kinds: &[u8],
+    destinations: &[u32],
+    sources: &[u32],
+    lists: usize,
+    starts: &[u32],
+    entries: &[u32],
+    words: usize,
+    labels: &[u32],
+    counts: &mut [f64],
+)
+    requires { ⌜ SoundCounts features (now kinds) (now destinations) ⌝ }
+    requires { ⌜ features ≤ length (now sources) ⌝ }
+    requires { ⌜ SoundLists lists (now starts) (now entries) features ⌝ }
+    requires { ⌜ words ≤ length (now labels) ⌝ }
+    requires { ⌜ features ≤ length (now counts) ⌝ }
+    ensures { λ _. ⌜ now (counts .exit) ≡ through (countedTransition (withCounts bare features (now (kinds .entry)) (now (destinations .entry)) (now (sources .entry)) 0 [] [] lists (now (starts .entry)) (now (entries .entry))) (now (labels .entry))) 1 (words - 1) (now (counts .entry)) ⌝ }
+{
+    let mut word = 1;
+    while word < words {
+        let previous = labels[word - 1];
+        let label = labels[word];
+        let span = lines::list_span(lists, starts, previous as usize);
+        count_label(
+            features,
+            kinds,
+            destinations,
+            sources,
+            entries,
+            previous,
+            label,
+            span,
+            counts,
+        );
+        word += 1;
+    }
+}
+
 // The feature counts, in the front of the buffer, of the line of so many words that begins at the word `first` of the words'
 // table, under its labels.
 pub fn count_line(
@@ -509,4 +444,70 @@ pub fn count_line(
         labels,
         counts,
     );
+}
+
+// The feature counts of a line under the labels of `path`, in the front of `amounts`; or the refusal.
+pub fn extract_features(
+    labels: u32,
+    words: u32,
+    counts: Counts,
+    kinds: &[u8],
+    destinations: &[u32],
+    sources: &[u32],
+    attribute_starts: &[u32],
+    attribute_entries: &[u32],
+    label_starts: &[u32],
+    label_entries: &[u32],
+    attributes: u32,
+    begins: &[u32],
+    ids: &[u32],
+    values: &[f64],
+    path: &[u32],
+    amounts: &mut [f64],
+) -> Checked
+    ensures { λ r. ⌜ Promised (record { model = modelOf labels counts (now (kinds .entry)) (now (destinations .entry)) (now (sources .entry)) (now («attribute_starts» .entry)) (now («attribute_entries» .entry)) (now («label_starts» .entry)) (now («label_entries» .entry)); words = words; line = record { starts = now (begins .entry); size = attributes; ids = now (ids .entry); values = now (values .entry) }; path = now (path .entry) }) (now (amounts .entry)) (record { answer = r; amounts = now (amounts .exit) }) ⌝ }
+{
+    let features = counts.features as usize;
+    let checked = line_check::check_counting(
+        labels,
+        counts,
+        kinds,
+        destinations,
+        sources,
+        attribute_starts,
+        attribute_entries,
+        label_starts,
+        label_entries,
+        words,
+        attributes,
+        begins,
+        ids,
+        values,
+        path,
+        amounts.len(),
+    );
+    if let Checked::Refused(why) = checked {
+        return finished::refuse_counts(why, amounts);
+    }
+    count_line(
+        features,
+        kinds,
+        destinations,
+        sources,
+        counts.attribute_lists as usize,
+        attribute_starts,
+        attribute_entries,
+        counts.label_lists as usize,
+        label_starts,
+        label_entries,
+        begins,
+        ids,
+        values,
+        0,
+        words as usize,
+        path,
+        amounts,
+    );
+    let finished = finished::finish_counts(features, amounts);
+    finished
 }

@@ -14,54 +14,6 @@ use refusals::Checked;
 use viterbi::Decoding;
 use viterbi_end::Found;
 
-// The first n labels are 0, and what comes after them stays.
-fn clear_path(path: &mut [u32], n: usize)
-    requires { ⌜ n ≤ length (now path) ⌝ }
-    ensures { λ _. ⌜ now (path .exit) ≡ cleared 0 n (now (path .entry)) ⌝ }
-{
-    let mut i = 0usize;
-    while i < n {
-        path[i] = 0;
-        i += 1;
-    }
-}
-
-// Decoding over the fronts of two tables.
-fn decode_front(
-    labels: u32,
-    words: u32,
-    transitions: &[f64],
-    states: &[f64],
-    path: &mut [u32],
-) -> Found
-    requires { ⌜ Ready labels words (now transitions) (now states) (now path) ⌝ }
-    ensures { λ r. ⌜ Answered labels words (take (labels * labels) (now (transitions .entry))) (take (words * labels) (now (states .entry))) (now (path .entry)) r (now (path .exit)) ⌝ }
-{
-    let n = score_tables::entries(words, labels);
-    let m = score_tables::entries(labels, labels);
-    let needed = &transitions[..m];
-    viterbi::decode_tables(labels as usize, words as usize, needed, &states[..n], path)
-}
-
-// The labels by the scores of a line: 8 clears the path.
-pub fn decode_scores(
-    labels: u32,
-    words: u32,
-    transitions: &[f64],
-    states: &[f64],
-    path: &mut [u32],
-) -> Decoding
-    requires { ⌜ Ready labels words (now transitions) (now states) (now path) ⌝ }
-    ensures { λ r. ⌜ Finished labels words (now (transitions .entry)) (now (states .entry)) (now (path .entry)) r (now (path .exit)) ⌝ }
-{
-    let finished = finished::check_scores(labels, words, transitions, states);
-    if let Checked::Refused(late) = finished {
-        clear_path(path, words as usize);
-        return Decoding::Refused(late);
-    }
-    Decoding::Decoded(decode_front(labels, words, transitions, states, path))
-}
-
 // The most states of a line, and the most transitions: room for every line.
 pub const MOST_STATES: usize = 4096;
 
@@ -110,6 +62,54 @@ pub fn check_line(
         MOST_STATES,
     );
     refusals::or_next(room, scoring)
+}
+
+// The first n labels are 0, and what comes after them stays.
+fn clear_path(path: &mut [u32], n: usize)
+    requires { ⌜ n ≤ length (now path) ⌝ }
+    ensures { λ _. ⌜ now (path .exit) ≡ cleared 0 n (now (path .entry)) ⌝ }
+{
+    let mut i = 0usize;
+    while i < n {
+        path[i] = 0;
+        i += 1;
+    }
+}
+
+// Decoding over the fronts of two tables.
+fn decode_front(
+    labels: u32,
+    words: u32,
+    transitions: &[f64],
+    states: &[f64],
+    path: &mut [u32],
+) -> Found
+    requires { ⌜ Ready labels words (now transitions) (now states) (now path) ⌝ }
+    ensures { λ r. ⌜ Answered labels words (take (labels * labels) (now (transitions .entry))) (take (words * labels) (now (states .entry))) (now (path .entry)) r (now (path .exit)) ⌝ }
+{
+    let n = score_tables::entries(words, labels);
+    let m = score_tables::entries(labels, labels);
+    let needed = &transitions[..m];
+    viterbi::decode_tables(labels as usize, words as usize, needed, &states[..n], path)
+}
+
+// The labels by the scores of a line: 8 clears the path.
+pub fn decode_scores(
+    labels: u32,
+    words: u32,
+    transitions: &[f64],
+    states: &[f64],
+    path: &mut [u32],
+) -> Decoding
+    requires { ⌜ Ready labels words (now transitions) (now states) (now path) ⌝ }
+    ensures { λ r. ⌜ Finished labels words (now (transitions .entry)) (now (states .entry)) (now (path .entry)) r (now (path .exit)) ⌝ }
+{
+    let finished = finished::check_scores(labels, words, transitions, states);
+    if let Checked::Refused(late) = finished {
+        clear_path(path, words as usize);
+        return Decoding::Refused(late);
+    }
+    Decoding::Decoded(decode_front(labels, words, transitions, states, path))
 }
 
 // The labels of a line that is accepted, its scores in buffers that are long enough.

@@ -1,4 +1,5 @@
-// What a visit does where labels differ: the update by the rule of its trainer, with refusals 8 and 9.
+// What is decided in a visit and in an epoch, apart from the tables; and what a visit does where labels differ: the update by the
+// rule of its trainer, with refusals 8 and 9.
 ghost use mathlib.Core.Bool.{_&&_};
 ghost use mathlib.Core.Path.{_≡_};
 ghost use Prim.Native.Nat.{_≤_, _<_, _^_, _+_};

@@ -8,28 +8,33 @@ ghost use Rattle.best_path.specs.Lead.{other, positiveZero, difference};
 ghost use Rattle.viterbi_end.specs.Rival.{rivalOf};
 ghost use Rattle.viterbi_end.specs.Ends.{leadSaid, lastOf, leadOf, Ended};
 
-// The step back that stands at a place.
-fn step(steps: &[u8], place: usize) -> usize
-    requires { ⌜ place < length (now steps) ⌝ }
-    ensures { λ r. ⌜ r ≡ getD (now (steps .entry)) place 0 ⌝ }
-{
-    steps[place] as usize
+// By how much the best final score is above that of every other last label.
+pub enum Lead {
+    NoLead,
+    By(f64),
 }
 
-// The path, from its last label back; the rest of the buffer is left alone.
-pub fn walk_back(path: &mut [u32], words: usize, n: usize, last: usize, steps: &[u8])
-    requires { ⌜ Walk n words (now steps) (now path) ⌝ }
-    requires { ⌜ last < n ⌝ }
-    ensures { λ _. ⌜ now (path .exit) ≡ walked (now (steps .entry)) n (words - 1) last ++ drop words (now (path .entry)) ⌝ }
+// What is found of a line beside its path.
+pub struct Found {
+    pub sum: f64,
+    pub lead: Lead,
+}
+
+// The last of the labels with the largest score.
+fn last_largest(row: &[f64; 32], n: usize) -> usize
+    requires { ⌜ (0 < n) × (n ≤ 32) ⌝ }
+    ensures { λ r. ⌜ (r < n) × (r ≡ lastOf (now (row .entry)) n) ⌝ }
 {
-    let mut label = last;
-    let mut word = words - 1;
-    while 0 < word {
-        path[word] = label as u32;
-        label = step(steps, word * n + label);
-        word -= 1;
+    let mut score = row[0];
+    let mut last: u64 = 0;
+    let mut label: usize = 1;
+    while label < n {
+        let next = row[label];
+        last = viterbi_steps::whence(score, next, last, label as u64);
+        score = viterbi_steps::better(score, next);
+        label += 1;
     }
-    path[0] = label as u32;
+    last as usize
 }
 
 // The labels other than `last`, in order.
@@ -63,35 +68,6 @@ pub fn positive_zero(x: f64) -> f64
     if x == 0.0 { 0.0 } else { x }
 }
 
-// By how much the best final score is above that of every other last label.
-pub enum Lead {
-    NoLead,
-    By(f64),
-}
-
-// What is found of a line beside its path.
-pub struct Found {
-    pub sum: f64,
-    pub lead: Lead,
-}
-
-// The last of the labels with the largest score.
-fn last_largest(row: &[f64; 32], n: usize) -> usize
-    requires { ⌜ (0 < n) × (n ≤ 32) ⌝ }
-    ensures { λ r. ⌜ (r < n) × (r ≡ lastOf (now (row .entry)) n) ⌝ }
-{
-    let mut score = row[0];
-    let mut last: u64 = 0;
-    let mut label: usize = 1;
-    while label < n {
-        let next = row[label];
-        last = viterbi_steps::whence(score, next, last, label as u64);
-        score = viterbi_steps::better(score, next);
-        label += 1;
-    }
-    last as usize
-}
-
 // "no lead .. when either score is not finite".
 fn lead_by(best: f64, rival: f64) -> Lead
     ensures { λ r. ⌜ leadSaid r ≡ difference best rival ⌝ }
@@ -113,6 +89,30 @@ fn lead_of(row: &[f64; 32], n: usize, last: usize) -> Lead
     } else {
         Lead::NoLead
     }
+}
+
+// The step back that stands at a place.
+fn step(steps: &[u8], place: usize) -> usize
+    requires { ⌜ place < length (now steps) ⌝ }
+    ensures { λ r. ⌜ r ≡ getD (now (steps .entry)) place 0 ⌝ }
+{
+    steps[place] as usize
+}
+
+// The path, from its last label back; the rest of the buffer is left alone.
+pub fn walk_back(path: &mut [u32], words: usize, n: usize, last: usize, steps: &[u8])
+    requires { ⌜ Walk n words (now steps) (now path) ⌝ }
+    requires { ⌜ last < n ⌝ }
+    ensures { λ _. ⌜ now (path .exit) ≡ walked (now (steps .entry)) n (words - 1) last ++ drop words (now (path .entry)) ⌝ }
+{
+    let mut label = last;
+    let mut word = words - 1;
+    while 0 < word {
+        path[word] = label as u32;
+        label = step(steps, word * n + label);
+        word -= 1;
+    }
+    path[0] = label as u32;
 }
 
 // The answer of a line, from its last row of best scores and the steps back.
