@@ -15,7 +15,7 @@ use Rattle.sheet.specs.Rows.{Lent, sheetChecked}
 use Rattle.sheet.specs.Promise as reader
 use Rattle.sheet.proofs.Meant.{refused-by}
 use Rattle.sheet.proofs.Rows.{accepts}
-use Rattle.sheet.proofs.SheetCheckMeant.{file-means}
+use Rattle.sheet.proofs.RowsMeant.{file-means}
 use Rattle.answer_line.specs.Line as line
 use Rattle.decode_sheet.specs.declared.Written.{Written}
 use Rattle.decode_sheet.specs.Answer.{pathLineOf, lineChecked}

@@ -21,8 +21,8 @@ use Rattle.score_tables.specs.Meaning.{Row, in-transitions, in-states, SixAt}
 use Rattle.score_tables.proofs.Order.{row}
 use Rattle.refusal_rows.specs.Given.{OneOf}
 use Rattle.sheet.specs.Fields.{labelsIn, wordsIn, numbersIn, transitionsIn, statesIn}
-use Rattle.sheet.specs.SheetCheckMeaning.{InBounds, Meaning}
-use Rattle.sheet.proofs.SheetCheckMeant.{file-means, said-so}
+use Rattle.sheet.specs.RowsMeaning.{InBounds, Meaning}
+use Rattle.sheet.proofs.RowsMeant.{file-means, said-so}
 use Rattle.sheet.proofs.Once.{same-refusal}
 use Rattle.answer_line.specs.Claims.{Sayable}
 use Rattle.answer_line.proofs.OneSaying.{one-saying}

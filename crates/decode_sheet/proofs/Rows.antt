@@ -21,9 +21,9 @@ use Rattle.score_tables.proofs.Order.{row}
 use Rattle.sheet.specs.Fields.{labelsIn, wordsIn, transitionsIn, statesIn}
 use Rattle.sheet.specs.Rows.{Lent, tablesShort, sheetChecked}
 use Rattle.sheet.specs.Promise.{read, answerBy}
-use Rattle.sheet.proofs.SheetBytesLaws.{length-numbers}
+use Rattle.sheet.proofs.Bytes.{length-numbers}
 use Rattle.sheet.proofs.Rows.{Accepts}
-use Rattle.sheet.proofs.SheetCheckMeant.{same-file}
+use Rattle.sheet.proofs.RowsMeant.{same-file}
 use Rattle.decode_sheet.specs.Answer.{lineShort, lineChecked}
 
 -- the room of the tables that are lent: none for a line that is too short

@@ -4,7 +4,7 @@ use mathlib.Core.List.{List}
 use Prim.Native.Nat.{ℕ, _^_, _≤_, _<_}
 use lib.ListN.{length, take}
 use lib.Ieee.{Float}
-use Rattle.sheet.specs.SheetCheckMeaning.{Meaning}
+use Rattle.sheet.specs.RowsMeaning.{Meaning}
 use Rattle.answer_line.specs.Line.{pathLine, refusedLine}
 use Rattle.answer_line.specs.Claims.{Sayable}
 use Rattle.decode_sheet.specs.Promise.{Given, Outcome, said, path, refused, Promised}

@@ -1,4 +1,4 @@
-mod DecodeScoresKept
+mod Fronts
 pub mod Parted
 pub mod Unique
 pub mod Meant

@@ -15,12 +15,12 @@ use Rattle.score_tables.proofs.Meant.{to-finite}
 use Rattle.sheet.specs.File.{Sheet, littleEndian, numbers, encoded, Finite64, Sound}
 use Rattle.sheet.specs.Fields.{labelsIn, wordsIn, statesFrom, wholeLength, numbersIn, transitionsIn, statesIn}
 use Rattle.sheet.specs.Rows.{Given, Lent, sheetChecked}
-use Rattle.sheet.specs.SheetCheckMeaning.{RightHead, RightFile}
+use Rattle.sheet.specs.RowsMeaning.{RightHead, RightFile}
 use Rattle.sheet.specs.Promise.{Outcome, said, read, answerBy, answerTo, transitionsAfter, statesAfter, Promised}
 use Rattle.sheet.specs.Files.{sheetIn, Bytes, RoomFor, RightFilesAreSheets, ReadFrom, ExactlyTheFiles}
-use Rattle.sheet.proofs.SheetBytesLaws.{length-numbers, number-at}
+use Rattle.sheet.proofs.Bytes.{length-numbers, number-at}
 use Rattle.sheet.proofs.Little.{length-bytes, numbers-read, numbers-back, drop-bytes}
-use Rattle.sheet.proofs.SheetCheckMeant.{mark-byte, sheets-mean}
+use Rattle.sheet.proofs.RowsMeant.{mark-byte, sheets-mean}
 
 -- ---- the fields of an encoded sheet
 

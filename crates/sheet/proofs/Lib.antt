@@ -1,6 +1,6 @@
 pub mod Rows
-pub mod SheetCheckMeant
-pub mod SheetBytesLaws
+pub mod RowsMeant
+pub mod Bytes
 pub mod Pattern
 pub mod Laws
 pub mod Kept

@@ -9,7 +9,7 @@ use Rattle.refusals.specs.declared.Checked.the-variants.{Accepted, Refused}
 use Rattle.refusals.specs.Refusals.{refusedAt}
 use Rattle.sheet.specs.Fields.{labelsIn, wordsIn}
 use Rattle.sheet.specs.Rows.{sheetChecked}
-use Rattle.sheet.proofs.SheetCheckMeant.{sheets-mean, said-so}
+use Rattle.sheet.proofs.RowsMeant.{sheets-mean, said-so}
 use Rattle.sheet.specs.Promise.{Said, read, refused, answerBy, answerTo}
 use Rattle.sheet.specs.Meaning.{ReadingMeans}
 use Rattle.sheet.proofs.Once.{same-refusal}

@@ -7,7 +7,7 @@ use lib.ListN.{length, getD, drop}
 use Rattle.score_tables.specs.Sound.{Room}
 use Rattle.sheet.specs.Fields.{labelsIn, wordsIn, transitionsIn, statesIn}
 use Rattle.sheet.specs.Rows.{Given, Lent}
-use Rattle.sheet.specs.SheetCheckMeaning.{RightFile}
+use Rattle.sheet.specs.RowsMeaning.{RightFile}
 use Rattle.sheet.specs.File.{Sheet, encoded, Sound}
 use Rattle.sheet.specs.Promise.{Outcome, said, read, Promised}
 

@@ -3,7 +3,7 @@ use mathlib.Core.Path.{_≡_}
 use Rattle.score_tables.specs.Sound.{Room}
 use Rattle.sheet.specs.Fields.{labelsIn, wordsIn}
 use Rattle.sheet.specs.Rows.{Given, Lent}
-use Rattle.sheet.specs.SheetCheckMeaning.{Meaning}
+use Rattle.sheet.specs.RowsMeaning.{Meaning}
 use Rattle.sheet.specs.Promise.{Outcome, said, read, refused, Promised}
 
 abbrev pub ReadingMeans : Type 0

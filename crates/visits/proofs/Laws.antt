@@ -28,7 +28,7 @@ use Rattle.prediction.specs.Tables.{SoundLine}
 use Rattle.judging.specs.Judged.{Judged}
 use Rattle.updates.specs.declared.Found.the-variants.{Ended, Differ}
 use Rattle.updates.specs.Looked.{looked}
-use Rattle.updates.proofs.StepsLaws.{never, same-step, ended, differs}
+use Rattle.updates.proofs.Looked.{never, same-step, ended, differs}
 use Rattle.updates.specs.Updating.{Agreed, Counted, settled}
 use Rattle.updates.proofs.Laws.{exactly, refused, refused-counted, unchanged-counted}
 

@@ -17,7 +17,7 @@ use Rattle.best_path.proofs.Laws.{best-first, last-label-within, row-last, row-
 use Rattle.viterbi_steps.specs.declared.Row.{Row}
 use Rattle.viterbi_steps.specs.Rows.{Holds, StepsTo, Before, After, firstRow}
 use Rattle.viterbi_steps.proofs.Written.{written-length, front-inside}
-use Rattle.viterbi_steps.proofs.BestStepLaws.{row-after}
+use Rattle.viterbi_steps.proofs.Choices.{row-after}
 use Rattle.viterbi_steps.proofs.Laws.{after-wide, after-holds, after-leads}
 use Rattle.viterbi_end.specs.declared.Found.{Found}
 use Rattle.viterbi_end.specs.Rival.{scoreAt, rivalOf}

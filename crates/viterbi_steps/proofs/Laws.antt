@@ -14,7 +14,7 @@ use Rattle.best_path.specs.Decoded.{lastLargest, best, back}
 use Rattle.best_path.proofs.Laws.{largest-within, largest-first, row-back, row-best}
 use Rattle.viterbi_steps.specs.declared.Choice.{Choice}
 use Rattle.viterbi_steps.specs.Chosen.{candidate, chosen}
-use Rattle.viterbi_steps.proofs.BestStepLaws.{row-after, score-more, from-more}
+use Rattle.viterbi_steps.proofs.Choices.{row-after, score-more, from-more}
 use Rattle.viterbi_steps.specs.Written.{written}
 use Rattle.viterbi_steps.specs.Rows.{Holds, StepsTo, Before, After, onward, scoreTried, markTried}
 use Rattle.viterbi_steps.proofs.Written.{written-length, written-outside, written-inside, front-inside, written-same, written-over}

@@ -1,3 +1,3 @@
-pub mod BestStepLaws
+pub mod Choices
 pub mod Written
 pub mod Laws

@@ -9,7 +9,7 @@ use Rattle.lines.specs.Counted.{transitionCount, countedTransition}
 use Rattle.lines.specs.Lent.{bare, withCounts}
 use Rattle.lines.proofs.Laws.{Passed, passed-none, passed-next, passed-end}
 use Rattle.lines.proofs.Spans.{span-sound}
-use Rattle.extract_features.proofs.CountTransitionsTurns.{transition-turn}
+use Rattle.extract_features.proofs.TransitionTurns.{transition-turn}
 use Rattle.extract_features.proofs.count_transitions.Statement.{statement}
 use Rattle.extract_features.proofs.count_transitions.Tie as tie
 

@@ -3,7 +3,7 @@ use mathlib.Core.Path.{sym}
 use native.Mathlib.Omega.{arith}
 use borrow.Author.Needs.{needs}
 use lib.Seq.{length-take-le}
-use Rattle.label_line.proofs.DecodeScoresKept.{fronts-ready, fronts-answered}
+use Rattle.label_line.proofs.Fronts.{fronts-ready, fronts-answered}
 use Rattle.label_line.proofs.decode_front.Statement.{statement}
 use Rattle.label_line.proofs.decode_front.Tie as tie
 

@@ -1,6 +1,6 @@
 -- `label_line::decode_scores` meets its contract. Assumes nothing.
 use borrow.Author.Needs.{needs}
-use Rattle.label_line.proofs.DecodeScoresKept.{eight, path-found}
+use Rattle.label_line.proofs.Fronts.{eight, path-found}
 use Rattle.label_line.proofs.decode_scores.Statement.{statement}
 use Rattle.label_line.proofs.decode_scores.Tie as tie
 

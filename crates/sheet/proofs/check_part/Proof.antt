@@ -7,7 +7,7 @@ use lib.ListN.{drop}
 use Rattle.refusals.specs.Tables.{notFinite}
 use Rattle.refusals.proofs.Laws.{Passed, begin, step, answered}
 use Rattle.sheet.specs.Fields.{numbersIn}
-use Rattle.sheet.proofs.SheetBytesLaws.{tested}
+use Rattle.sheet.proofs.Bytes.{tested}
 use Rattle.sheet.proofs.check_part.Statement.{statement}
 use Rattle.sheet.proofs.check_part.Tie as tie
 

@@ -8,7 +8,7 @@ use Rattle.refusals.proofs.Meant.{numbers-finite}
 use Rattle.sheet.specs.Fields.{numbersIn}
 use Rattle.sheet.specs.Steps.{filled}
 use Rattle.sheet.proofs.Pattern.{pattern-number}
-use Rattle.sheet.proofs.SheetBytesLaws.{number-at, length-numbers}
+use Rattle.sheet.proofs.Bytes.{number-at, length-numbers}
 use Rattle.sheet.proofs.Laws.{filled-none, filled-more}
 use Rattle.sheet.proofs.read_part.Statement.{statement}
 use Rattle.sheet.proofs.read_part.Tie as tie

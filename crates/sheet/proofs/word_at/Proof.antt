@@ -1,7 +1,7 @@
 -- `sheet::word_at` meets its contract. Assumes nothing.
 use borrow.Author.Needs.{needs}
 use native.Mathlib.Omega.{arith}
-use Rattle.sheet.proofs.SheetBytesLaws.{four-halves}
+use Rattle.sheet.proofs.Bytes.{four-halves}
 use Rattle.sheet.proofs.word_at.Statement.{statement}
 use Rattle.sheet.proofs.word_at.Tie as tie
 

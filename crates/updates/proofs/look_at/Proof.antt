@@ -1,7 +1,7 @@
 -- `updates::look_at` meets its contract. Assumes nothing.
 use borrow.Author.Needs.{needs}
 use borrow.Author.Tests.{not-true, not-false}
-use Rattle.updates.proofs.StepsLaws.{not-scored, agreeing, differing}
+use Rattle.updates.proofs.Looked.{not-scored, agreeing, differing}
 use Rattle.updates.proofs.look_at.Statement.{statement}
 use Rattle.updates.proofs.look_at.Tie as tie
 

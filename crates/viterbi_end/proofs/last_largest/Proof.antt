@@ -5,7 +5,7 @@ use native.Mathlib.Nat.{le-antisymm}
 use native.Mathlib.Numerals.{add-one-le}
 use native.Mathlib.Omega.{arith}
 use Rattle.best_path.proofs.Laws.{largest-first, largest-within}
-use Rattle.viterbi_steps.proofs.BestStepLaws.{score-more, from-more}
+use Rattle.viterbi_steps.proofs.Choices.{score-more, from-more}
 use Rattle.viterbi_end.specs.Rival.{scoreAt}
 use Rattle.viterbi_end.specs.Ends.{lastOf}
 use borrow.Author.Needs.{needs}

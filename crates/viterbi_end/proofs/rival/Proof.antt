@@ -7,7 +7,7 @@ use lib.Ieee.{Float}
 use Rattle.best_path.specs.Decoded.{lastLargest}
 use Rattle.best_path.specs.Lead.{other}
 use Rattle.best_path.proofs.Laws.{largest-first, other-within}
-use Rattle.viterbi_steps.proofs.BestStepLaws.{score-more}
+use Rattle.viterbi_steps.proofs.Choices.{score-more}
 use Rattle.viterbi_end.specs.Rival.{scoreAt}
 use borrow.Author.Needs.{needs}
 use Rattle.viterbi_end.proofs.rival.Statement.{statement}

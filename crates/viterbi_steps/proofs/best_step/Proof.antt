@@ -10,7 +10,7 @@ use lib.Ieee.{nan, binary64, add}
 use Rattle.best_path.specs.Decoded.{lastLargest}
 use Rattle.best_path.proofs.Laws.{largest-first}
 use Rattle.viterbi_steps.specs.Chosen.{candidate}
-use Rattle.viterbi_steps.proofs.BestStepLaws.{square-small, row-after, score-more, from-more}
+use Rattle.viterbi_steps.proofs.Choices.{square-small, row-after, score-more, from-more}
 use Rattle.viterbi_steps.proofs.best_step.Statement.{statement}
 use Rattle.viterbi_steps.proofs.best_step.Tie as tie
 

@@ -23,7 +23,7 @@ use Rattle.score_tables.proofs.Meant.{one-means, four-means, two-means, not-six
 use Rattle.refusal_rows.specs.Given.{OneOf}
 use Rattle.sheet.specs.Fields.{mark, versionIn, labelsIn, wordsIn, wholeLength, transitionsIn, statesIn}
 use Rattle.sheet.specs.Rows.{wrongHead, wrongLength, headRows, sizeRows, entryRows, fileChecked}
-use Rattle.sheet.specs.SheetCheckMeaning.{RightHead, InBounds, RightLength, Meaning, SheetsMean}
+use Rattle.sheet.specs.RowsMeaning.{RightHead, InBounds, RightLength, Meaning, SheetsMean}
 
 -- ---- 10
 
