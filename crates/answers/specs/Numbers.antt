@@ -6,7 +6,7 @@ use Rattle.lines.specs.Passes.{nought}
 use Rattle.refusals.specs.Said.{Said, accepted, refused}
 use Rattle.best_path.specs.Lead.{Lead, none, by}
 use Rattle.viterbi.specs.Promise.{SumAndLead}
-use Rattle.training.specs.Said as training
+use Rattle.training.specs.declared.Trained as training
 use Rattle.answers.specs.declared.checks.Refused.{Refused}
 use Rattle.answers.specs.declared.decoding.Decoded.{Decoded}
 use Rattle.answers.specs.declared.decoding.Scored.{Scored}
@@ -37,6 +37,6 @@ scoredNumbers (accepted score) = record { number = 0; place = 0; score = score }
 scoredNumbers (refused why) = record { number = why .number; place = why .place; score = nought }
 
 -- a training
-abbrev pub trainedNumbers : training.Said → Trained
-trainedNumbers (training.accepted epochs visits updates) = record { number = 0; place = 0; epochs = epochs; visits = visits; updates = updates }
-trainedNumbers (training.refused number place) = record { number = number; place = place; epochs = 0; visits = 0; updates = 0 }
+abbrev pub trainedNumbers : Said training.Trained → Trained
+trainedNumbers (accepted t) = record { number = 0; place = 0; epochs = t .epochs; visits = t .visits; updates = t .updates }
+trainedNumbers (refused why) = record { number = why .number; place = why .place; epochs = 0; visits = 0; updates = 0 }

@@ -4,6 +4,7 @@ use mathlib.Core.List.{List, [], _∷_}
 use Prim.Native.Nat.{ℕ, zero, suc, _+_}
 use lib.ListN.{getD, replicate}
 use lib.Ieee.{Float}
+use Rattle.refusals.specs.Refusals.{numbered}
 use Rattle.refusals.specs.declared.Refusal.{Refusal}
 use Rattle.training.specs.declared.Visit.{Visit}
 use Rattle.training.specs.declared.Visit.the-variants.{Unchanged, Updated, Refused}
@@ -111,7 +112,7 @@ module _ (rule : Rule) (set : Settings) (m : Model) (d : Data) where
       let w = averagedBy rule (m .features .count) (whole (step .visits + 1)) (r .state .learned) in
       cond (allFinite w (m .features .count))
       (record { answer = Accepted (record { epochs = r .epochs; visits = step .visits; updates = step .updates }); weights = w })
-      (refusedWith (record { number = 9; place = step .visits }))
+      (refusedWith (numbered 9 (step .visits)))
 
   unfoldable pub finished : Visit → Run → Result
   finished Unchanged r = averaged r

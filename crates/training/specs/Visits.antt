@@ -6,6 +6,7 @@ use lib.Dec.{eqb}
 use lib.ListN.{getD}
 use lib.Ieee.{Float, nan}
 use lib.Ieee.Scale.{finite}
+use Rattle.refusals.specs.Refusals.{numbered}
 use Rattle.training.specs.declared.Visit.{Visit}
 use Rattle.training.specs.declared.Visit.the-variants.{Unchanged, Updated, Refused}
 use Rattle.training.specs.declared.Step.{Step}
@@ -28,7 +29,7 @@ pub record State : Type 0 where
 unfoldable pub refusedAs : ℕ → State → State
 refusedAs number s = record {
   step = record {
-    visit = Refused (record { number = number; place = s .step .visits });
+    visit = Refused (numbered number (s .step .visits));
     visits = s .step .visits;
     updates = s .step .updates;
     loss = s .step .loss;
