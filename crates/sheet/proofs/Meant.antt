@@ -19,7 +19,7 @@ module _ (bytes : List ℕ) (said : Said LabelsAndWords) (c : Checked) (e : said
   abbrev sizes : LabelsAndWords
   sizes = record { labels = labelsIn bytes; words = wordsIn bytes }
 
-  refused-by : (number place : ℕ) → said ≡ refused (numbered number place) ↔ c ≡ refusedAt number place
+  pub refused-by : (number place : ℕ) → said ≡ refused (numbered number place) ↔ c ≡ refusedAt number place
   refused-by number place = (
     λ h. refused-said sizes c (numbered number place) .0 (sym e ∙ h),
     λ h. e ∙ refused-said sizes c (numbered number place) .1 h,
