@@ -32,8 +32,8 @@ pub fn spread_of(
     let mut frac = gamma;
     let mut i = 0usize;
     while i < features {
-        let delta = (truly[i] - predicted[i]) * weight;
-        frac = frac + delta * delta * covariance[i];
+        let weighted = (truly[i] - predicted[i]) * weight;
+        frac = frac + weighted * weighted * covariance[i];
         i += 1;
     }
     frac

@@ -18,17 +18,17 @@ abbrev μ-loop : tie.MeasureT-loop
 loop-holds : tie.Need-loop-holds Inv-loop μ-loop
 loop-holds c = (omega arith, through-none _ _ _)
 
-mul-delta : tie.Need-mul-delta Inv-loop μ-loop
-mul-delta c = search needs
+mul-weighted : tie.Need-mul-weighted Inv-loop μ-loop
+mul-weighted c = search needs
 
-shared-slice-read-delta : tie.Need-shared-slice-read-delta Inv-loop μ-loop
-shared-slice-read-delta c = search needs
+shared-slice-read-weighted : tie.Need-shared-slice-read-weighted Inv-loop μ-loop
+shared-slice-read-weighted c = search needs
 
-mul-delta-2 : tie.Need-mul-delta-2 Inv-loop μ-loop
-mul-delta-2 c = search needs
+mul-weighted-2 : tie.Need-mul-weighted-2 Inv-loop μ-loop
+mul-weighted-2 c = search needs
 
-shared-slice-read-delta-2 : tie.Need-shared-slice-read-delta-2 Inv-loop μ-loop
-shared-slice-read-delta-2 c = search needs
+shared-slice-read-weighted-2 : tie.Need-shared-slice-read-weighted-2 Inv-loop μ-loop
+shared-slice-read-weighted-2 c = search needs
 
 mul-frac : tie.Need-mul-frac Inv-loop μ-loop
 mul-frac c = search needs
@@ -56,10 +56,10 @@ spread-of-spec =
     Inv-loop
     μ-loop
     loop-holds
-    mul-delta
-    shared-slice-read-delta
-    mul-delta-2
-    shared-slice-read-delta-2
+    mul-weighted
+    shared-slice-read-weighted
+    mul-weighted-2
+    shared-slice-read-weighted-2
     mul-frac
     shared-slice-read-frac
     add-i
