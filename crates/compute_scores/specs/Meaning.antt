@@ -3,7 +3,7 @@ use mathlib.Core.Path.{_≡_}
 use mathlib.Core.List.{List, _++_}
 use Prim.Native.Nat.{ℕ}
 use Rattle.refusals.specs.Refusals.{numbered}
-use Rattle.score_tables.specs.Meaning.{FiniteTo}
+use Rattle.fronts.specs.Finite.{FiniteTo}
 use Rattle.refusal_rows.specs.Tests.{Test}
 use Rattle.refusals.specs.Said.{accepted, refused, saidOf}
 use Rattle.feature_gen.specs.Rows.{idTests, weightTests}

@@ -157,7 +157,7 @@ pub fn score_line(
     requires { ⌜ words * labels ≤ length (now states) ⌝ }
     ensures { λ _. ⌜ ((rest : Model) (size : ℕ) → now (states .exit) ≡ statesOf (withStates rest labels features (now (kinds .entry)) (now (destinations .entry)) lists (now (starts .entry)) (now (entries .entry))) (now (weights .entry)) (record { starts = now (begins .entry); size = size; ids = now (ids .entry); values = now (values .entry) }) first words ++ drop (words * labels) (now (states .entry))) ⌝ }
 {
-    lines::clear_front(states, words * labels);
+    fronts::fill(states, words * labels, 0.0);
     let mut word = 0;
     while word < words {
         let from = lines::at(begins, first + word);
@@ -262,7 +262,7 @@ pub fn score_transitions(
     requires { ⌜ labels * labels ≤ length (now transitions) ⌝ }
     ensures { λ _. ⌜ ((rest : Model) → now (transitions .exit) ≡ transitionsOf (withTransitions rest labels features (now (kinds .entry)) (now (destinations .entry)) (now (sources .entry)) lists (now (starts .entry)) (now (entries .entry))) (now (weights .entry)) ++ drop (labels * labels) (now (transitions .entry))) ⌝ }
 {
-    lines::clear_front(transitions, labels * labels);
+    fronts::fill(transitions, labels * labels, 0.0);
     let shared = lines::smaller(labels, lists);
     let mut label = 0;
     while label < shared {

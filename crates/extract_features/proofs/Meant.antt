@@ -4,7 +4,7 @@ use mathlib.Core.List.{_++_}
 use Rattle.refusals.specs.declared.Checked.{Checked}
 use Rattle.refusals.specs.Refusals.{numbered, orNext}
 use Rattle.refusals.specs.Meaning.{FirstBad}
-use Rattle.score_tables.specs.Meaning.{FiniteTo, NotFinite}
+use Rattle.fronts.specs.Finite.{FiniteTo, NotFinite}
 use Rattle.refusals.proofs.Said.{refused-said, done-said}
 use Rattle.feature_gen.specs.Rows.{idTests}
 use Rattle.line_check.specs.Rows.{countingLimits, lineStarts, labelTests, valueTests}

@@ -4,7 +4,7 @@ use mathlib.Core.List.{List, _++_}
 use lib.Ieee.{Float}
 use Rattle.refusals.specs.Meaning.{FirstBad}
 use Rattle.refusals.specs.Refusals.{numbered}
-use Rattle.score_tables.specs.Meaning.{FiniteTo, NotFinite}
+use Rattle.fronts.specs.Finite.{FiniteTo, NotFinite}
 use Rattle.refusals.specs.Said.{accepted, refused, saidOf}
 use Rattle.feature_gen.specs.Rows.{idTests}
 use Rattle.line_check.specs.Rows.{countingLimits, lineStarts, labelTests, valueTests}

@@ -416,7 +416,7 @@ pub fn count_line(
     requires { ⌜ features ≤ length (now counts) ⌝ }
     ensures { λ _. ⌜ ((rest : Model) (size : ℕ) → now (counts .exit) ≡ countsOf (withCounts rest features (now (kinds .entry)) (now (destinations .entry)) (now (sources .entry)) lists (now (starts .entry)) (now (entries .entry)) «label_lists» (now («label_starts» .entry)) (now («label_entries» .entry))) (record { starts = now (begins .entry); size = size; ids = now (ids .entry); values = now (values .entry) }) first words (now (labels .entry)) ++ drop features (now (counts .entry))) ⌝ }
 {
-    lines::clear_front(counts, features);
+    fronts::fill(counts, features, 0.0);
     count_words(
         features,
         kinds,

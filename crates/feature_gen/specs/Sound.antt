@@ -5,7 +5,7 @@ use Prim.Native.Nat.{ℕ, _<_, _≤_}
 use lib.ListN.{length, getD}
 use lib.Ieee.{Float}
 use Rattle.score_tables.specs.Sound.{LabelsIn}
-use Rattle.score_tables.specs.Meaning.{FiniteTo}
+use Rattle.fronts.specs.Finite.{FiniteTo}
 use Rattle.lines.specs.Tables.{Model, Transition}
 use Rattle.lines.specs.Sound.{SoundLists, SoundTransitions, SoundCounts}
 use Rattle.feature_gen.specs.Rows.{mostFeatures, mostAttributeLists, mostLabelLists, mostEntries}

@@ -13,7 +13,7 @@ use Rattle.viterbi_end.specs.declared.Found.{Found}
 use Rattle.viterbi.specs.declared.Decoding.{Decoding}
 use Rattle.viterbi.specs.Answered.{Ready, Answered}
 use Rattle.finished.specs.Rows.{scoresFinished}
-use Rattle.finished.specs.After.{cleared}
+use Rattle.fronts.specs.Cleared.{cleared}
 use Rattle.label_line.specs.Finished.{Finished}
 
 -- the fronts of tables are enough

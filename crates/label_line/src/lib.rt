@@ -3,7 +3,6 @@ ghost use mathlib.Core.Path.{_≡_};
 ghost use Prim.Native.Nat.{_*_, _≤_};
 ghost use lib.ListN.{length, take};
 ghost use Rattle.viterbi.specs.Answered.{Ready, Answered};
-ghost use Rattle.finished.specs.After.{cleared};
 ghost use Rattle.label_line.specs.Finished.{Finished};
 ghost use Rattle.feature_gen.specs.Lent.{modelOf};
 ghost use Rattle.label_line.specs.Rows.{labelChecked};
@@ -64,18 +63,6 @@ pub fn check_line(
     refusals::or_next(room, scoring)
 }
 
-// The first n labels are 0, and what comes after them stays.
-fn clear_path(path: &mut [u32], n: usize)
-    requires { ⌜ n ≤ length (now path) ⌝ }
-    ensures { λ _. ⌜ now (path .exit) ≡ cleared 0 n (now (path .entry)) ⌝ }
-{
-    let mut i = 0usize;
-    while i < n {
-        path[i] = 0;
-        i += 1;
-    }
-}
-
 // Decoding over the fronts of two tables.
 fn decode_front(
     labels: u32,
@@ -106,7 +93,7 @@ pub fn decode_scores(
 {
     let finished = finished::check_scores(labels, words, transitions, states);
     if let Checked::Refused(late) = finished {
-        clear_path(path, words as usize);
+        fronts::clear(path, words as usize);
         return Decoding::Refused(late);
     }
     Decoding::Decoded(decode_front(labels, words, transitions, states, path))

@@ -3,7 +3,7 @@ use mathlib.Core.List.{List}
 use Prim.Native.Nat.{ℕ, _*_, _<_, _≤_}
 use lib.ListN.{length, getD}
 use Rattle.score_tables.specs.Sound.{WordsIn}
-use Rattle.score_tables.specs.Meaning.{FiniteTo}
+use Rattle.fronts.specs.Finite.{FiniteTo}
 use Rattle.lines.specs.Tables.{Words}
 use Rattle.lines.specs.Sound.{SoundWords}
 use Rattle.feature_gen.specs.Sound.{Sized, Sound, Weighted}

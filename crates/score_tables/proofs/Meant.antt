@@ -16,7 +16,8 @@ use Rattle.refusals.specs.Meaning.{FirstRefused}
 use Rattle.refusals.proofs.Meant.{numbers-mean, numbers-finite}
 use Rattle.best_path.specs.Scores.{AllFinite, tabled}
 use Rattle.score_tables.specs.Rows.{mostLabels, mostWords, sixes}
-use Rattle.score_tables.specs.Meaning.{OneMeans, FourMeans, TwoMeans, FiniteTo, SixAt, in-transitions, in-states}
+use Rattle.score_tables.specs.Meaning.{OneMeans, FourMeans, TwoMeans, SixAt, in-transitions, in-states}
+use Rattle.fronts.specs.Finite.{FiniteTo}
 use Rattle.score_tables.proofs.Laws.{true-holds, within, labels-in, words-in, room}
 use Rattle.score_tables.proofs.Order.{row, Never, not-table, why}
 

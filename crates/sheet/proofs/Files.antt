@@ -10,7 +10,7 @@ use lib.Ieee.Bits.{ofBits-fits}
 use Rattle.refusals.specs.declared.Checked.{Checked}
 use Rattle.refusals.specs.declared.Checked.the-variants.{Accepted, Refused}
 use Rattle.refusals.proofs.Meant.{numbers-finite}
-use Rattle.score_tables.specs.Meaning.{FiniteTo}
+use Rattle.fronts.specs.Finite.{FiniteTo}
 use Rattle.score_tables.proofs.Meant.{to-finite}
 use Rattle.sheet.specs.File.{Sheet, littleEndian, numbers, encoded, Finite64, Sound}
 use Rattle.sheet.specs.Fields.{labelsIn, wordsIn, statesFrom, wholeLength, numbersIn, transitionsIn, statesIn}

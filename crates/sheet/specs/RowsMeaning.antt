@@ -7,7 +7,8 @@ use lib.ListN.{length, take}
 use Rattle.refusals.specs.declared.Checked.the-variants.{Accepted}
 use Rattle.refusals.specs.Refusals.{refusedAt}
 use Rattle.score_tables.specs.Sound.{LabelsIn, WordsIn, Room}
-use Rattle.score_tables.specs.Meaning.{FiniteTo, SixAt}
+use Rattle.score_tables.specs.Meaning.{SixAt}
+use Rattle.fronts.specs.Finite.{FiniteTo}
 use Rattle.refusal_rows.specs.Given.{OneOf}
 use Rattle.sheet.specs.Fields.{mark, versionIn, labelsIn, wordsIn, wholeLength, transitionsIn, statesIn}
 use Rattle.sheet.specs.Rows.{Given, Lent, sheetChecked}

@@ -9,7 +9,7 @@ use Rattle.refusals.specs.declared.Checked.the-variants.{Accepted, Refused}
 use Rattle.refusals.specs.Said.{Said, orRefused}
 use Rattle.lines.specs.Passes.{nought}
 use Rattle.lines.specs.Tables.{Model}
-use Rattle.finished.specs.After.{cleared}
+use Rattle.fronts.specs.Cleared.{cleared}
 use Rattle.training.specs.declared.Training.{Training}
 use Rattle.training.specs.declared.Trained.{Trained}
 use Rattle.training.specs.Data.{Data}

@@ -15,7 +15,8 @@ use Rattle.training.specs.declared.Training.the-variants.{Accepted, Refu
 use Rattle.shuffle.specs.Shuffle.{Deal, shuffled}
 use Rattle.lines.specs.Passes.{through, nought}
 use Rattle.lines.specs.Tables.{Model}
-use Rattle.training.specs.Data.{Data, whole, allFinite}
+use Rattle.training.specs.Data.{Data, whole}
+use Rattle.fronts.specs.Finite.{allFinite}
 use Rattle.training.specs.Rules.{Rule, Learned, besideAtFirst, stops, averagedBy, _⊘_}
 use Rattle.training.specs.Visits.{State, visited}
 

@@ -16,7 +16,8 @@ use Rattle.best_path.specs.PathScore.{pathScore}
 use Rattle.lines.specs.Tables.{Model}
 use Rattle.lines.specs.Scored.{statesOf, transitionsOf}
 use Rattle.lines.specs.Counted.{countsOf}
-use Rattle.training.specs.Data.{Data, firstWord, wordsOf, referenceOf, whole, wrongOf, allFinite}
+use Rattle.training.specs.Data.{Data, firstWord, wordsOf, referenceOf, whole, wrongOf}
+use Rattle.fronts.specs.Finite.{allFinite}
 use Rattle.training.specs.Rules.{Rule, Learned, Mistake, Update, updatedBy, _⊕_}
 
 -- what goes from visit to visit

@@ -16,7 +16,6 @@ ghost use Rattle.training_tables.specs.Tables.{Held, Updated};
 ghost use Rattle.updates.specs.Updating.{stateOf, Agreed, Counted, settled};
 use judging::Prediction;
 use parameters::Trainer;
-use refusals::Refusal;
 use training::Step;
 use training::Visit;
 use training_tables::Outcome;
@@ -26,10 +25,7 @@ pub fn refuse(number: u32, s: Step) -> Step
     ensures { λ r. ⌜ ((learned : Learned) → r ≡ (refusedAs number (record { step = s; learned = learned })) .step) ⌝ }
 {
     Step {
-        visit: Visit::Refused(Refusal {
-            number: number,
-            place: s.visits,
-        }),
+        visit: Visit::Refused(refusals::numbered(number, s.visits)),
         visits: s.visits,
         updates: s.updates,
         loss: s.loss,
@@ -225,7 +221,7 @@ pub fn learn(
             loss: loss,
         };
     }
-    if training_tables::both_finite(truly, predicted, features) {
+    if fronts::all_finite(truly, features) & fronts::all_finite(predicted, features) {
         refuse(9, s)
     } else {
         refuse(8, s)

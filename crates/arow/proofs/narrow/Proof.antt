@@ -8,7 +8,7 @@ use lib.Ieee.{ofBits, ofInt}
 use Rattle.lines.specs.Passes.{raised}
 use Rattle.training.specs.Rules.{narrowed}
 use Rattle.training_tables.specs.Tables.{Moved}
-use Rattle.training_tables.proofs.Finite.{finite-stored}
+use Rattle.fronts.proofs.Finite.{finite-stored}
 use Rattle.training_tables.proofs.Moves.{moved-none, moved-next, moved-end}
 use Rattle.arow.proofs.narrow.Statement.{statement}
 use Rattle.arow.proofs.narrow.Tie as tie

@@ -10,8 +10,8 @@ check-scores-requires c κs = search needs
 enum-known-finished : tie.Need-enum-known-finished
 enum-known-finished c = search needs
 
-clear-path-requires : tie.Need-clear-path-requires
-clear-path-requires c κs = search needs
+clear-requires : tie.Need-clear-requires
+clear-requires c κs = search needs
 
 same-length : tie.Need-same-length
 same-length c = search needs
@@ -20,7 +20,7 @@ returns : tie.Need-returns
 returns c =
     let k = c .before .before .before .before .before .before .before in
     let a = k .before .before .before .before .args in
-    eight (a .labels) (a .words) (a .transitions .now) (a .states .now) (a .path .now) (k .check-scores .ensures) _ (c .before .before .before .before .before .finished .given .1) (c .before .before .clear-path .ensures)
+    eight (a .labels) (a .words) (a .transitions .now) (a .states .now) (a .path .now) (k .check-scores .ensures) _ (c .before .before .before .before .before .finished .given .1) (c .before .before .clear .ensures)
 
 enum-told : tie.Need-enum-told
 enum-told c = search needs
@@ -43,7 +43,7 @@ decode-scores-spec =
     (tie.spec
     check-scores-requires
     enum-known-finished
-    clear-path-requires
+    clear-requires
     same-length
     returns
     enum-told

@@ -9,10 +9,10 @@ use borrow.Author.Needs.{needs}
 use lib.ListN.{length, length-set}
 use lib.Ieee.{Float}
 use Rattle.lines.specs.Passes.{raised}
-use Rattle.training.specs.Data.{allFinite}
+use Rattle.fronts.specs.Finite.{allFinite}
 use Rattle.training.specs.Rules.{pulled}
 use Rattle.training_tables.specs.Tables.{Moved}
-use Rattle.training_tables.proofs.Finite.{finite-stored, finite-read, finite-kept}
+use Rattle.fronts.proofs.Finite.{finite-stored, finite-read, finite-kept}
 use Rattle.training_tables.proofs.Moves.{moved-none, moved-next, moved-end}
 use Rattle.passive_aggressive.proofs.pull.Statement.{statement}
 use Rattle.passive_aggressive.proofs.pull.Tie as tie

@@ -5,7 +5,7 @@ use borrow.Author.Needs.{needs}
 use Rattle.lines.specs.Tables.{Model}
 use Rattle.lines.specs.Scored.{transitionsOf, statesOf}
 use Rattle.prediction.specs.Tables.{modelOf, wordsIn}
-use Rattle.training_tables.proofs.Filled.{all-of}
+use Rattle.fronts.proofs.Filled.{all-of}
 use Rattle.prediction.proofs.Laws.{transitions-sound}
 use Rattle.prediction.proofs.predict_in.Statement.{statement}
 use Rattle.prediction.proofs.predict_in.Tie as tie

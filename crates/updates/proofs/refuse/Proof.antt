@@ -9,9 +9,12 @@ use Rattle.updates.proofs.refuse.Tie as tie
 use Rattle.updates.proofs.refuse.Reads as reads
 use Rattle.updates.proofs.refuse.Lts as lts
 
+numbered-requires : tie.Need-numbered-requires
+numbered-requires c κs = search needs
+
 returns : tie.Need-returns
 unfolding refusedAs
-returns c = λ l. refl
+returns c = λ l. rw (c .numbered .ensures)
 
 pub refuse-spec : {M : Type 1} → statement M
-refuse-spec = tie.close (tie.spec returns)
+refuse-spec = tie.close (tie.spec numbered-requires returns)

@@ -1,13 +1,13 @@
--- `training_tables::fill` meets its contract: each place passed has the value. Assumes nothing.
+-- `fronts::fill` meets its contract: each place passed has the value. Assumes nothing.
 use mathlib.Core.Path.{_≡_, refl, sym, _∙_}
 use Prim.Native.Nat.{_≤_, _-_}
 use native.Mathlib.Omega.{arith}
 use borrow.Author.Needs.{needs}
 use lib.ListN.{length, replicate, length-replicate, getD-replicate}
 use lib.Ieee.{nan}
-use Rattle.training_tables.proofs.Filled.{filled, filled-none, filled-next, filled-end}
-use Rattle.training_tables.proofs.fill.Statement.{statement}
-use Rattle.training_tables.proofs.fill.Tie as tie
+use Rattle.fronts.proofs.Filled.{filled, filled-none, filled-next, filled-end}
+use Rattle.fronts.proofs.fill.Statement.{statement}
+use Rattle.fronts.proofs.fill.Tie as tie
 
 abbrev Inv-loop : tie.InvT-loop
 Inv-loop table₀ n value i₀ table i = (i ≤ n) × (length table ≡ length table₀) × (table ≡ filled table₀ (replicate n value) i)

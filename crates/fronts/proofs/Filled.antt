@@ -1,13 +1,12 @@
 -- A loop that gives the front of a table the entries of a list, one after the other. Assumes nothing.
 use mathlib.Core.Path.{_≡_, refl, sym, ap, _∙_}
 use mathlib.Core.List.{List, _++_, append-nil}
-use Prim.Native.Nat.{ℕ, zero, suc, _+_, _≤_, _<_}
+use Prim.Native.Nat.{ℕ, _+_, _≤_, _<_}
 use native.Mathlib.Numerals.{add-one}
 use native.Mathlib.Nat.{le-antisymm, le-of-eq, zero-add}
 use native.Mathlib.Omega.{arith}
 use lib.ListN.{length, getD, set, take, drop, drop-of-length-le}
 use lib.Seq.{paste-zero, paste-suc, take-length}
-use Rattle.training.specs.Epochs.{countedFrom}
 
 -- the first i of the list, before the rest of the table
 unfoldable pub filled : {A : Type 0} → List A → List A → ℕ → List A
@@ -28,17 +27,6 @@ module _ {A : Type 0} (table list : List A) where
   pub filled-end : (i n : ℕ) → length list ≡ n → i ≤ n → n ≤ i → filled table list i ≡ list ++ drop n table
   unfolding filled
   filled-end i n e p q = rw (le-antisymm p q, sym e, take-length)
-
-pub length-counted : (k n : ℕ) → length (countedFrom k n) ≡ n
-unfolding countedFrom
-length-counted k zero = refl
-length-counted k (suc n) = ap suc (length-counted (suc k) n)
-
-pub getD-counted : (k n i : ℕ) → i < n → getD (countedFrom k n) i 0 ≡ k + i
-unfolding countedFrom
-getD-counted k zero i h = omega arith
-getD-counted k (suc n) zero h = omega arith
-getD-counted k (suc n) (suc i) h = getD-counted (suc k) n i (omega arith) ∙ omega arith
 
 -- a buffer that is no longer than its front
 pub all-of : {A : Type 0} (xs ys : List A) (n : ℕ) → length ys ≡ n → xs ++ drop n ys ≡ xs

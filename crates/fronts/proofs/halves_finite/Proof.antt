@@ -1,23 +1,23 @@
--- `finished::halves_finite` meets its contract: while the flag stands, nothing is refused in either half. Assumes nothing.
+-- `fronts::halves_finite` meets its contract. The flag is the finite test of what was passed of each half. Assumes nothing.
+use mathlib.Core.Bool.{_&&_}
 use mathlib.Core.Path.{_≡_}
-use mathlib.Core.Bool.{true}
 use Prim.Native.Nat.{_≤_, _-_}
-use native.Mathlib.Nat.{le-antisymm}
 use native.Mathlib.Omega.{arith}
 use borrow.Author.Needs.{needs}
-use Rattle.refusals.proofs.Laws.{begin}
-use Rattle.finished.proofs.Halves.{Halves, one-passed, all-passed}
-use Rattle.finished.proofs.halves_finite.Statement.{statement}
-use Rattle.finished.proofs.halves_finite.Tie as tie
+use lib.ListN.{drop}
+use Rattle.fronts.specs.Finite.{allFinite}
+use Rattle.fronts.proofs.Finite.{finite-none-both, halves-next, halves-end}
+use Rattle.fronts.proofs.halves_finite.Statement.{statement}
+use Rattle.fronts.proofs.halves_finite.Tie as tie
 
 abbrev Inv-loop : tie.InvT-loop
-Inv-loop numbers half all₀ i₀ all i = (i ≤ half) × (all ≡ true → Halves numbers half i)
+Inv-loop table half all₀ i₀ all i = (i ≤ half) × (all ≡ (allFinite table i && allFinite (drop half table) i))
 
 abbrev μ-loop : tie.MeasureT-loop
-μ-loop numbers half all₀ i₀ all i = half - i
+μ-loop table half all₀ i₀ all i = half - i
 
 loop-holds : tie.Need-loop-holds Inv-loop μ-loop
-loop-holds c = (omega arith, λ h. (begin, begin))
+loop-holds c = (omega arith, finite-none-both _ _)
 
 mul-are-finite : tie.Need-mul-are-finite Inv-loop μ-loop
 mul-are-finite c = search needs
@@ -44,16 +44,10 @@ loop-less : tie.Need-loop-less Inv-loop μ-loop
 loop-less c = search needs
 
 loop-again : tie.Need-loop-again Inv-loop μ-loop
-loop-again c =
-    let l = c .before .before .before .before in
-    let a = l .before .before .args in
-    (omega arith, one-passed (a .numbers .now) (a .half) (l .loop .i) (omega arith) (l .loop .inv .1) (c .are-finite .ensures))
+loop-again c = (omega arith, halves-next _ _ _ (c .before .before .before .before .loop .inv .1) (c .are-finite .ensures))
 
 returns : tie.Need-returns Inv-loop μ-loop
-returns c h =
-    let l = c .before .loop in
-    let a = c .before .before .before .args in
-    all-passed (a .numbers .now) (a .half) (rw (le-antisymm (l .inv .0) (c .loop-test .left)) at (l .inv .1 h))
+returns c = let l = c .before .loop in halves-end _ _ _ (l .inv .1) (l .inv .0) (c .loop-test .left)
 
 pub halves-finite-spec : {M : Type 1} → statement M
 halves-finite-spec =

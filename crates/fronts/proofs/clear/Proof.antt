@@ -1,12 +1,12 @@
--- `training_tables::clear` meets its contract: each place passed has 0. Assumes nothing.
+-- `fronts::clear` meets its contract: each place passed has 0. Assumes nothing.
 use mathlib.Core.Path.{_≡_, refl, sym, _∙_}
 use Prim.Native.Nat.{_≤_, _-_}
 use native.Mathlib.Omega.{arith}
 use borrow.Author.Needs.{needs}
 use lib.ListN.{length, replicate, length-replicate, getD-replicate}
-use Rattle.training_tables.proofs.Filled.{filled, filled-none, filled-next, filled-end}
-use Rattle.training_tables.proofs.clear.Statement.{statement}
-use Rattle.training_tables.proofs.clear.Tie as tie
+use Rattle.fronts.proofs.Filled.{filled, filled-none, filled-next, filled-end}
+use Rattle.fronts.proofs.clear.Statement.{statement}
+use Rattle.fronts.proofs.clear.Tie as tie
 
 abbrev Inv-loop : tie.InvT-loop
 Inv-loop order₀ n i₀ order i = (i ≤ n) × (length order ≡ length order₀) × (order ≡ filled order₀ (replicate n 0) i)
