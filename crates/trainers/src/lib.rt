@@ -47,8 +47,7 @@ fn train_checked(
     predicted: &mut [f64],
     order: &mut [u32],
 ) -> Training
-    requires {
-        let given : Given = record { model = modelAt labels counts kinds destinations sources «attribute_starts» «attribute_entries» «label_starts» «label_entries»; corpus = dataAt totals lines begins ids values references shares } in
+    requires { let given : Given = record { model = modelAt labels counts kinds destinations sources «attribute_starts» «attribute_entries» «label_starts» «label_entries»; corpus = dataAt totals lines begins ids values references shares } in
         let buffers : Buffers = record { weights = now weights; beside = now beside; truly = now truly; predicted = now predicted; order = now order } in
         ⌜ (checked ≡ Accepted → Ready given buffers allowed) ⌝ }
     ensures { λ r.
