@@ -9,8 +9,8 @@ ghost use Rattle.refusals.specs.Tables.{outside};
 ghost use Rattle.score_tables.specs.Rows.{mostWords};
 ghost use Rattle.refusal_rows.specs.Limits.{anyBroken};
 ghost use Rattle.refusal_rows.specs.Tests.{startsRise, linesFit, lengthsChecked, checks};
-ghost use Rattle.feature_gen.specs.Lent.{modelOf};
-ghost use Rattle.training_check.specs.Lent.{dataOf};
+ghost use Rattle.feature_gen.specs.Lent.{modelWas};
+ghost use Rattle.training_check.specs.Lent.{dataWas};
 ghost use Rattle.training_check.specs.Rows.{dataLimits, lentLimits, inputSized, inputChecked};
 use feature_gen::Counts;
 use refusals::Checked;
@@ -47,7 +47,7 @@ fn exceeds(
     references: &[u32],
     shares: &[f64],
 ) -> bool
-    ensures { λ r. ⌜ r ≡ anyBroken (dataLimits (dataOf totals (now (lines .entry)) (now (begins .entry)) (now (ids .entry)) (now (values .entry)) (now (references .entry)) (now (shares .entry)))) ⌝ }
+    ensures { λ r. ⌜ r ≡ anyBroken (dataLimits (dataWas totals lines begins ids values references shares)) ⌝ }
 {
     let many = refusals::is_outside(1, MOST_INSTANCES, totals.instances)
         | (MOST_WORDS_IN_ALL < totals.words);
@@ -89,7 +89,9 @@ fn input_sizes(
     shares: &[f64],
     lent: Lent,
 ) -> Checked
-    ensures { λ r. ⌜ r ≡ inputSized (record { model = modelOf labels counts (now (kinds .entry)) (now (destinations .entry)) (now (sources .entry)) (now («attribute_starts» .entry)) (now («attribute_entries» .entry)) (now («label_starts» .entry)) (now («label_entries» .entry)); corpus = dataOf totals (now (lines .entry)) (now (begins .entry)) (now (ids .entry)) (now (values .entry)) (now (references .entry)) (now (shares .entry)); lent = lent }) ⌝ }
+    ensures { λ r.
+        let m = modelWas labels counts kinds destinations sources «attribute_starts» «attribute_entries» «label_starts» «label_entries» in
+        ⌜ r ≡ inputSized (record { model = m; corpus = dataWas totals lines begins ids values references shares; lent = lent }) ⌝ }
 {
     let outside = refusals::is_outside(1, score_tables::MOST_LABELS, labels);
     let one = refusals::refuse_if(Checked::Accepted, 1, 0, outside);
@@ -150,7 +152,9 @@ fn check_starts(
     requires { ⌜ counts .«label_lists» < length (now «label_starts») ⌝ }
     requires { ⌜ totals .instances < length (now lines) ⌝ }
     requires { ⌜ totals .words < length (now begins) ⌝ }
-    ensures { λ r. ⌜ r ≡ firstFrom answer (checks (startsRise (now («attribute_starts» .entry)) (counts .«attribute_lists») (counts .«attribute_entries») ∷ startsRise (now («label_starts» .entry)) (counts .«label_lists») (counts .«label_entries») ∷ startsRise (now (lines .entry)) (totals .instances) (totals .words) ∷ startsRise (now (begins .entry)) (totals .words) (totals .attributes) ∷ linesFit (now (lines .entry)) (totals .instances) ∷ [])) ⌝ }
+    ensures { λ r. ⌜ r ≡ firstFrom answer (checks (startsRise (now («attribute_starts» .entry)) (counts .«attribute_lists») (counts .«attribute_entries»)
+        ∷ startsRise (now («label_starts» .entry)) (counts .«label_lists») (counts .«label_entries»)
+        ∷ startsRise (now (lines .entry)) (totals .instances) (totals .words) ∷ startsRise (now (begins .entry)) (totals .words) (totals .attributes) ∷ linesFit (now (lines .entry)) (totals .instances) ∷ [])) ⌝ }
 {
     let n = totals.instances as usize;
     let words = totals.words as usize;
@@ -180,7 +184,9 @@ pub fn check_input(
     shares: &[f64],
     lent: Lent,
 ) -> Checked
-    ensures { λ r. ⌜ r ≡ inputChecked (record { model = modelOf labels counts (now (kinds .entry)) (now (destinations .entry)) (now (sources .entry)) (now («attribute_starts» .entry)) (now («attribute_entries» .entry)) (now («label_starts» .entry)) (now («label_entries» .entry)); corpus = dataOf totals (now (lines .entry)) (now (begins .entry)) (now (ids .entry)) (now (values .entry)) (now (references .entry)) (now (shares .entry)); lent = lent }) ⌝ }
+    ensures { λ r.
+        let m = modelWas labels counts kinds destinations sources «attribute_starts» «attribute_entries» «label_starts» «label_entries» in
+        ⌜ r ≡ inputChecked (record { model = m; corpus = dataWas totals lines begins ids values references shares; lent = lent }) ⌝ }
 {
     let sizes = input_sizes(
         labels,

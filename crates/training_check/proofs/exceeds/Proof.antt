@@ -25,9 +25,10 @@ cast-short-3 c = search needs
 
 returns : tie.Need-returns
 returns c =
-    let e = c .before .before .before in
-    let o = e .before .before in
-    let a = o .before .before .before .before .before .before .before .args in
+    let e : tie.After-exceeds = search in
+    let o : tie.After-is-outside = search in
+    let s : tie.Start = search in
+    let a = s .args in
     rw (e .exceeds .ensures, o .is-outside .ensures) (data-parts (dataOf (a .totals) (a .lines .now) (a .begins .now) (a .ids .now) (a .values .now) (a .references .now) (a .shares .now)))
 
 pub exceeds-spec : {M : Type 1} → statement M
