@@ -161,12 +161,7 @@ pub fn check_sheet(bytes: &[u8], transitions: &[f64], states: &[f64]) -> Checked
     let labels = labels_in(bytes);
     let words = words_in(bytes);
     let first = check_part(sizes, bytes, 8, entries(labels, labels));
-    check_part(
-        first,
-        bytes,
-        states_from(bytes),
-        entries(words, labels),
-    )
+    check_part(first, bytes, states_from(bytes), entries(words, labels))
 }
 
 pub enum Reading {
@@ -198,12 +193,7 @@ pub fn read_sheet(bytes: &[u8], transitions: &mut [f64], states: &mut [f64]) -> 
     let labels = labels_in(bytes);
     let words = words_in(bytes);
     read_part(bytes, 8, entries(labels, labels), transitions);
-    read_part(
-        bytes,
-        states_from(bytes),
-        entries(words, labels),
-        states,
-    );
+    read_part(bytes, states_from(bytes), entries(words, labels), states);
     Reading::Read {
         labels: labels,
         words: words,

@@ -15,8 +15,8 @@ ghost use Rattle.updates.specs.Updating.{stateOf, Agreed, Counted, settled, Exa
 use judging::Prediction;
 use parameters::Trainer;
 use prediction::Sizes;
-use updates::Found;
 use training::Step;
+use updates::Found;
 
 // The labels differ: the true counts, the predicted counts, then the update.
 fn correct(
