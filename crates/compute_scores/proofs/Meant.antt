@@ -3,7 +3,7 @@ use mathlib.Core.Path.{_≡_, sym, _∙_}
 use Rattle.refusals.specs.declared.Checked.{Checked}
 use Rattle.refusals.specs.Refusals.{numbered, orNext}
 use Rattle.line_check.proofs.Meant.{scoring-means}
-use Rattle.line_check.specs.Rows.{scoringLimits}
+use Rattle.line_check.specs.Rows.{scoringCounts, scoringRooms}
 use Rattle.refusals.proofs.Said.{refused-said, done-said}
 use Rattle.finished.proofs.Meant.{scores-mean}
 use Rattle.finished.proofs.Answers.{answered}
@@ -15,7 +15,7 @@ unfolding answerTo
 scores-meant given before outcome kept =
     let all : Checked = orNext (checkedOf given before) (finishedOf given) in
     answered (checkedOf given before) (finishedOf given)
-    (given .model .labels) (given .words) (scoringLimits (scoringOf given before)) (startsOf given) (idsOf given) (numbersOf given) (EightIn given) (ScoresFinite given)
+    (given .model .labels) (given .words) (scoringCounts (scoringOf given before)) (scoringRooms (scoringOf given before)) (startsOf given) (idsOf given) (numbersOf given) (EightIn given) (ScoresFinite given)
     (scoring-means (scoringOf given before))
     (scores-mean (given .model .labels) (given .words) (statesOfLine given) (transitionsOfLine given))
     _ _

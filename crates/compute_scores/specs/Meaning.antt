@@ -7,7 +7,7 @@ use Rattle.fronts.specs.Finite.{FiniteTo}
 use Rattle.refusal_rows.specs.Tests.{Test}
 use Rattle.refusals.specs.Said.{accepted, refused, saidOf}
 use Rattle.feature_gen.specs.Rows.{idTests, weightTests}
-use Rattle.line_check.specs.Rows.{scoringLimits, lineStarts, valueTests}
+use Rattle.line_check.specs.Rows.{scoringCounts, scoringRooms, lineStarts, valueTests}
 use Rattle.finished.specs.Meaning.{EightAt}
 use Rattle.finished.specs.Answers.{Answers}
 use Rattle.compute_scores.specs.Promise.{Given, Buffers, Outcome, stateEntries, transitionEntries, statesOfLine, transitionsOfLine, scoringOf, Promised}
@@ -32,6 +32,6 @@ ScoresFinite given = FiniteTo (statesOfLine given) (stateEntries given) × Finit
 abbrev pub ScoringMeans : Type 0
 ScoringMeans =
     (given : Given) (before : Buffers) (outcome : Outcome) → Promised given before outcome →
-    Answers (given .model .labels) (given .words) (scoringLimits (scoringOf given before)) (startsOf given) (idsOf given) (numbersOf given)
+    Answers (given .model .labels) (given .words) (scoringCounts (scoringOf given before)) (scoringRooms (scoringOf given before)) (startsOf given) (idsOf given) (numbersOf given)
     (λ number place. saidOf (outcome .answer) ≡ refused (numbered number place)) (saidOf (outcome .answer) ≡ accepted tt)
     (EightIn given) (ScoresFinite given)

@@ -7,7 +7,7 @@ use Rattle.refusals.specs.Meaning.{FirstBad}
 use Rattle.fronts.specs.Finite.{FiniteTo, NotFinite}
 use Rattle.refusals.proofs.Said.{refused-said, done-said}
 use Rattle.feature_gen.specs.Rows.{idTests}
-use Rattle.line_check.specs.Rows.{countingLimits, lineStarts, labelTests, valueTests}
+use Rattle.line_check.specs.Rows.{countingCounts, countingRooms, lineStarts, labelTests, valueTests}
 use Rattle.line_check.proofs.Meant.{counting-means}
 use Rattle.finished.proofs.Meant.{counts-mean}
 use Rattle.finished.proofs.Answers.{answered}
@@ -19,7 +19,7 @@ unfolding answerTo
 counts-meant given before outcome kept =
     let all : Checked = orNext (checkedOf given before) (finishedOf given) in
     answered (checkedOf given before) (finishedOf given)
-    (given .model .labels) (given .words) (countingLimits (countingOf given before))
+    (given .model .labels) (given .words) (countingCounts (countingOf given before)) (countingRooms (countingOf given before))
     (lineStarts (given .model) (given .words) (given .line .starts) (given .line .size))
     (idTests (given .model) ++ labelTests (countingOf given before))
     (valueTests (given .line))

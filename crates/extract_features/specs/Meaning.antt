@@ -7,14 +7,14 @@ use Rattle.refusals.specs.Refusals.{numbered}
 use Rattle.fronts.specs.Finite.{FiniteTo, NotFinite}
 use Rattle.refusals.specs.Said.{accepted, refused, saidOf}
 use Rattle.feature_gen.specs.Rows.{idTests}
-use Rattle.line_check.specs.Rows.{countingLimits, lineStarts, labelTests, valueTests}
+use Rattle.line_check.specs.Rows.{countingCounts, countingRooms, lineStarts, labelTests, valueTests}
 use Rattle.finished.specs.Answers.{Answers}
 use Rattle.extract_features.specs.Promise.{Given, Outcome, needed, countsOfLine, countingOf, Promised}
 
 abbrev pub CountingMeans : Type 0
 CountingMeans =
     (given : Given) (before : List Float) (outcome : Outcome) → Promised given before outcome →
-    Answers (given .model .labels) (given .words) (countingLimits (countingOf given before))
+    Answers (given .model .labels) (given .words) (countingCounts (countingOf given before)) (countingRooms (countingOf given before))
     (lineStarts (given .model) (given .words) (given .line .starts) (given .line .size))
     (idTests (given .model) ++ labelTests (countingOf given before))
     (valueTests (given .line))

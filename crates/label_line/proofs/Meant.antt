@@ -19,15 +19,15 @@ use Rattle.finished.proofs.Meant.{scores-mean}
 use Rattle.finished.proofs.Answers.{answered}
 use Rattle.compute_scores.specs.Promise.{Given, statesOfLine, transitionsOfLine, finishedOf}
 use Rattle.compute_scores.specs.Meaning.{startsOf, idsOf, numbersOf, EightIn, ScoresFinite}
-use Rattle.label_line.specs.Rows.{labelLimits, labelChecked}
+use Rattle.label_line.specs.Rows.{labelCounts, labelRooms, labelChecked}
 use Rattle.label_line.specs.Promise.{scoresOf, checkedOf, answerTo}
 use Rattle.label_line.specs.Meaning.{Meaning, LabellingMeans}
 
 -- 1, 4, 2, 3, 5 and 6, for a path's buffer of this length
-pub checks-mean : (given : Given) (path : ℕ) → checks.Meaning (labelChecked given path) (given .model .labels) (given .words) (labelLimits given path) (startsOf given) (idsOf given) (numbersOf given)
+pub checks-mean : (given : Given) (path : ℕ) → checks.Meaning (labelChecked given path) (given .model .labels) (given .words) (labelCounts given) (labelRooms given path) (startsOf given) (idsOf given) (numbersOf given)
 unfolding labelChecked
 checks-mean given path =
-    meaning (given .model .labels) (given .words) (labelLimits given path) (startsOf given) (idsOf given) (numbersOf given)
+    meaning (given .model .labels) (given .words) (labelCounts given) (labelRooms given path) (startsOf given) (idsOf given) (numbersOf given)
     (refl, (refl, (refl, tt)))
     (refl, (refl, (refl, (refl, (refl, tt)))))
     (refl, (refl, tt))
@@ -41,7 +41,7 @@ pub labelled-so :
     Meaning Refuses Accepts given before
 labelled-so given before Refuses Accepts to from accepted =
     answered (checkedOf given before) (finishedOf given)
-    (given .model .labels) (given .words) (labelLimits given (length before)) (startsOf given) (idsOf given) (numbersOf given) (EightIn given) (ScoresFinite given)
+    (given .model .labels) (given .words) (labelCounts given) (labelRooms given (length before)) (startsOf given) (idsOf given) (numbersOf given) (EightIn given) (ScoresFinite given)
     (checks-mean given (length before))
     (scores-mean (given .model .labels) (given .words) (statesOfLine given) (transitionsOfLine given))
     Refuses Accepts to from accepted

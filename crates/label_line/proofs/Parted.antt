@@ -1,4 +1,4 @@
--- The rows of labelling a line are the bounds, the path's room, and the rows of scoring it into buffers that have room for every line. Assumes nothing.
+-- The rows of labelling a line are the sizes of scoring it into buffers that have room for every line, the path's room, and the rows of that scoring. Assumes nothing.
 use mathlib.Core.Path.{_≡_, refl, sym, _∙_}
 use mathlib.Core.Bool.{Bool, true, false, _||_}
 use mathlib.Core.List.{List, [], _∷_, _++_}
@@ -12,26 +12,25 @@ use Rattle.refusals.specs.Tables.{short}
 use Rattle.refusals.proofs.Laws.{settled, both, passes}
 use Rattle.score_tables.specs.Rows.{one, four, boundsChecked}
 use Rattle.score_tables.proofs.Laws.{labels-in, words-in}
-use Rattle.refusal_rows.specs.Limits.{Limit, room, anyBroken}
+use Rattle.refusal_rows.specs.Limits.{Limit, room, anyBroken, two}
 use Rattle.refusal_rows.specs.Tests.{checks}
 use Rattle.refusal_rows.proofs.Means.{broken-parts}
-use Rattle.feature_gen.specs.Rows.{modelLimits, weightLimits, idTests, weightTests}
-use Rattle.line_check.specs.Rows.{Scoring, lineLimits, scoreLimits, scoringLimits, lineStarts, valueTests, scoringChecked}
+use Rattle.feature_gen.specs.Rows.{weightedRooms, idTests, weightTests}
+use Rattle.line_check.specs.Rows.{Scoring, lineRooms, scoreRooms, scoringRooms, lineStarts, valueTests, scoringSized, scoringChecked}
 use Rattle.compute_scores.specs.Promise.{Given}
-use Rattle.label_line.specs.Rows.{labelLimits, labelChecked}
+use Rattle.label_line.specs.Rows.{labelCounts, labelRooms, labelChecked}
 
--- one row of 2 in two parts, before and after
-parted-rows : (answer : Checked) (p q all : Bool) (rest : List Checked) → (answer ≡ Accepted → all ≡ (p || q)) → firstFrom (orNext answer (refuse 2 0 all)) rest ≡ orNext (orNext answer (refuse 2 0 p)) (firstFrom (orNext answer (refuse 2 0 q)) rest)
+-- a row of 2 in two parts, the first of them tested once more before the rest
+parted-rows : (answer : Checked) (q p all : Bool) (rest : List Checked) → (answer ≡ Accepted → all ≡ (q || p)) → firstFrom (orNext answer (refuse 2 0 all)) rest ≡ orNext (orNext (orNext answer (refuse 2 0 q)) (refuse 2 0 p)) (firstFrom (orNext answer (refuse 2 0 q)) rest)
 unfolding orNext refuse
-parted-rows (Refused why) p q all rest h = settled (Refused why) rest why refl
-parted-rows Accepted true q all rest h = rw (h refl) (settled (refuse 2 0 true) rest _ refl)
-parted-rows Accepted false q all rest h = rw (h refl)
+parted-rows (Refused why) q p all rest h = settled (Refused why) rest why refl
+parted-rows Accepted true p all rest h = rw (h refl) (settled (refuse 2 0 true) rest _ refl)
+parted-rows Accepted false true all rest h = rw (h refl) (settled (refuse 2 0 true) rest _ refl)
+parted-rows Accepted false false all rest h = rw (h refl)
 
-either-way : (b p : Bool) → (b || p) ≡ (p || (b || false))
-either-way true true = refl
-either-way true false = refl
-either-way false true = refl
-either-way false false = refl
+or-none : (b p : Bool) → (b || p) ≡ (b || false || p)
+or-none true p = refl
+or-none false p = refl
 
 module _ (given : Given) (path : ℕ) where
   -- scoring into the call's own arrays
@@ -46,10 +45,10 @@ module _ (given : Given) (path : ℕ) where
   }
 
   abbrev tables : List Limit
-  tables = modelLimits (given .model) ++ weightLimits (given .model) (given .weights) ++ lineLimits (given .words) (given .line)
+  tables = weightedRooms (given .model) (given .weights) ++ lineRooms (given .words) (given .line)
 
   abbrev scores : List Limit
-  scores = scoreLimits (given .model .labels) (given .words) 1024 4096
+  scores = scoreRooms (given .model .labels) (given .words) 1024 4096
 
   abbrev bounds : Checked
   bounds = boundsChecked (given .model .labels) (given .words)
@@ -63,27 +62,31 @@ module _ (given : Given) (path : ℕ) where
       let w = words-in (b .1) in
       rw (le-ltb 1024 (given .model .labels * given .model .labels) (mul-le-mul (l .high) (l .high)), le-ltb 4096 (given .words * given .model .labels) (mul-le-mul (w .high) (l .high)))
 
-  limits-parted : bounds ≡ Accepted → anyBroken (labelLimits given path) ≡ (short path (given .words) || anyBroken (scoringLimits own))
-  limits-parted h =
-      broken-parts tables (room path (given .words) ∷ [])
-      ∙ either-way (anyBroken tables) (short path (given .words))
-      ∙ rw (broken-parts tables scores, roomy h)
+  -- 1, 4 and 2 of the counts
+  abbrev counted : Checked
+  counted = orNext bounds (two (labelCounts given))
 
-  pub parted : orNext (orNext bounds (refuse 2 0 (short path (given .words)))) (scoringChecked own) ≡ labelChecked given path
-  unfolding labelChecked scoringChecked
+  rooms-parted : counted ≡ Accepted → anyBroken (labelRooms given path) ≡ (anyBroken (scoringRooms own) || short path (given .words))
+  rooms-parted h =
+      broken-parts tables (room path (given .words) ∷ [])
+      ∙ or-none (anyBroken tables) (short path (given .words))
+      ∙ rw (broken-parts tables scores, roomy (both bounds (two (labelCounts given)) h .0))
+
+  pub parted : orNext (orNext (scoringSized own) (refuse 2 0 (short path (given .words)))) (scoringChecked own) ≡ labelChecked given path
+  unfolding labelChecked scoringChecked scoringSized
   parted =
       sym
-      (parted-rows bounds (short path (given .words)) (anyBroken (scoringLimits own)) (anyBroken (labelLimits given path))
+      (parted-rows counted (anyBroken (scoringRooms own)) (short path (given .words)) (anyBroken (labelRooms given path))
       (checks (lineStarts (given .model) (given .words) (given .line .starts) (given .line .size)) ++ checks (idTests (given .model)) ++ checks (weightTests (given .model) (given .weights) ++ valueTests (given .line)))
-      limits-parted)
+      rooms-parted)
 
   -- as the code goes
-  pub in-order : {answer these those bounded : Checked} {test : Bool} → bounded ≡ bounds → test ≡ short path (given .words) → these ≡ orNext bounded (refuse 2 0 test) → those ≡ scoringChecked own → answer ≡ orNext these those → answer ≡ labelChecked given path
+  pub in-order : {answer these those sizes : Checked} {test : Bool} → sizes ≡ scoringSized own → test ≡ short path (given .words) → these ≡ orNext sizes (refuse 2 0 test) → those ≡ scoringChecked own → answer ≡ orNext these those → answer ≡ labelChecked given path
   in-order p q e f g = g ∙ rw (e, f, p, q) parted
 
   -- an accepted line can be scored, and the path has room
   pub accepts : labelChecked given path ≡ Accepted → (scoringChecked own ≡ Accepted) × (given .words ≤ path)
   accepts h =
-      let b = both (orNext bounds (refuse 2 0 (short path (given .words)))) (scoringChecked own) (parted ∙ h) in
-      let r = both bounds (refuse 2 0 (short path (given .words))) (b .0) in
+      let b = both (orNext (scoringSized own) (refuse 2 0 (short path (given .words)))) (scoringChecked own) (parted ∙ h) in
+      let r = both (scoringSized own) (refuse 2 0 (short path (given .words))) (b .0) in
       (b .1, ltb-false path (given .words) (passes 2 0 _ (r .1)))

@@ -11,19 +11,19 @@ use Rattle.viterbi.specs.Promise.{decoded, said}
 use Rattle.finished.specs.Answers as line
 use Rattle.compute_scores.specs.Promise.{Given}
 use Rattle.compute_scores.specs.Meaning.{startsOf, idsOf, numbersOf, EightIn, ScoresFinite}
-use Rattle.label_line.specs.Rows.{labelLimits}
+use Rattle.label_line.specs.Rows.{labelCounts, labelRooms}
 use Rattle.label_line.specs.Promise.{Outcome, Promised}
 
 -- `Refuses number place` says how a refusal is answered, `Accepts` how none is
 abbrev pub Meaning : (Refuses : ℕ → ℕ → Type 0) (Accepts : Type 0) (given : Given) (before : List ℕ) → Type 0
 Meaning Refuses Accepts given before =
-    line.Answers (given .model .labels) (given .words) (labelLimits given (length before)) (startsOf given) (idsOf given) (numbersOf given)
+    line.Answers (given .model .labels) (given .words) (labelCounts given) (labelRooms given (length before)) (startsOf given) (idsOf given) (numbersOf given)
     Refuses Accepts (EightIn given) (ScoresFinite given)
 
 -- nothing of 1 to 6 applies
 abbrev pub Unrefused : Given → List ℕ → Type 0
 Unrefused given before =
-    line.Unrefused (given .model .labels) (given .words) (labelLimits given (length before)) (startsOf given) (idsOf given) (numbersOf given)
+    line.Unrefused (given .model .labels) (given .words) (labelCounts given) (labelRooms given (length before)) (startsOf given) (idsOf given) (numbersOf given)
 
 abbrev pub LabellingMeans : Type 0
 LabellingMeans =

@@ -6,16 +6,19 @@ use Rattle.refusals.specs.Refusals.{first}
 use Rattle.score_tables.specs.Rows.{one, four}
 use Rattle.refusal_rows.specs.Limits.{Limit, room, two}
 use Rattle.refusal_rows.specs.Tests.{checks}
-use Rattle.feature_gen.specs.Rows.{modelLimits, weightLimits, idTests, weightTests}
-use Rattle.line_check.specs.Rows.{lineLimits, lineStarts, valueTests}
+use Rattle.feature_gen.specs.Rows.{weightedRooms, idTests, weightTests}
+use Rattle.line_check.specs.Rows.{lineCounts, lineRooms, lineStarts, valueTests}
 use Rattle.compute_scores.specs.Promise.{Given}
 
--- 2 | "a count .. outside its bound, or a lent buffer too short": the model, its weights, the line, and T labels of the path | 0
-abbrev pub labelLimits : Given → ℕ → List Limit
-labelLimits given path =
-    modelLimits (given .model)
-    ++ weightLimits (given .model) (given .weights)
-    ++ lineLimits (given .words) (given .line)
+-- 2 | "a count .. outside its bound" | 0
+abbrev pub labelCounts : Given → List Limit
+labelCounts given = lineCounts (given .model) (given .line)
+
+-- 2 | "a lent buffer too short" | 0: the model with its weights, the line, and T labels of the path
+abbrev pub labelRooms : Given → ℕ → List Limit
+labelRooms given path =
+    weightedRooms (given .model) (given .weights)
+    ++ lineRooms (given .words) (given .line)
     ++ (room path (given .words) ∷ [])
 
 -- for a path's buffer of this length
@@ -24,7 +27,8 @@ labelChecked given path =
     first
     (one (given .model .labels)
     ∷ four (given .words)
-    ∷ two (labelLimits given path)
+    ∷ two (labelCounts given)
+    ∷ two (labelRooms given path)
     ∷ checks (lineStarts (given .model) (given .words) (given .line .starts) (given .line .size))
     ++ checks (idTests (given .model))
     ++ checks (weightTests (given .model) (given .weights) ++ valueTests (given .line)))

@@ -18,7 +18,8 @@ pub const MOST_STATES: usize = 4096;
 
 pub const MOST_TRANSITIONS: usize = 1024;
 
-// 1, 4, 2, 3, 5 and 6. The scores have room, so of the buffers only the path can be too short.
+// 1, 4, 2, 3, 5 and 6. The scores have room, so of the buffers only the path can be too short: it comes after the tables, and
+// before anything is read of them.
 pub fn check_line(
     labels: u32,
     words: u32,
@@ -39,8 +40,26 @@ pub fn check_line(
 ) -> Checked
     ensures { λ r. ⌜ r ≡ labelChecked (record { model = modelOf labels counts (now (kinds .entry)) (now (destinations .entry)) (now (sources .entry)) (now («attribute_starts» .entry)) (now («attribute_entries» .entry)) (now («label_starts» .entry)) (now («label_entries» .entry)); weights = now (weights .entry); words = words; line = record { starts = now (begins .entry); size = attributes; ids = now (ids .entry); values = now (values .entry) } }) path ⌝ }
 {
-    let bounds = score_tables::check_bounds(labels, words);
-    let room = refusals::refuse_if(bounds, 2, 0, refusals::is_short(path, words as usize));
+    let sizes = line_check::scoring_sizes(
+        labels,
+        counts,
+        kinds,
+        destinations,
+        sources,
+        weights,
+        attribute_starts,
+        attribute_entries,
+        label_starts,
+        label_entries,
+        words,
+        attributes,
+        begins,
+        ids,
+        values,
+        MOST_TRANSITIONS,
+        MOST_STATES,
+    );
+    let room = refusals::refuse_if(sizes, 2, 0, refusals::is_short(path, words as usize));
     let scoring = line_check::check_scoring(
         labels,
         counts,
