@@ -1,6 +1,4 @@
 // An epoch's visits, in the order of the shuffle.
-ghost use Prim.Native.Nat.{ℕ, _+_, _≤_, _<_, _^_};
-ghost use lib.ListN.{length, getD};
 ghost use Rattle.training.specs.Visits.{visited};
 ghost use Rattle.training.specs.Epochs.{epochOver};
 ghost use Rattle.feature_gen.specs.Sound.{Sound};
@@ -8,7 +6,7 @@ ghost use Rattle.training_check.specs.Sound.{SoundData};
 ghost use Rattle.prediction.specs.Tables.{modelAt, modelWas, dataAt, dataWas};
 ghost use Rattle.parameters.specs.Trainers.{ruleOf};
 ghost use Rattle.updates.specs.Updating.{stateOf, Agreed, Exact};
-ghost use Rattle.one_epoch.specs.Visited.{CountedIn};
+ghost use Rattle.one_epoch.specs.Visited.{Ahead, CountedIn};
 use parameters::Trainer;
 use prediction::Sizes;
 use training::Step;
@@ -41,8 +39,7 @@ pub fn epoch(
     requires { ⌜ Sound (modelAt sizes kinds destinations sources starts entries «label_starts» «label_entries») ⌝ }
     requires { ⌜ SoundData (sizes .labels) (dataAt sizes lines begins ids values references shares) ⌝ }
     requires { ⌜ Exact (sizes .features) (now weights) (now beside) (now truly) (now predicted) ⌝ }
-    requires { ⌜ (sizes .instances ≤ length (now order)) × ((j : ℕ) → j < sizes .instances → getD (now order) j 0 < sizes .instances) ⌝ }
-    requires { ⌜ (s .visits + sizes .instances ≤ 2 ^ 53) × (s .updates ≤ s .visits) ⌝ }
+    requires { ⌜ Ahead (sizes .instances) (now order) s ⌝ }
     ensures { λ r.
         let m = modelWas sizes kinds destinations sources starts entries «label_starts» «label_entries» in
         let d = dataWas sizes lines begins ids values references shares in

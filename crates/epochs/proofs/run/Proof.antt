@@ -73,7 +73,7 @@ epoch-requires c κs =
     let s = entry l in
     let i = l .loop .inv in
     let o = dealt-keeps _ _ _ (q .deal .ensures) (i .5) in
-    (s .pre .0, (s .pre .1 .0, (i .2, ((o .long, places-below _ _ o), (omega (arith, i .3, under q, s .pre .1 .1 .1 .0, s .pre .1 .0 .few), i .4)))))
+    (s .pre .0, (s .pre .1 .0, (i .2, record { long = o .long; among = places-below _ _ o; room = omega (arith, i .3, under q, s .pre .1 .1 .1 .0, s .pre .1 .0 .few); updates = i .4 })))
 
 add-e : tie.Need-add-e Inv-loop μ-loop
 add-e c =

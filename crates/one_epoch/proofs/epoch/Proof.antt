@@ -51,12 +51,12 @@ under a = let t : tie.In-loop Inv-loop μ-loop = search in t .loop-test .taken
 loop-holds : tie.Need-loop-holds Inv-loop μ-loop
 loop-holds c =
     let s : tie.Start Inv-loop μ-loop = search in
-    (omega arith, s .pre .1 .1 .0, omega arith, s .pre .1 .1 .1 .1 .1, refl, through-none _ _ _)
+    (omega arith, s .pre .1 .1 .0, omega arith, s .pre .1 .1 .1 .updates, refl, through-none _ _ _)
 
 at-requires : tie.Need-at-requires Inv-loop μ-loop
 at-requires c κs =
     let l : tie.At-loop Inv-loop μ-loop = search in
-    omega (arith, c .loop-test .taken, entry l .pre .1 .1 .1 .0 .0)
+    omega (arith, c .loop-test .taken, entry l .pre .1 .1 .1 .long)
 
 visit-requires : tie.Need-visit-requires Inv-loop μ-loop
 visit-requires c κs =
@@ -64,8 +64,8 @@ visit-requires c κs =
     let l = turn a in
     let s = entry l in
     let i = l .loop .inv in
-    let h = s .pre .1 .1 .1 .0 .1 (l .loop .j) (under a) in
-    (s .pre .0, (s .pre .1 .0, (i .1, (omega (arith, h, a .at .ensures), omega (arith, i .2, under a, s .pre .1 .1 .1 .1 .0), i .3))))
+    let h = s .pre .1 .1 .1 .among (l .loop .j) (under a) in
+    (s .pre .0, (s .pre .1 .0, (i .1, (omega (arith, h, a .at .ensures), omega (arith, i .2, under a, s .pre .1 .1 .1 .room), i .3))))
 
 is-refused-requires : tie.Need-is-refused-requires Inv-loop μ-loop
 is-refused-requires c κs = search needs
