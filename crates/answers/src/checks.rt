@@ -1,6 +1,6 @@
 // An answer that only says whether something is refused.
 ghost use mathlib.Core.Path.{_≡_};
-ghost use Rattle.refusal_rows.specs.Said.{saidOf};
+ghost use Rattle.refusals.specs.Said.{saidOf};
 ghost use Rattle.answers.specs.Numbers.{numbers};
 use refusals::Checked;
 

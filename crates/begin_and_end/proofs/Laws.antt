@@ -1,31 +1,35 @@
 -- The end of a training: what a run comes to, by the tests that the code makes. Assumes nothing.
 use mathlib.Core.Path.{_≡_, refl, sym, ap, _∙_}
-use mathlib.Core.Bool.{Bool, true, false, cond, false≢true, true≢false}
-use mathlib.Core.List.{List}
+use mathlib.Core.Bool.{Bool, true, false, cond, true≢false}
+use mathlib.Core.List.{List, [], _∷_}
 use Prim.Native.Nat.{ℕ, _+_}
+use denote.Enum.Declared.{tagOf}
+use types.Run.{OneOf, miss}
 use lib.ListN.{replicate}
 use lib.Ieee.{Float}
 use Rattle.lines.specs.Passes.{nought}
 use Rattle.lines.specs.Tables.{Model}
 use Rattle.refusals.specs.declared.Refusal.{Refusal}
+use Rattle.refusals.specs.Refusals.{numbered}
 use Rattle.training.specs.declared.Step.{Step}
 use Rattle.training.specs.declared.Visit.{Visit}
 use Rattle.training.specs.declared.Visit.the-variants.{Unchanged, Updated, Refused}
 use Rattle.training.specs.declared.Training.the-variants.{Accepted, Refused as NotTrained}
-use Rattle.training.specs.Data.{Data, whole, allFinite}
+use Rattle.training.proofs.Visit.{the-type}
+use Rattle.training.specs.Data.{Data, whole}
+use Rattle.fronts.specs.Finite.{allFinite}
 use Rattle.training.specs.Rules.{Rule, Learned, averagedBy}
 use Rattle.training.specs.Epochs.{Settings, Run, Result, isRefused, refusedWith, averaged, finished}
 use Rattle.begin_and_end.specs.declared.Ran.{Ran}
-use Rattle.begin_and_end.specs.Ending.{Finished}
-use Rattle.begin_and_end.specs.Ending.{whyOf, AveragedAs}
+use Rattle.begin_and_end.specs.Ending.{Finished, AveragedAs}
+
+-- a visit that is one of the two other variants was not refused
+pub not-refused : (v : Visit) → OneOf (0 ∷ 1 ∷ []) (tagOf the-type v) → isRefused v ≡ false
+not-refused Unchanged k = refl
+not-refused Updated k = refl
+not-refused (Refused why) k = absurd (miss (0 ∷ 1 ∷ []) 2 tt k)
 
 module _ (rule : Rule) (set : Settings) (m : Model) (d : Data) where
-  refused-end : (v : Visit) (r : Run) → isRefused v ≡ true → finished rule set m d v r ≡ refusedWith rule set m d (whyOf v)
-  unfolding finished
-  refused-end Unchanged r e = absurd (false≢true e)
-  refused-end Updated r e = absurd (false≢true e)
-  refused-end (Refused why) r e = refl
-
   averaged-end : (v : Visit) (r : Run) → isRefused v ≡ false → finished rule set m d v r ≡ averaged rule set m d r
   unfolding finished
   averaged-end Unchanged r e = refl
@@ -37,9 +41,11 @@ module _ (rule : Rule) (set : Settings) (m : Model) (d : Data) where
     same-end h = ap (λ (s : Step). isRefused (s .visit)) (sym (f .step)) ∙ h
 
     -- a visit was refused
-    pub visit-refused : isRefused (ran .step .visit) ≡ true → {why : Refusal} {z : List Float} → why ≡ whyOf (ran .step .visit) → z ≡ replicate features nought → _≡_ {A = Result} (record { answer = NotTrained why; weights = z }) (finished rule set m d (r .state .step .visit) r)
-    unfolding refusedWith
-    visit-refused h p q = rw (refused-end (r .state .step .visit) r (same-end h), p, q, f .step, e)
+    pub visit-refused : {why : Refusal} {z : List Float} → ran .step .visit ≡ Refused why → z ≡ replicate features nought → _≡_ {A = Result} (record { answer = NotTrained why; weights = z }) (finished rule set m d (r .state .step .visit) r)
+    unfolding finished refusedWith
+    visit-refused {why} h q =
+        let v : r .state .step .visit ≡ Refused why = ap (λ (s : Step). s .visit) (sym (f .step)) ∙ h in
+        rw (v, q, e)
 
     module _ (h : isRefused (ran .step .visit) ≡ false) {w : List Float} {all : Bool} (a : AveragedAs rule features (whole (ran .step .visits + 1)) (record { weights = weights; beside = beside }) w all) where
       averaged-are : averagedBy rule (m .features .count) (whole (r .state .step .visits + 1)) (r .state .learned) ≡ w
@@ -53,6 +59,6 @@ module _ (rule : Rule) (set : Settings) (m : Model) (d : Data) where
       accepted t = rw (averaged-end (r .state .step .visit) r (same-end h), finite-are t, averaged-are, f .epochs (same-end h), f .step)
 
       -- 9 for the averaging
-      pub averaging-refused : all ≡ false → {z : List Float} → z ≡ replicate features nought → _≡_ {A = Result} (record { answer = NotTrained (record { number = 9; place = ran .step .visits }); weights = z }) (finished rule set m d (r .state .step .visit) r)
+      pub averaging-refused : all ≡ false → {why : Refusal} {z : List Float} → why ≡ numbered 9 (ran .step .visits) → z ≡ replicate features nought → _≡_ {A = Result} (record { answer = NotTrained why; weights = z }) (finished rule set m d (r .state .step .visit) r)
       unfolding averaged refusedWith
-      averaging-refused t q = rw (averaged-end (r .state .step .visit) r (same-end h), finite-are t, q, f .step, e)
+      averaging-refused t p q = rw (p, averaged-end (r .state .step .visit) r (same-end h), finite-are t, q, f .step, e)

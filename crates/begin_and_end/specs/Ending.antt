@@ -6,19 +6,10 @@ use Prim.Native.Nat.{ℕ, _≤_}
 use lib.ListN.{replicate}
 use lib.Ieee.{Float}
 use Rattle.lines.specs.Passes.{nought}
-use Rattle.refusals.specs.declared.Refusal.{Refusal}
-use Rattle.training.specs.declared.Visit.{Visit}
-use Rattle.training.specs.declared.Visit.the-variants.{Unchanged, Updated, Refused}
-use Rattle.training.specs.Data.{allFinite}
+use Rattle.fronts.specs.Finite.{allFinite}
 use Rattle.training.specs.Rules.{Rule, Learned, besideAtFirst, averagedBy}
 use Rattle.training.specs.Epochs.{Run, isRefused, upTo}
 use Rattle.begin_and_end.specs.declared.Ran.{Ran}
-
--- what a refused visit carries; of another nobody asks
-abbrev pub whyOf : Visit → Refusal
-whyOf Unchanged = record { number = 0; place = 0 }
-whyOf Updated = record { number = 0; place = 0 }
-whyOf (Refused why) = why
 
 -- "Weights start at 0", "Order starts 0 to N−1"
 pub record Begun (rule : Rule) (features instances : ℕ) (order : List ℕ) (weights beside : List Float) : Type 0 where

@@ -12,9 +12,8 @@ ghost use Rattle.training.specs.Data.{Data};
 ghost use Rattle.training.specs.Rules.{Learned, besideAtFirst, averagedAt, averagedBy};
 ghost use Rattle.training.specs.Epochs.{Settings, Run, Result, finished};
 ghost use Rattle.parameters.specs.Trainers.{ruleOf};
-ghost use Rattle.begin_and_end.specs.Ending.{whyOf, Begun, Swept, AveragedAs, Finished};
+ghost use Rattle.begin_and_end.specs.Ending.{Begun, Swept, AveragedAs, Finished};
 use parameters::Trainer;
-use refusals::Refusal;
 use training::Step;
 use training::Trained;
 use training::Training;
@@ -50,8 +49,8 @@ pub fn begin(
     ensures { λ _. ⌜ Begun (ruleOf trainer) features instances (now (order .exit)) (now (weights .exit)) (now (beside .exit)) ⌝ }
 {
     training_tables::count_up(order, instances as u32);
-    training_tables::fill(weights, features, 0.0);
-    training_tables::fill(beside, features, first_beside(trainer));
+    fronts::fill(weights, features, 0.0);
+    fronts::fill(beside, features, first_beside(trainer));
 }
 
 // An epoch begins: the order of the epoch before is shuffled. The answer is the generator's state to go on with.
@@ -92,24 +91,7 @@ fn average(
     if is_averaging(trainer) {
         return training_tables::average(features, counter, beside, weights);
     }
-    training_tables::all_finite(weights, features)
-}
-
-// What a refused visit carries.
-fn why_of(v: Visit) -> Refusal
-    ensures { λ r. ⌜ r ≡ whyOf v ⌝ }
-{
-    match v {
-        Visit::Refused(why) => why,
-        Visit::Updated => Refusal {
-            number: 0,
-            place: 0,
-        },
-        Visit::Unchanged => Refusal {
-            number: 0,
-            place: 0,
-        },
-    }
+    fronts::all_finite(weights, features)
 }
 
 // The answer and the trained weights: zero where a visit was refused, or the averaging by 9.
@@ -126,9 +108,9 @@ pub fn conclude(
     let step = ran.step;
     let visit = step.visit;
     let visits = step.visits;
-    if steps::is_refused(visit) {
-        training_tables::fill(weights, features, 0.0);
-        return Training::Refused(why_of(visit));
+    if let Visit::Refused(why) = visit {
+        fronts::fill(weights, features, 0.0);
+        return Training::Refused(why);
     }
     let counter = (visits + 1) as f64;
     if average(trainer, features, counter, beside, weights) {
@@ -138,11 +120,8 @@ pub fn conclude(
             updates: step.updates,
         });
     }
-    training_tables::fill(weights, features, 0.0);
-    Training::Refused(Refusal {
-        number: 9,
-        place: visits,
-    })
+    fronts::fill(weights, features, 0.0);
+    Training::Refused(refusals::numbered(9, visits))
 }
 
 // The work tables are zero at the end.
@@ -157,8 +136,8 @@ pub fn sweep(
     requires { ⌜ (length (now order) ≡ instances) × (length (now beside) ≡ features) × (length (now truly) ≡ features) × (length (now predicted) ≡ features) ⌝ }
     ensures { λ _. ⌜ Swept features instances (now (order .exit)) (now (beside .exit)) (now (truly .exit)) (now (predicted .exit)) ⌝ }
 {
-    training_tables::clear(order, instances);
-    training_tables::fill(beside, features, 0.0);
-    training_tables::fill(truly, features, 0.0);
-    training_tables::fill(predicted, features, 0.0);
+    fronts::clear(order, instances);
+    fronts::fill(beside, features, 0.0);
+    fronts::fill(truly, features, 0.0);
+    fronts::fill(predicted, features, 0.0);
 }

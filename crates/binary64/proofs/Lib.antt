@@ -3,3 +3,5 @@ pub mod Order
 pub mod Sums
 pub mod Finite
 mod Itself
+pub mod Gap
+pub mod Units

@@ -1,13 +1,87 @@
-// The state and transition scores of a line: `compute_scores` of crf_context.rs, over flat tables and into lent buffers.
+// The state and transition scores of a line: `compute_scores` of crf_context.rs, over flat tables and into lent buffers. First the
+// loops, which training uses too; then the call, which tests all it is given, with refusals 1 to 6 beforehand and 8 afterwards.
 ghost use mathlib.Core.Path.{_≡_};
-ghost use mathlib.Core.List.{[], _++_};
-ghost use Prim.Native.Nat.{ℕ, _+_, _-_, _*_, _≤_};
-ghost use lib.ListN.{length, drop};
+ghost use mathlib.Core.List.{_++_, []};
+ghost use Prim.Native.Nat.{_*_, _≤_, _<_, _+_, ℕ, _-_};
+ghost use lib.ListN.{length, drop, getD};
+ghost use Rattle.feature_gen.specs.Lent.{modelOf};
+ghost use Rattle.line_check.specs.Sound.{SoundScoring};
+ghost use Rattle.compute_scores.specs.Promise.{statesOfLine, transitionsOfLine, Promised};
+ghost use Rattle.lines.specs.Spans.{throughSpan, SoundSpan};
+ghost use Rattle.lines.specs.Sound.{SoundTransitions, SoundStates, SoundLists, SoundWords};
+ghost use Rattle.lines.specs.Scored.{transitionEntry, stateEntry, scoredAt, statesOf, transitionsOf};
+ghost use Rattle.lines.specs.Lent.{bare, withTransitions, withStates};
 ghost use Rattle.lines.specs.Passes.{through};
 ghost use Rattle.lines.specs.Tables.{Model};
-ghost use Rattle.lines.specs.Sound.{SoundLists, SoundWords, SoundStates, SoundTransitions};
-ghost use Rattle.lines.specs.Scored.{scoredAt, statesOf, transitionsOf};
-ghost use Rattle.lines.specs.Lent.{bare, withStates, withTransitions};
+use feature_gen::Counts;
+use lines::Attribute;
+use lines::Span;
+use refusals::Checked;
+
+// The entry at a place of the attribute lists: a State adds weight·value in the word's row, at its destination.
+fn state_entry(
+    labels: usize,
+    features: usize,
+    kinds: &[u8],
+    destinations: &[u32],
+    weights: &[f64],
+    entries: &[u32],
+    word: usize,
+    value: f64,
+    e: usize,
+    states: &mut [f64],
+)
+    requires { ⌜ SoundStates labels features (now kinds) (now destinations) (now weights) ⌝ }
+    requires { ⌜ e < length (now entries) ⌝ }
+    requires { ⌜ getD (now entries) e 0 < features ⌝ }
+    requires { ⌜ (word + 1) * labels ≤ length (now states) ⌝ }
+    ensures { λ _. ⌜ now (states .exit) ≡ stateEntry (withStates bare labels features (now (kinds .entry)) (now (destinations .entry)) 0 [] (now (entries .entry))) (now (weights .entry)) word value e (now (states .entry)) ⌝ }
+{
+    let i = lines::at(entries, e);
+    if kinds[i] == 0 {
+        let p = word * labels + lines::at(destinations, i);
+        let weight = weights[i];
+        states[p] = states[p] + weight * value;
+    }
+}
+
+// An attribute of a word, with the places of its list.
+pub fn score_attribute(
+    labels: usize,
+    features: usize,
+    kinds: &[u8],
+    destinations: &[u32],
+    weights: &[f64],
+    entries: &[u32],
+    word: usize,
+    attribute: Attribute,
+    span: Span,
+    states: &mut [f64],
+)
+    requires { ⌜ SoundStates labels features (now kinds) (now destinations) (now weights) ⌝ }
+    requires { ⌜ SoundSpan span (now entries) features ⌝ }
+    requires { ⌜ (word + 1) * labels ≤ length (now states) ⌝ }
+    ensures { λ _. ⌜ now (states .exit) ≡ throughSpan (stateEntry (withStates bare labels features (now (kinds .entry)) (now (destinations .entry)) 0 [] (now (entries .entry))) (now (weights .entry)) word (attribute .value)) span (now (states .entry)) ⌝ }
+{
+    let value = attribute.value;
+    let last = span.last;
+    let mut e = span.first;
+    while e < last {
+        state_entry(
+            labels,
+            features,
+            kinds,
+            destinations,
+            weights,
+            entries,
+            word,
+            value,
+            e,
+            states,
+        );
+        e += 1;
+    }
+}
 
 // The attributes of a word, in order. The next attribute's list is found before the entries of this one are added, so that no
 // entry waits for the starts.
@@ -41,7 +115,7 @@ fn score_word(
         while a < to {
             let next = lines::attribute_before(ids, values, to, a + 1);
             let ahead = lines::attribute_span(lists, starts, next);
-            score_attribute::score_attribute(
+            score_attribute(
                 labels,
                 features,
                 kinds,
@@ -83,7 +157,7 @@ pub fn score_line(
     requires { ⌜ words * labels ≤ length (now states) ⌝ }
     ensures { λ _. ⌜ ((rest : Model) (size : ℕ) → now (states .exit) ≡ statesOf (withStates rest labels features (now (kinds .entry)) (now (destinations .entry)) lists (now (starts .entry)) (now (entries .entry))) (now (weights .entry)) (record { starts = now (begins .entry); size = size; ids = now (ids .entry); values = now (values .entry) }) first words ++ drop (words * labels) (now (states .entry))) ⌝ }
 {
-    lines::clear_front(states, words * labels);
+    fronts::fill(states, words * labels, 0.0);
     let mut word = 0;
     while word < words {
         let from = lines::at(begins, first + word);
@@ -108,6 +182,68 @@ pub fn score_line(
     }
 }
 
+// The entry at a place of the label lists: a Transition adds its weight at its own source and destination.
+fn transition_entry(
+    labels: usize,
+    features: usize,
+    kinds: &[u8],
+    destinations: &[u32],
+    sources: &[u32],
+    weights: &[f64],
+    entries: &[u32],
+    e: usize,
+    transitions: &mut [f64],
+)
+    requires { ⌜ SoundTransitions labels features (now kinds) (now destinations) (now sources) (now weights) ⌝ }
+    requires { ⌜ e < length (now entries) ⌝ }
+    requires { ⌜ getD (now entries) e 0 < features ⌝ }
+    requires { ⌜ labels * labels ≤ length (now transitions) ⌝ }
+    ensures { λ _. ⌜ now (transitions .exit) ≡ transitionEntry (withTransitions bare labels features (now (kinds .entry)) (now (destinations .entry)) (now (sources .entry)) 0 [] (now (entries .entry))) (now (weights .entry)) e (now (transitions .entry)) ⌝ }
+{
+    let i = lines::at(entries, e);
+    if kinds[i] == 1 {
+        let source = lines::at(sources, i);
+        let destination = lines::at(destinations, i);
+        let p = source * labels + destination;
+        transitions[p] = transitions[p] + weights[i];
+    }
+}
+
+// The entries of a label's list.
+pub fn score_label(
+    labels: usize,
+    features: usize,
+    kinds: &[u8],
+    destinations: &[u32],
+    sources: &[u32],
+    weights: &[f64],
+    entries: &[u32],
+    span: Span,
+    transitions: &mut [f64],
+)
+    requires { ⌜ SoundTransitions labels features (now kinds) (now destinations) (now sources) (now weights) ⌝ }
+    requires { ⌜ SoundSpan span (now entries) features ⌝ }
+    requires { ⌜ labels * labels ≤ length (now transitions) ⌝ }
+    ensures { λ _. ⌜ now (transitions .exit) ≡ throughSpan (transitionEntry (withTransitions bare labels features (now (kinds .entry)) (now (destinations .entry)) (now (sources .entry)) 0 [] (now (entries .entry))) (now (weights .entry))) span (now (transitions .entry)) ⌝ }
+{
+    let last = span.last;
+    let mut e = span.first;
+    while e < last {
+        transition_entry(
+            labels,
+            features,
+            kinds,
+            destinations,
+            sources,
+            weights,
+            entries,
+            e,
+            transitions,
+        );
+        e += 1;
+    }
+}
+
 // The transition scores, in the front of the buffer: the label lists numbered below both L and their number, rising.
 pub fn score_transitions(
     labels: usize,
@@ -126,12 +262,12 @@ pub fn score_transitions(
     requires { ⌜ labels * labels ≤ length (now transitions) ⌝ }
     ensures { λ _. ⌜ ((rest : Model) → now (transitions .exit) ≡ transitionsOf (withTransitions rest labels features (now (kinds .entry)) (now (destinations .entry)) (now (sources .entry)) lists (now (starts .entry)) (now (entries .entry))) (now (weights .entry)) ++ drop (labels * labels) (now (transitions .entry))) ⌝ }
 {
-    lines::clear_front(transitions, labels * labels);
+    fronts::fill(transitions, labels * labels, 0.0);
     let shared = lines::smaller(labels, lists);
     let mut label = 0;
     while label < shared {
         let span = lines::list_span(lists, starts, label);
-        score_label::score_label(
+        score_label(
             labels,
             features,
             kinds,
@@ -144,4 +280,127 @@ pub fn score_transitions(
         );
         label += 1;
     }
+}
+
+// The scores of a line that is accepted, in the fronts of the buffers.
+pub fn fill_scores(
+    labels: u32,
+    words: u32,
+    counts: Counts,
+    kinds: &[u8],
+    destinations: &[u32],
+    sources: &[u32],
+    weights: &[f64],
+    attribute_starts: &[u32],
+    attribute_entries: &[u32],
+    label_starts: &[u32],
+    label_entries: &[u32],
+    attributes: u32,
+    begins: &[u32],
+    ids: &[u32],
+    values: &[f64],
+    transitions: &mut [f64],
+    states: &mut [f64],
+)
+    requires { ⌜ SoundScoring (record { model = modelOf labels counts (now kinds) (now destinations) (now sources) (now «attribute_starts») (now «attribute_entries») (now «label_starts») (now «label_entries»); weights = now weights; words = words; line = record { starts = now begins; size = attributes; ids = now ids; values = now values }; transitions = length (now transitions); states = length (now states) }) ⌝ }
+    ensures { λ _. ⌜ now (transitions .exit) ≡ transitionsOfLine (record { model = modelOf labels counts (now (kinds .entry)) (now (destinations .entry)) (now (sources .entry)) (now («attribute_starts» .entry)) (now («attribute_entries» .entry)) (now («label_starts» .entry)) (now («label_entries» .entry)); weights = now (weights .entry); words = words; line = record { starts = now (begins .entry); size = attributes; ids = now (ids .entry); values = now (values .entry) } }) ++ drop (labels * labels) (now (transitions .entry)) ⌝ }
+    ensures { λ _. ⌜ now (states .exit) ≡ statesOfLine (record { model = modelOf labels counts (now (kinds .entry)) (now (destinations .entry)) (now (sources .entry)) (now («attribute_starts» .entry)) (now («attribute_entries» .entry)) (now («label_starts» .entry)) (now («label_entries» .entry)); weights = now (weights .entry); words = words; line = record { starts = now (begins .entry); size = attributes; ids = now (ids .entry); values = now (values .entry) } }) ++ drop (words * labels) (now (states .entry)) ⌝ }
+{
+    let width = labels as usize;
+    let features = counts.features as usize;
+    score_line(
+        width,
+        features,
+        kinds,
+        destinations,
+        weights,
+        counts.attribute_lists as usize,
+        attribute_starts,
+        attribute_entries,
+        begins,
+        ids,
+        values,
+        0,
+        words as usize,
+        states,
+    );
+    score_transitions(
+        width,
+        features,
+        kinds,
+        destinations,
+        sources,
+        weights,
+        counts.label_lists as usize,
+        label_starts,
+        label_entries,
+        transitions,
+    );
+}
+
+// The transition and state scores of a line, in the fronts of `transitions` and `states`; or the refusal.
+pub fn compute_scores(
+    labels: u32,
+    words: u32,
+    counts: Counts,
+    kinds: &[u8],
+    destinations: &[u32],
+    sources: &[u32],
+    weights: &[f64],
+    attribute_starts: &[u32],
+    attribute_entries: &[u32],
+    label_starts: &[u32],
+    label_entries: &[u32],
+    attributes: u32,
+    begins: &[u32],
+    ids: &[u32],
+    values: &[f64],
+    transitions: &mut [f64],
+    states: &mut [f64],
+) -> Checked
+    ensures { λ r. ⌜ Promised (record { model = modelOf labels counts (now (kinds .entry)) (now (destinations .entry)) (now (sources .entry)) (now («attribute_starts» .entry)) (now («attribute_entries» .entry)) (now («label_starts» .entry)) (now («label_entries» .entry)); weights = now (weights .entry); words = words; line = record { starts = now (begins .entry); size = attributes; ids = now (ids .entry); values = now (values .entry) } }) (record { transitions = now (transitions .entry); states = now (states .entry) }) (record { answer = r; transitions = now (transitions .exit); states = now (states .exit) }) ⌝ }
+{
+    let checked = line_check::check_scoring(
+        labels,
+        counts,
+        kinds,
+        destinations,
+        sources,
+        weights,
+        attribute_starts,
+        attribute_entries,
+        label_starts,
+        label_entries,
+        words,
+        attributes,
+        begins,
+        ids,
+        values,
+        transitions.len(),
+        states.len(),
+    );
+    if let Checked::Refused(why) = checked {
+        return finished::refuse_scores(why, states, transitions);
+    }
+    fill_scores(
+        labels,
+        words,
+        counts,
+        kinds,
+        destinations,
+        sources,
+        weights,
+        attribute_starts,
+        attribute_entries,
+        label_starts,
+        label_entries,
+        attributes,
+        begins,
+        ids,
+        values,
+        transitions,
+        states,
+    );
+    let finished = finished::finish_scores(labels, words, transitions, states);
+    finished
 }

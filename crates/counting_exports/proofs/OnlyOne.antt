@@ -2,7 +2,7 @@
 use mathlib.Core.Path.{_≡_, sym, _∙_}
 use mathlib.Core.List.{List}
 use lib.Ieee.{Float}
-use Rattle.counting.specs.Promise.{Given}
+use Rattle.extract_features.specs.Promise.{Given}
 use Rattle.counting_exports.specs.Counts.{Outcome, Counted}
 
 pub one-counted : (given : Given) (before : List Float) (a b : Outcome) → Counted given before a → Counted given before b → a ≡ b

@@ -2,7 +2,7 @@
 use mathlib.Core.Path.{_≡_}
 use mathlib.Core.List.{List}
 use lib.Ieee.{Float}
-use Rattle.counting.specs.Promise.{Given, answerTo, amountsAfter}
+use Rattle.extract_features.specs.Promise.{Given, answerTo, amountsAfter}
 use Rattle.answers.specs.declared.checks.Refused.{Refused}
 use Rattle.answers.specs.Numbers.{numbers}
 

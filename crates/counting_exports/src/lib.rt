@@ -26,7 +26,7 @@ pub extern "C" fn bodkinbloom_extract_features(
 ) -> Refused
     ensures { λ r. ⌜ Counted (record { model = modelOf labels counts (now (kinds .entry)) (now (destinations .entry)) (now (sources .entry)) (now («attribute_starts» .entry)) (now («attribute_entries» .entry)) (now («label_starts» .entry)) (now («label_entries» .entry)); words = words; line = record { starts = now («word_starts» .entry); size = attributes; ids = now (ids .entry); values = now (values .entry) }; path = now (path .entry) }) (now («feature_counts» .entry)) (record { answer = r; counts = now («feature_counts» .exit) }) ⌝ }
 {
-    let answer = counting::extract_features(
+    let answer = extract_features::extract_features(
         labels,
         words,
         counts,

@@ -6,6 +6,7 @@ use native.Mathlib.Omega.{arith}
 use lib.ListN.{length, take, drop}
 use lib.Seq.{take-at}
 use lib.Ieee.{Float}
+use Rattle.refusals.specs.Said.{accepted}
 use Rattle.best_path.specs.Decoded.{decodedPath, decodedSum}
 use Rattle.best_path.specs.BestPath.{BestPath}
 use Rattle.best_path.proofs.Laws.{tabled-finite}
@@ -15,7 +16,7 @@ use Rattle.sheet.proofs.Files.{labels-back, words-back, transitions-back, state
 use Rattle.answer_line.specs.Line.{pathLine}
 use Rattle.answer_line.proofs.OneSaying.{one-saying}
 use Rattle.decode_sheet.specs.Answer.{pathLineOf, lineChecked}
-use Rattle.decode_sheet.specs.Promise.{Given, Outcome, said, path, answerTo, lineAfter, Promised}
+use Rattle.decode_sheet.specs.Promise.{Given, Outcome, said, answerTo, lineAfter, Promised}
 use Rattle.decode_sheet.specs.Program.{printedLine}
 use Rattle.decode_sheet.specs.Meaning.{SaysPath}
 use Rattle.decode_sheet.specs.Best.{scoresOf, SaysBest, PrintedPathsAreBest, AnsweredPathsAreBest}
@@ -61,7 +62,7 @@ printed-paths-are-best bytes before size after p =
     }
 
 -- the line that was written
-answered-line : (given : Given) (before : List ℕ) (outcome : Outcome) → Promised given before outcome → (size : ℕ) → said (outcome .answer) ≡ path size → take size (outcome .line) ≡ pathLineOf (given .bytes)
+answered-line : (given : Given) (before : List ℕ) (outcome : Outcome) → Promised given before outcome → (size : ℕ) → said (outcome .answer) ≡ accepted size → take size (outcome .line) ≡ pathLineOf (given .bytes)
 unfolding answerTo lineAfter
 answered-line given before outcome p size h =
     let text = pathLineOf (given .bytes) in
@@ -72,7 +73,7 @@ pub answered-paths-are-best : AnsweredPathsAreBest
 answered-paths-are-best given before outcome p =
     let m = answering-means given before outcome p .accepted in
     let line = answered-line given before outcome p in
-    let every : (s : Sheet) → Sound s → given .bytes ≡ encoded s → (size : ℕ) → said (outcome .answer) ≡ path size → SaysBest s (take size (outcome .line)) = λ s sound e size h. says-best s sound _ (line size h ∙ ap pathLineOf e ∙ path-line-back s sound) in
+    let every : (s : Sheet) → Sound s → given .bytes ≡ encoded s → (size : ℕ) → said (outcome .answer) ≡ accepted size → SaysBest s (take size (outcome .line)) = λ s sound e size h. says-best s sound _ (line size h ∙ ap pathLineOf e ∙ path-line-back s sound) in
     record {
       every = λ s sound e long.
           let a = m .1 (rw e (right-file s sound), long) in

@@ -14,10 +14,10 @@ use Rattle.refusals.specs.declared.Checked.{Checked}
 use Rattle.refusals.specs.declared.Checked.the-variants.{Accepted, Refused}
 use Rattle.refusals.specs.Refusals.{refusedAt, orNext}
 use Rattle.refusals.proofs.Laws.{all-accepted}
-use Rattle.sheet_check.specs.Rows.{headRows}
-use Rattle.sheet_check.specs.Meaning.{InBounds, RightLength}
-use Rattle.sheet_check.proofs.Rows.{headChecked, head-refused, sizes-refused}
-use Rattle.sheet_check.proofs.Meant.{in-bounds, file-means}
+use Rattle.sheet.specs.Rows.{headRows}
+use Rattle.sheet.specs.RowsMeaning.{InBounds, RightLength}
+use Rattle.sheet.proofs.Rows.{headChecked, head-refused, sizes-refused}
+use Rattle.sheet.proofs.RowsMeant.{in-bounds, file-means}
 use Rattle.decode_sheet.specs.Answer.{lineShort, lineChecked, pathLineOf}
 use Rattle.decode_sheet.specs.Program.{lineSaid, printedLine}
 use Rattle.decode_sheet.specs.Front.{longestSheet, FrontDecides}

@@ -10,12 +10,12 @@ use Rattle.refusals.specs.declared.Refusal.{Refusal}
 use Rattle.refusals.specs.declared.Checked.the-variants.{Accepted, Refused}
 use Rattle.score_tables.specs.Sound.{Sound}
 use Rattle.sheet.specs.declared.Reading.{Reading}
-use Rattle.sheet_bytes.specs.Fields.{labelsIn, wordsIn, transitionsIn, statesIn}
-use Rattle.sheet_check.specs.Rows.{Lent, sheetChecked}
+use Rattle.sheet.specs.Fields.{labelsIn, wordsIn, transitionsIn, statesIn}
+use Rattle.sheet.specs.Rows.{Lent, sheetChecked}
 use Rattle.sheet.specs.Promise as reader
 use Rattle.sheet.proofs.Meant.{refused-by}
-use Rattle.sheet_check.proofs.Rows.{accepts}
-use Rattle.sheet_check.proofs.Meant.{file-means}
+use Rattle.sheet.proofs.Rows.{accepts}
+use Rattle.sheet.proofs.RowsMeant.{file-means}
 use Rattle.answer_line.specs.Line as line
 use Rattle.decode_sheet.specs.declared.Written.{Written}
 use Rattle.decode_sheet.specs.Answer.{pathLineOf, lineChecked}

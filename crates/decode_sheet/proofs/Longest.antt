@@ -15,7 +15,7 @@ use Rattle.sheet.specs.File.{Sheet, encoded, Finite64, Sound}
 use Rattle.sheet.proofs.Files.{long}
 use Rattle.answer_line.specs.Line.{pathLine}
 use Rattle.answer_line.proofs.OneSaying.{one-saying}
-use Rattle.sheet_check.proofs.Rows.{headChecked}
+use Rattle.sheet.proofs.Rows.{headChecked}
 use Rattle.decode_sheet.specs.Answer.{pathLineOf, lineChecked}
 use Rattle.decode_sheet.specs.Program.{lineSaid, printedLine}
 use Rattle.decode_sheet.specs.Front.{longestSheet, LessDoesNot}

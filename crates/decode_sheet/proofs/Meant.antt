@@ -13,21 +13,22 @@ use lib.Ieee.Bits.{ofBits-fits}
 use lib.Ieee.Fits.{nan-fits, add-fits}
 use Rattle.refusals.specs.declared.Checked.{Checked}
 use Rattle.refusals.specs.declared.Checked.the-variants.{Accepted, Refused}
-use Rattle.refusals.specs.Refusals.{refusedAt}
+use Rattle.refusals.specs.Refusals.{numbered, refusedAt}
 use Rattle.best_path.specs.Scores.{Scores, extended}
 use Rattle.best_path.specs.Decoded.{best, lastLabel, decodedPath, decodedSum}
 use Rattle.best_path.proofs.Laws.{decoded-length, decoded-allowed}
 use Rattle.score_tables.specs.Meaning.{Row, in-transitions, in-states, SixAt}
 use Rattle.score_tables.proofs.Order.{row}
 use Rattle.refusal_rows.specs.Given.{OneOf}
-use Rattle.sheet_bytes.specs.Fields.{labelsIn, wordsIn, numbersIn, transitionsIn, statesIn}
-use Rattle.sheet_check.specs.Meaning.{InBounds, Meaning}
-use Rattle.sheet_check.proofs.Meant.{file-means, said-so}
-use Rattle.sheet.proofs.Once.{same-refusal}
+use Rattle.sheet.specs.Fields.{labelsIn, wordsIn, numbersIn, transitionsIn, statesIn}
+use Rattle.sheet.specs.RowsMeaning.{InBounds, Meaning}
+use Rattle.sheet.proofs.RowsMeant.{file-means, said-so}
+use Rattle.refusals.specs.Said.{Said, accepted, refused}
+use Rattle.refusals.proofs.Said.{same-parts}
 use Rattle.answer_line.specs.Claims.{Sayable}
 use Rattle.answer_line.proofs.OneSaying.{one-saying}
 use Rattle.decode_sheet.specs.Answer.{scoresIn, pathLineOf, lineShort, lineChecked}
-use Rattle.decode_sheet.specs.Promise.{Said, path, refused, answerBy, answerTo}
+use Rattle.decode_sheet.specs.Promise.{answerBy, answerTo}
 use Rattle.decode_sheet.specs.Program.{lineSaid, printedLine, Printed}
 use Rattle.decode_sheet.specs.Meaning.{AnsweringMeans, SaysRefused, SaysPath, PrintingMeans}
 use Rattle.decode_sheet.proofs.Rows.{line-means}
@@ -35,14 +36,14 @@ use Rattle.decode_sheet.proofs.Print.{path-by, refused-by}
 
 -- ---- the call
 
-module _ (text : List ℕ) (said : Said) (c : Checked) (e : said ≡ answerBy c text) where
-  refused-said : (number place : ℕ) → said ≡ refused number place ↔ c ≡ refusedAt number place
+module _ (text : List ℕ) (said : Said ℕ) (c : Checked) (e : said ≡ answerBy c text) where
+  refused-said : (number place : ℕ) → said ≡ refused (numbered number place) ↔ c ≡ refusedAt number place
   refused-said number place = (
-    λ h. refused-by text c (record { number = number; place = place }) (sym h ∙ e),
+    λ h. refused-by text c (numbered number place) (sym h ∙ e),
     λ h. e ∙ ap (λ (c : Checked). answerBy c text) h,
   )
 
-  pub path-said : ((size : ℕ) × (said ≡ path size)) ↔ c ≡ Accepted
+  pub path-said : ((size : ℕ) × (said ≡ accepted size)) ↔ c ≡ Accepted
   path-said = (λ h. path-by text c (h .0) (sym (h .1) ∙ e) .0, λ h. (length text, e ∙ ap (λ (c : Checked). answerBy c text) h))
 
 pub answering-means : AnsweringMeans
@@ -125,7 +126,7 @@ module _ (bytes line : List ℕ) (printed : line ≡ printedLine bytes) where
       to h (Refused why) e =
           let k = known bytes (why .number) (why .place) e in
           let s = one-saying .refused (why .number) (why .place) number place (k .0) (k .1) (h .number-in) (h .place-in) (sym (by-rows _ e) ∙ h .says) in
-          e ∙ ap Refused (same-refusal why (record { number = number; place = place }) (s .0) (s .1))
+          e ∙ ap Refused (same-parts why (numbered number place) (s .0) (s .1))
 
       from : lineChecked bytes 406 ≡ refusedAt number place → SaysRefused line number place
       from h = let k = known bytes number place h in record { number-in = k .0; place-in = k .1; says = by-rows _ h }

@@ -2,7 +2,7 @@
 use mathlib.Core.Path.{_≡_, sym, _∙_, ap}
 use Prim.Native.Nat.{ℕ}
 use native.Mathlib.Omega.{arith}
-use Rattle.sheet.proofs.Once.{same-refusal}
+use Rattle.refusals.proofs.Said.{same-refusal}
 use Rattle.decode_sheet.specs.declared.Written.{Written}
 use Rattle.decode_sheet.specs.declared.Written.the-variants.{Path, Refused}
 use Rattle.decode_sheet.specs.Promise.{Outcome, said, OnlyOne}
@@ -13,7 +13,7 @@ said-tells : (a b : Written) → said a ≡ said b → a ≡ b
 said-tells (Path m) (Path n) h = cc
 said-tells (Path m) (Refused why) h = let z : _≡_ {A = ℕ} 0 1 = cc in absurd (omega arith)
 said-tells (Refused why) (Path n) h = let z : _≡_ {A = ℕ} 0 1 = cc in absurd (omega arith)
-said-tells (Refused why) (Refused other) h = ap Refused (same-refusal why other (cc) (cc))
+said-tells (Refused why) (Refused other) h = ap Refused (same-refusal h)
 
 pub only-one : OnlyOne
 only-one given before o p h k = rebuilt (said-tells (o .answer) (p .answer) (h .answers ∙ sym (k .answers))) (h .fills-line ∙ sym (k .fills-line))

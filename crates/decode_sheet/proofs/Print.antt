@@ -1,5 +1,5 @@
 -- From what is promised of the line to what is printed. Assumes nothing.
-use mathlib.Core.Path.{_≡_, refl, _∙_, ap}
+use mathlib.Core.Path.{_≡_, refl, sym, _∙_, ap}
 use mathlib.Core.List.{List}
 use Prim.Native.Nat.{ℕ, _≤_}
 use native.Mathlib.Omega.{arith}
@@ -10,10 +10,11 @@ use Rattle.refusals.specs.declared.Checked.the-variants.{Accepted, Refused}
 use Rattle.answer_line.specs.Line as line
 use Rattle.answer_line.specs.Line.{refusedLine, Room}
 use Rattle.answer_line.proofs.Longest.{longest}
-use Rattle.sheet.proofs.Once.{same-refusal}
+use Rattle.refusals.specs.Said.{accepted, refused}
+use Rattle.refusals.proofs.Said.{same-refusal}
 use Rattle.decode_sheet.specs.declared.Written.{Written}
 use Rattle.decode_sheet.specs.Answer.{pathLineOf, lineChecked}
-use Rattle.decode_sheet.specs.Promise.{Outcome, path, refused, answerBy, answerTo, lineAfter, Promised}
+use Rattle.decode_sheet.specs.Promise.{Outcome, answerBy, answerTo, lineAfter, Promised}
 use Rattle.decode_sheet.specs.Program.{printedLine, Printed}
 
 -- the room of a refusal's line
@@ -21,13 +22,13 @@ pub refused-room : (number place : ℕ) (l : List ℕ) → length l ≡ 406 → 
 refused-room number place l e = record { room = omega (arith, longest .refused number place) }
 
 -- what the answer says of the rows
-pub path-by : (text : List ℕ) (c : Checked) (size : ℕ) → path size ≡ answerBy c text → (c ≡ Accepted) × (size ≡ length text)
+pub path-by : (text : List ℕ) (c : Checked) (size : ℕ) → accepted size ≡ answerBy c text → (c ≡ Accepted) × (size ≡ length text)
 path-by text Accepted size h = (refl, cc)
 path-by text (Refused why) size h = let z : _≡_ {A = ℕ} 0 1 = cc in absurd (omega arith)
 
-pub refused-by : (text : List ℕ) (c : Checked) (why : Refusal) → refused (why .number) (why .place) ≡ answerBy c text → c ≡ Refused why
+pub refused-by : (text : List ℕ) (c : Checked) (why : Refusal) → refused why ≡ answerBy c text → c ≡ Refused why
 refused-by text Accepted why h = let z : _≡_ {A = ℕ} 0 1 = cc in absurd (omega arith)
-refused-by text (Refused other) why h = ap Refused (same-refusal other why (cc) (cc))
+refused-by text (Refused other) why h = ap Refused (sym (same-refusal h))
 
 module _ (bytes before : List ℕ) (o : Outcome) (long : length before ≡ 406) (promise : Promised (record { bytes = bytes }) before o) where
   pub printed-path : (size : ℕ) → o .answer ≡ Written.Path size → Printed bytes before size (o .line)

@@ -1,5 +1,5 @@
 -- The rows of a sheet that is decoded into a line, by way of the reader's rows over tables with room for every sheet. Assumes nothing.
-use mathlib.Core.Path.{_≡_, refl}
+use mathlib.Core.Path.{_≡_, refl, ap}
 use mathlib.Core.Bool.{Bool, true, false}
 use mathlib.Core.List.{List}
 use Prim.Native.Nat.{ℕ, _*_, _<_, _≤_}
@@ -18,12 +18,13 @@ use Rattle.score_tables.specs.Sound.{LabelsIn, WordsIn, Sound}
 use Rattle.score_tables.proofs.Laws.{all-finite}
 use Rattle.score_tables.specs.Meaning.{Row}
 use Rattle.score_tables.proofs.Order.{row}
-use Rattle.sheet_bytes.specs.Fields.{labelsIn, wordsIn, transitionsIn, statesIn}
-use Rattle.sheet_check.specs.Rows.{Lent, tablesShort, sheetChecked}
-use Rattle.sheet.specs.Promise.{read, answerBy}
-use Rattle.sheet_bytes.proofs.Laws.{length-numbers}
-use Rattle.sheet_check.proofs.Rows.{Accepts}
-use Rattle.sheet_check.proofs.Meant.{same-file}
+use Rattle.sheet.specs.Fields.{labelsIn, wordsIn, transitionsIn, statesIn}
+use Rattle.sheet.specs.Rows.{Lent, tablesShort, sheetChecked}
+use Rattle.refusals.proofs.Said.{same-given}
+use Rattle.sheet.specs.Promise.{LabelsAndWords, read, answerBy}
+use Rattle.sheet.proofs.Bytes.{length-numbers}
+use Rattle.sheet.proofs.Rows.{Accepts}
+use Rattle.sheet.proofs.RowsMeant.{same-file}
 use Rattle.decode_sheet.specs.Answer.{lineShort, lineChecked}
 
 -- the room of the tables that are lent: none for a line that is too short
@@ -61,7 +62,9 @@ pub record ReadBy (bytes : List ℕ) (c : Checked) (labels words : ℕ) : Type 0
   pub words-are : words ≡ wordsIn bytes
 
 pub read-by : (bytes : List ℕ) (c : Checked) (labels words : ℕ) → read labels words ≡ answerBy c bytes → ReadBy bytes c labels words
-read-by bytes Accepted labels words h = record { accepted = refl; labels-are = cc; words-are = cc }
+read-by bytes Accepted labels words h =
+    let e = same-given h in
+    record { accepted = refl; labels-are = ap (λ (z : LabelsAndWords). z .labels) e; words-are = ap (λ (z : LabelsAndWords). z .words) e }
 read-by bytes (Refused why) labels words h = let z : _≡_ {A = ℕ} 0 1 = cc in absurd (omega arith)
 
 -- how many numbers a file's tables have

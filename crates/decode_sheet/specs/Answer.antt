@@ -6,8 +6,8 @@ use Rattle.refusals.specs.Refusals.{refuse}
 use Rattle.refusals.specs.Tables.{short}
 use Rattle.best_path.specs.Scores.{Scores, tabled}
 use Rattle.best_path.specs.Decoded.{decodedPath, decodedSum}
-use Rattle.sheet_bytes.specs.Fields.{labelsIn, wordsIn, transitionsIn, statesIn}
-use Rattle.sheet_check.specs.Rows.{fileChecked}
+use Rattle.sheet.specs.Fields.{labelsIn, wordsIn, transitionsIn, statesIn}
+use Rattle.sheet.specs.Rows.{fileChecked}
 use Rattle.answer_line.specs.Line.{pathLine}
 
 -- the score tables that the bytes hold

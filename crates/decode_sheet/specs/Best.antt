@@ -4,11 +4,12 @@ use mathlib.Core.List.{List}
 use Prim.Native.Nat.{ℕ, _≤_}
 use lib.ListN.{length, take}
 use lib.Ieee.{Float}
+use Rattle.refusals.specs.Said.{accepted}
 use Rattle.best_path.specs.Scores.{Scores, tabled}
 use Rattle.best_path.specs.BestPath.{BestPath}
 use Rattle.sheet.specs.File.{Sheet, encoded, Sound}
 use Rattle.sheet.specs.Files.{Bytes}
-use Rattle.decode_sheet.specs.Promise.{Given, Outcome, said, path, Promised}
+use Rattle.decode_sheet.specs.Promise.{Given, Outcome, said, Promised}
 use Rattle.decode_sheet.specs.Program.{Printed}
 use Rattle.decode_sheet.specs.Meaning.{SaysPath}
 
@@ -35,8 +36,8 @@ PrintedPathsAreBest = (bytes before : List ℕ) (size : ℕ) (after : List ℕ) 
 
 -- what `decode_sheet` answers
 pub record PathsAnswered (bytes before : List ℕ) (outcome : Outcome) : Type 0 where
-  pub every : (s : Sheet) → Sound s → bytes ≡ encoded s → 406 ≤ length before → (size : ℕ) × (said (outcome .answer) ≡ path size) × SaysBest s (take size (outcome .line))
-  pub only : Bytes bytes → (size : ℕ) → said (outcome .answer) ≡ path size → (s : Sheet) × Sound s × (bytes ≡ encoded s) × SaysBest s (take size (outcome .line))
+  pub every : (s : Sheet) → Sound s → bytes ≡ encoded s → 406 ≤ length before → (size : ℕ) × (said (outcome .answer) ≡ accepted size) × SaysBest s (take size (outcome .line))
+  pub only : Bytes bytes → (size : ℕ) → said (outcome .answer) ≡ accepted size → (s : Sheet) × Sound s × (bytes ≡ encoded s) × SaysBest s (take size (outcome .line))
 
 abbrev pub AnsweredPathsAreBest : Type 0
 AnsweredPathsAreBest = (given : Given) (before : List ℕ) (outcome : Outcome) → Promised given before outcome → PathsAnswered (given .bytes) before outcome

@@ -4,17 +4,19 @@ use mathlib.Core.List.{List}
 use Prim.Native.Nat.{ℕ, _^_, _≤_, _<_}
 use lib.ListN.{length, take}
 use lib.Ieee.{Float}
-use Rattle.sheet_check.specs.Meaning.{Meaning}
+use Rattle.refusals.specs.Refusals.{numbered}
+use Rattle.refusals.specs.Said.{accepted, refused}
+use Rattle.sheet.specs.RowsMeaning.{Meaning}
 use Rattle.answer_line.specs.Line.{pathLine, refusedLine}
 use Rattle.answer_line.specs.Claims.{Sayable}
-use Rattle.decode_sheet.specs.Promise.{Given, Outcome, said, path, refused, Promised}
+use Rattle.decode_sheet.specs.Promise.{Given, Outcome, said, Promised}
 use Rattle.decode_sheet.specs.Program.{Printed}
 
 -- the call: 2 does not apply where the lent line has room for the longest
 abbrev pub AnsweringMeans : Type 0
 AnsweringMeans =
     (given : Given) (before : List ℕ) (outcome : Outcome) → Promised given before outcome →
-    Meaning (λ number place. said (outcome .answer) ≡ refused number place) ((size : ℕ) × (said (outcome .answer) ≡ path size)) (given .bytes) (406 ≤ length before)
+    Meaning (λ number place. said (outcome .answer) ≡ refused (numbered number place)) ((size : ℕ) × (said (outcome .answer) ≡ accepted size)) (given .bytes) (406 ≤ length before)
 
 -- "`REFUSED`, number, place": a line that says this refusal
 pub record SaysRefused (line : List ℕ) (number place : ℕ) : Type 0 where

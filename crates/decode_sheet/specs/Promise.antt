@@ -5,6 +5,7 @@ use Prim.Native.Nat.{ℕ}
 use lib.ListN.{length, drop}
 use Rattle.refusals.specs.declared.Checked.{Checked}
 use Rattle.refusals.specs.declared.Checked.the-variants.{Accepted, Refused}
+use Rattle.refusals.specs.Said.{Said, accepted, refused, orRefused}
 use Rattle.decode_sheet.specs.declared.Written.{Written}
 use Rattle.decode_sheet.specs.declared.Written.the-variants.{Path, Refused as WrittenRefused}
 use Rattle.decode_sheet.specs.Answer.{pathLineOf, lineChecked}
@@ -19,25 +20,20 @@ pub record Outcome : Type 0 where
   pub line : List ℕ
 
 -- document 01's number and values for each case of the answer; a path's line has a length
-pub data Said : Type 0 where
-  path : (size : ℕ) → Said
-  refused : (number place : ℕ) → Said
+abbrev pub said : Written → Said ℕ
+said (Path size) = accepted size
+said (WrittenRefused why) = refused why
 
-abbrev pub said : Written → Said
-said (Path size) = path size
-said (WrittenRefused why) = refused (why .number) (why .place)
-
--- the number and the place of the first row that refuses, or else the length of the path's line
-abbrev pub answerBy : Checked → List ℕ → Said
-answerBy Accepted line = path (length line)
-answerBy (Refused why) line = refused (why .number) (why .place)
+-- the refusal of the first row that refuses, or else the length of the path's line
+abbrev pub answerBy : Checked → List ℕ → Said ℕ
+answerBy checked line = orRefused checked (accepted (length line))
 
 -- "After 1 to 7 and 10 every lent buffer holds its entry contents"; else the line stands in front, and the tail is unchanged
 abbrev pub lineBy : Checked → List ℕ → List ℕ → List ℕ
 lineBy Accepted line before = line ++ drop (length line) before
 lineBy (Refused why) line before = before
 
-unfoldable pub answerTo : Given → List ℕ → Said
+unfoldable pub answerTo : Given → List ℕ → Said ℕ
 answerTo given before = answerBy (lineChecked (given .bytes) (length before)) (pathLineOf (given .bytes))
 
 unfoldable pub lineAfter : Given → List ℕ → List ℕ

@@ -7,7 +7,7 @@ use Rattle.best_path.specs.Decoded.{decodedPath, decodedSum}
 use Rattle.best_path.specs.Lead.{lead}
 use Rattle.best_path.proofs.Laws.{decoded-length}
 use Rattle.best_path.proofs.Demand3.{demand-3}
-use Rattle.decode_check.proofs.Meant.{decoding-means}
+use Rattle.viterbi.proofs.Meant.{decoding-means}
 use Rattle.viterbi.specs.Promise.{scoresOf, checkedOf, answerTo, pathAfter}
 use Rattle.answers.proofs.Told.{number-of, sum-of}
 use Rattle.decoding_exports.specs.Meaning.{EveryLineIsBest}

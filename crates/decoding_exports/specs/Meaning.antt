@@ -7,7 +7,7 @@ use Rattle.best_path.specs.Scores.{tabled}
 use Rattle.best_path.specs.BestPath.{BestPath}
 use Rattle.best_path.specs.PathScore.{pathScore}
 use Rattle.score_tables.specs.Sound.{Sound}
-use Rattle.decode_check.specs.Meaning as decoding
+use Rattle.viterbi.specs.Meaning as decoding
 use Rattle.viterbi.specs.Promise.{Given, scoresOf}
 use Rattle.sequence_score.specs.Promise as path
 use Rattle.sequence_score.specs.Sound.{SoundPath}

@@ -20,7 +20,8 @@ use Rattle.roots.specs.Root.{wholeRoot, nearestRoot}
 use Rattle.training.specs.declared.Trained.{Trained}
 use Rattle.training.specs.declared.Training.{Training}
 use Rattle.training.specs.declared.Training.the-variants.{Accepted, Refused}
-use Rattle.training.specs.Data.{Data, wrongAt, wrongOf, allFinite}
+use Rattle.training.specs.Data.{Data, wrongAt, wrongOf}
+use Rattle.fronts.specs.Finite.{allFinite}
 use Rattle.training.specs.Rules.{Rule, pushed, squared, pulled, spread, narrowed, stepOf, byPerceptron, byPassive, byArow, updatedBy, besideAtFirst, stops, averagedAt, averagedBy}
 use Rattle.training.specs.Visits.{refusedAs, unchanged, changedTo, finiteState, heldTo, corrected, compared, visited}
 use Rattle.training.specs.Epochs.{Settings, Result, countedFrom, opened, visitedAt, epochOver, epoch, epochUnlessOver, begun, ran, refusedWith, averaged, finished}

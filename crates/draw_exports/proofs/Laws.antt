@@ -8,19 +8,19 @@ use lib.Dec.{ltb}
 use Rattle.refusals.specs.declared.Checked.{Checked}
 use Rattle.refusals.specs.declared.Checked.the-variants.{Accepted}
 use Rattle.refusals.specs.Refusals.{refuse, refusedAt}
-use Rattle.refusals.specs.Tables.{outside}
+use Rattle.refusals.specs.Bounds.{theInstances, most, outsideIts}
 use Rattle.refusals.proofs.Laws.{neither}
 use Rattle.draw_exports.specs.Draws.{check}
 
-pub refused-outside : (n : ℕ) → outside 1 16384 n ≡ true → check n ≡ refusedAt 2 0
+pub refused-outside : (n : ℕ) → outsideIts theInstances n ≡ true → check n ≡ refusedAt 2 0
 unfolding refuse
 refused-outside n h = rw h
 
-pub accepted-within : (n : ℕ) → outside 1 16384 n ≡ false → check n ≡ Accepted
+pub accepted-within : (n : ℕ) → outsideIts theInstances n ≡ false → check n ≡ Accepted
 unfolding refuse
 accepted-within n h = rw h
 
-pub within : (n : ℕ) → outside 1 16384 n ≡ false → (0 < n) × (n ≤ 16384)
+pub within : (n : ℕ) → outsideIts theInstances n ≡ false → (0 < n) × (n ≤ most theInstances)
 within n h =
-    let w = neither (ltb n 1) (ltb 16384 n) h in
-    (omega (arith, ltb-false n 1 (w .0)), omega (arith, ltb-false 16384 n (w .1)))
+    let w = neither (ltb n 1) (ltb (most theInstances) n) h in
+    (omega (arith, ltb-false n 1 (w .0)), omega (arith, ltb-false (most theInstances) n (w .1)))

@@ -7,8 +7,8 @@ use lib.ListN.{length}
 use Rattle.refusals.specs.declared.Checked.{Checked}
 use Rattle.refusals.specs.declared.Checked.the-variants.{Accepted, Refused as refusedBy}
 use Rattle.refusals.specs.Refusals.{refuse}
-use Rattle.refusals.specs.Tables.{outside}
-use Rattle.refusal_rows.specs.Said.{saidOf}
+use Rattle.refusals.specs.Bounds.{theInstances, outsideIts}
+use Rattle.refusals.specs.Said.{saidOf}
 use Rattle.generator.specs.Draw.{number, next}
 use Rattle.shuffle.specs.Shuffle.{Deal, shuffled}
 use Rattle.answers.specs.declared.checks.Refused.{Refused}
@@ -27,7 +27,7 @@ pub record Shuffled : Type 0 where
 
 -- 2: "Instances N: 1 to 16,384"
 abbrev pub check : ℕ → Checked
-check n = refuse 2 0 (outside 1 16384 n)
+check n = refuse 2 0 (outsideIts theInstances n)
 
 -- where nothing is refused the deal is shuffled, else it is as at entry
 abbrev pub dealt : Checked → ℕ → Deal → Deal

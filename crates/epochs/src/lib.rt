@@ -4,11 +4,11 @@ ghost use Prim.Native.Nat.{_≤_};
 ghost use Rattle.lines.specs.Passes.{through};
 ghost use Rattle.training.specs.Rules.{stops};
 ghost use Rattle.training.specs.Visits.{visited};
-ghost use Rattle.training.specs.Epochs.{epochUnlessOver};
+ghost use Rattle.training.specs.Epochs.{Run, epochUnlessOver};
 ghost use Rattle.training.specs.Orders.{OrderOf};
 ghost use Rattle.feature_gen.specs.Sound.{Sound};
 ghost use Rattle.training_check.specs.Sound.{SoundData};
-ghost use Rattle.prediction.specs.Tables.{modelOf, dataOf};
+ghost use Rattle.prediction.specs.Tables.{modelAt, modelWas, dataAt, dataWas};
 ghost use Rattle.parameters.specs.Trainers.{ruleOf};
 ghost use Rattle.updates.specs.Updating.{stateOf, Exact};
 ghost use Rattle.begin_and_end.specs.Ending.{Finished};
@@ -45,11 +45,17 @@ pub fn run(
     truly: &mut [f64],
     predicted: &mut [f64],
 ) -> Ran
-    requires { ⌜ Sound (modelOf sizes (now kinds) (now destinations) (now sources) (now starts) (now entries) (now «label_starts») (now «label_entries»)) ⌝ }
-    requires { ⌜ SoundData (sizes .labels) (dataOf sizes (now lines) (now begins) (now ids) (now values) (now references) (now shares)) ⌝ }
+    requires { ⌜ Sound (modelAt sizes kinds destinations sources starts entries «label_starts» «label_entries») ⌝ }
+    requires { ⌜ SoundData (sizes .labels) (dataAt sizes lines begins ids values references shares) ⌝ }
     requires { ⌜ Exact (sizes .features) (now weights) (now beside) (now truly) (now predicted) ⌝ }
     requires { ⌜ (allowed ≤ 1000) × OrderOf (sizes .instances) (now order) ⌝ }
-    ensures { λ r. ⌜ Finished r (now (weights .exit)) (now (beside .exit)) (through (epochUnlessOver (visited (ruleOf trainer) (modelOf sizes (now (kinds .entry)) (now (destinations .entry)) (now (sources .entry)) (now (starts .entry)) (now (entries .entry)) (now («label_starts» .entry)) (now («label_entries» .entry))) (dataOf sizes (now (lines .entry)) (now (begins .entry)) (now (ids .entry)) (now (values .entry)) (now (references .entry)) (now (shares .entry)))) (stops (ruleOf trainer) epsilon) (sizes .instances)) 0 allowed (record { state = stateOf firstStep (now (weights .entry)) (now (beside .entry)); deal = record { state = seed; order = now (order .entry) }; epochs = 0; over = false })) ⌝ }
+    ensures { λ r.
+        let m = modelWas sizes kinds destinations sources starts entries «label_starts» «label_entries» in
+        let d = dataWas sizes lines begins ids values references shares in
+        let step = epochUnlessOver (visited (ruleOf trainer) m d) (stops (ruleOf trainer) epsilon) (sizes .instances) in
+        let first = stateOf firstStep (now (weights .entry)) (now (beside .entry)) in
+        let begun : Run = record { state = first; deal = record { state = seed; order = now (order .entry) }; epochs = 0; over = false } in
+        ⌜ Finished r (now (weights .exit)) (now (beside .exit)) (through step 0 allowed begun) ⌝ }
 {
     let n = sizes.instances;
     let mut step = Step {
@@ -86,7 +92,7 @@ pub fn run(
             predicted,
         );
         e += 1;
-        if steps::ends(trainer, epsilon, n, step) {
+        if updates::ends(trainer, epsilon, n, step) {
             return Ran {
                 step: step,
                 epochs: e,

@@ -1,5 +1,6 @@
 -- What the rows of a model give a call that accepts them. Assumes nothing.
 use mathlib.Core.Path.{_≡_, sym, _∙_}
+use mathlib.Core.Bool.{_||_}
 use mathlib.Core.List.{List, [], _∷_, _++_}
 use Prim.Native.Nat.{_+_, _≤_}
 use native.Mathlib.Omega.{arith}
@@ -9,19 +10,26 @@ use Rattle.refusals.specs.declared.Refusal.{Refusal}
 use Rattle.refusals.specs.declared.Checked.{Checked}
 use Rattle.refusals.specs.declared.Checked.the-variants.{Accepted, Refused}
 use Rattle.refusals.specs.Refusals.{first, firstFrom}
+use Rattle.refusals.specs.Tables.{short}
 use Rattle.refusals.proofs.Laws.{settled, all-accepted}
 use Rattle.score_tables.specs.Rows.{one}
-use Rattle.refusal_rows.specs.Limits.{two, AllWithin}
+use Rattle.refusal_rows.specs.Limits.{anyBroken, two, AllWithin, Fitting}
 use Rattle.refusal_rows.specs.Tests.{checks}
-use Rattle.refusal_rows.proofs.Means.{two-means, within-parts}
-use Rattle.lines.specs.Tables.{Model}
-use Rattle.feature_gen.specs.Rows.{modelLimits, weightLimits, startTests, featureTests, entryTests, idTests, weightTests, modelSized, modelChecked}
+use Rattle.refusal_rows.proofs.Means.{two-means, broken-parts}
+use Rattle.lines.specs.Tables.{Features, Lists, Model}
+use Rattle.feature_gen.specs.Rows.{featureRooms, weightRooms, listRooms, tableRooms, weightedTableRooms, modelCounts, modelRooms, weightedRooms, startTests, featureTests, entryTests, idTests, weightTests, modelSized, modelChecked}
 use Rattle.feature_gen.specs.Sound.{Sized}
 
+-- rooms that are tested part by part
+pub tables-parts : (f : Features) (a b : Lists) → (anyBroken (featureRooms f) || anyBroken (listRooms a b)) ≡ anyBroken (tableRooms f a b)
+tables-parts f a b = sym (broken-parts (featureRooms f) (listRooms a b))
+
+pub weighted-parts : (f : Features) (weights : List Float) (a b : Lists) → (anyBroken (featureRooms f) || short (length weights) (f .count) || anyBroken (listRooms a b)) ≡ anyBroken (weightedTableRooms f weights a b)
+weighted-parts f weights a b = sym (broken-parts (featureRooms f ++ weightRooms f weights) (listRooms a b))
+
 -- 2 does not apply
-pub sized : (m : Model) → AllWithin (modelLimits m) → Sized m
-sized m w =
-    let t = w .1 .1 .1 .1 .1 in
+pub sized : (m : Model) → AllWithin (modelCounts m) → AllWithin (modelRooms m) → Sized m
+sized m w t =
     let l = t .1 .1 .1 in
     record {
       few-features = w .0;
@@ -39,8 +47,12 @@ sized m w =
     }
 
 module _ (m : Model) (weights : List Float) where
+  -- the rooms of a call that is lent weights
+  pub room-for-weights : AllWithin (weightedRooms m weights) → AllWithin (modelRooms m) × (m .features .count ≤ length weights)
+  room-for-weights w = ((w .0, (w .1 .0, (w .1 .1 .0, w .1 .1 .1 .1))), w .1 .1 .1 .0)
+
   abbrev by-size : List Checked
-  by-size = one (m .labels) ∷ two (modelLimits m ++ weightLimits m weights) ∷ []
+  by-size = one (m .labels) ∷ two (modelCounts m) ∷ two (weightedRooms m weights) ∷ []
 
   -- a refusal by size is the call's
   pub stopped : (why : Refusal) → modelSized m weights ≡ Refused why → Refused why ≡ modelChecked m weights
@@ -53,12 +65,15 @@ module _ (m : Model) (weights : List Float) where
   unfolding modelSized modelChecked
   answered a b c d e = rw (e, d, c, b, a)
 
-  within : (r : Checked) → r ≡ modelSized m weights → r ≡ Accepted → AllWithin (modelLimits m ++ weightLimits m weights)
+  within : (r : Checked) → r ≡ modelSized m weights → r ≡ Accepted → Fitting (modelCounts m) (weightedRooms m weights)
   unfolding modelSized
-  within r e h = two-means (modelLimits m ++ weightLimits m weights) .accepted .0 (all-accepted Accepted by-size (sym e ∙ h) .1 .1 .0)
+  within r e h =
+      let a = all-accepted Accepted by-size (sym e ∙ h) .1 .1 in
+      (two-means (modelCounts m) .accepted .0 (a .0), two-means (weightedRooms m weights) .accepted .0 (a .1 .0))
 
   -- an answer that accepts the sizes: every table has room
   pub roomy : (r : Checked) → r ≡ modelSized m weights → r ≡ Accepted → Sized m × (m .features .count ≤ length weights)
   roomy r e h =
-      let s = within-parts (modelLimits m) (weightLimits m weights) (within r e h) in
-      (sized m (s .0), s .1 .0)
+      let f = within r e h in
+      let s = room-for-weights (f .1) in
+      (sized m (f .0) (s .0), s .1)

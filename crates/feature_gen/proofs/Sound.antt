@@ -12,7 +12,7 @@ use lib.Ieee.Scale.{finite}
 use Rattle.refusals.specs.Meaning.{Starts}
 use Rattle.refusals.proofs.Meant.{starts-kept, within}
 use Rattle.score_tables.specs.Sound.{LabelsIn}
-use Rattle.score_tables.specs.Meaning.{FiniteTo}
+use Rattle.fronts.specs.Finite.{FiniteTo}
 use Rattle.refusal_rows.specs.Tests.{startsRise, kindsKnown, idsBelow, sourcesBelow, numbersFinite, Good, AllGood}
 use Rattle.refusal_rows.proofs.Means.{test-means}
 use Rattle.lines.specs.Tables.{Model, Transition}

@@ -1,6 +1,6 @@
 -- No two different answers satisfy the promise of `check_model`. Assumes nothing.
 use mathlib.Core.Path.{_≡_, sym, _∙_}
-use Rattle.refusal_rows.proofs.Said.{said-once}
+use Rattle.refusals.proofs.Said.{said-once}
 use Rattle.feature_gen.specs.CheckModel as model
 
 pub only-model : model.OnlyOne

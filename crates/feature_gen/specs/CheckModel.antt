@@ -3,7 +3,7 @@ use mathlib.Core.Path.{_≡_}
 use mathlib.Core.List.{List}
 use lib.Ieee.{Float}
 use Rattle.refusals.specs.declared.Checked.{Checked}
-use Rattle.refusal_rows.specs.Said.{Said, saidOf}
+use Rattle.refusals.specs.Said.{Said, saidOf}
 use Rattle.lines.specs.Tables.{Model}
 use Rattle.feature_gen.specs.Rows.{modelChecked}
 
@@ -12,7 +12,7 @@ pub record Given : Type 0 where
   pub weights : List Float
 
 -- what document 01 says: refused by the first row that applies
-unfoldable pub answerTo : Given → Said
+unfoldable pub answerTo : Given → Said Unit
 answerTo given = saidOf (modelChecked (given .model) (given .weights))
 
 -- the promise

@@ -1,6 +1,9 @@
 -- A model as a call is lent it: counts, and tables beside them. Assumes nothing.
 use mathlib.Core.List.{List}
 use Prim.Native.Nat.{ℕ}
+use lib.Ieee.{Float}
+use denote.Ref.{RefT, now}
+use denote.Triple.Both.{Both}
 use Rattle.lines.specs.Tables.{Features, Lists, Model}
 use Rattle.feature_gen.specs.declared.Counts.{Counts}
 
@@ -36,3 +39,19 @@ modelOf labels counts kinds destinations sources attributeStarts attributeEntrie
   attributeLists = attributeListsOf counts attributeStarts attributeEntries;
   labelLists = labelListsOf counts labelStarts labelEntries;
 }
+
+-- a lent table: of numbers, of floats
+abbrev pub Numbers : Type 0
+Numbers = RefT (List ℕ)
+
+abbrev pub Floats : Type 0
+Floats = RefT (List Float)
+
+-- the model at a call's entry: in a `requires`, where the name of a table is the table
+abbrev pub modelAt : ℕ → Counts → Numbers → Numbers → Numbers → Numbers → Numbers → Numbers → Numbers → Model
+modelAt labels counts k d s a e b f = modelOf labels counts (now k) (now d) (now s) (now a) (now e) (now b) (now f)
+
+-- and in an `ensures`, where it is the pair of entry and exit
+module _ {A B C D E F G : Type 0} where
+  abbrev pub modelWas : ℕ → Counts → Both Numbers A → Both Numbers B → Both Numbers C → Both Numbers D → Both Numbers E → Both Numbers F → Both Numbers G → Model
+  modelWas labels counts k d s a e b f = modelAt labels counts (k .entry) (d .entry) (s .entry) (a .entry) (e .entry) (b .entry) (f .entry)

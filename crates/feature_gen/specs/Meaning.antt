@@ -1,6 +1,6 @@
 -- What the check of a model refuses, in plain terms: each number exactly when document 01 gives it, and with which place. The proofs are in proofs/Meant.
 use mathlib.Core.Path.{_≡_}
-use mathlib.Core.List.{List, [], _∷_, _++_}
+use mathlib.Core.List.{List, [], _∷_}
 use mathlib.Core.Logic.{_↔_}
 use Prim.Native.Nat.{ℕ}
 use lib.Ieee.{Float}
@@ -8,16 +8,16 @@ use Rattle.refusals.specs.declared.Refusal.{Refusal}
 use Rattle.refusals.specs.declared.Checked.the-variants.{Accepted, Refused}
 use Rattle.refusals.specs.Refusals.{refusedAt}
 use Rattle.score_tables.specs.Sound.{LabelsIn}
-use Rattle.refusal_rows.specs.Limits.{AllWithin}
+use Rattle.refusal_rows.specs.Limits.{Fitting}
 use Rattle.refusal_rows.specs.Tests.{AllGood, FirstBadOf}
 use Rattle.refusal_rows.specs.Given.{AtZero, OneOf}
 use Rattle.lines.specs.Tables.{Model}
-use Rattle.feature_gen.specs.Rows.{modelLimits, weightLimits, startTests, idTests, weightTests, modelChecked}
+use Rattle.feature_gen.specs.Rows.{modelCounts, weightedRooms, startTests, idTests, weightTests, modelChecked}
 use Rattle.feature_gen.specs.Sound.{Weighted}
 
 -- every count is within its bound, and every table has room
 abbrev pub Fits : Model → List Float → Type 0
-Fits m weights = AllWithin (modelLimits m ++ weightLimits m weights)
+Fits m weights = Fitting (modelCounts m) (weightedRooms m weights)
 
 pub record Meaning (m : Model) (weights : List Float) : Type 0 where
   pub one : (place : ℕ) → modelChecked m weights ≡ refusedAt 1 place ↔ AtZero (LabelsIn (m .labels)) place

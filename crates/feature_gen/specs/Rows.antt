@@ -5,50 +5,60 @@ use lib.ListN.{length}
 use lib.Ieee.{Float}
 use Rattle.refusals.specs.declared.Checked.{Checked}
 use Rattle.refusals.specs.Refusals.{first}
+use Rattle.refusals.specs.Bounds.{theFeatures, theAttributeLists, theLabelLists, theAttributeEntries, theLabelEntries}
 use Rattle.score_tables.specs.Rows.{one}
-use Rattle.refusal_rows.specs.Limits.{Limit, atMost, room, two}
+use Rattle.refusal_rows.specs.Limits.{Limit, count, room, two}
 use Rattle.refusal_rows.specs.Tests.{Test, startsRise, kindsKnown, idsBelow, sourcesBelow, numbersFinite, checks}
 use Rattle.lines.specs.Tables.{Features, Lists, Model}
 
--- "Features F: 0 to 65,535."
-abbrev pub mostFeatures : ℕ
-mostFeatures = 65535
+-- ---- 2 | "a count other than L, T and epochs outside its bound" | 0
 
--- "Attribute lists: 0 to 65,535."
-abbrev pub mostAttributeLists : ℕ
-mostAttributeLists = 65535
+abbrev pub countLimits : (features attributeLists labelLists attributeEntries labelEntries : ℕ) → List Limit
+countLimits features attributeLists labelLists attributeEntries labelEntries =
+    count theFeatures features
+    ∷ count theAttributeLists attributeLists
+    ∷ count theLabelLists labelLists
+    ∷ count theAttributeEntries attributeEntries
+    ∷ count theLabelEntries labelEntries
+    ∷ []
 
--- "Label lists: 0 to 32, their number need not be L."
-abbrev pub mostLabelLists : ℕ
-mostLabelLists = 32
+abbrev pub modelCounts : Model → List Limit
+modelCounts m = countLimits (m .features .count) (m .attributeLists .count) (m .labelLists .count) (m .attributeLists .size) (m .labelLists .size)
 
--- "Entries of the attribute lists, and of the label lists: at most 1,048,576 each."
-abbrev pub mostEntries : ℕ
-mostEntries = 1048576
+-- ---- 2 | "a lent buffer too short" | 0, in the order of a call's slices
 
--- 2 | "a count other than L, T and epochs outside its bound, or a lent buffer too short": "for n lists, n+1 starts" | 0
-abbrev pub limits : Features → Lists → Lists → List Limit
-limits features attributeLists labelLists =
-    atMost mostFeatures (features .count)
-    ∷ atMost mostAttributeLists (attributeLists .count)
-    ∷ atMost mostLabelLists (labelLists .count)
-    ∷ atMost mostEntries (attributeLists .size)
-    ∷ atMost mostEntries (labelLists .size)
-    ∷ room (length (features .kinds)) (features .count)
+abbrev pub featureRooms : Features → List Limit
+featureRooms features =
+    room (length (features .kinds)) (features .count)
     ∷ room (length (features .destinations)) (features .count)
     ∷ room (length (features .sources)) (features .count)
-    ∷ room (length (attributeLists .starts)) (attributeLists .count + 1)
+    ∷ []
+
+-- where a call is lent weights, they stand behind the sources
+abbrev pub weightRooms : Features → List Float → List Limit
+weightRooms features weights = room (length weights) (features .count) ∷ []
+
+-- "for n lists, n+1 starts"
+abbrev pub listRooms : Lists → Lists → List Limit
+listRooms attributeLists labelLists =
+    room (length (attributeLists .starts)) (attributeLists .count + 1)
     ∷ room (length (attributeLists .entries)) (attributeLists .size)
     ∷ room (length (labelLists .starts)) (labelLists .count + 1)
     ∷ room (length (labelLists .entries)) (labelLists .size)
     ∷ []
 
-abbrev pub modelLimits : Model → List Limit
-modelLimits m = limits (m .features) (m .attributeLists) (m .labelLists)
+abbrev pub tableRooms : Features → Lists → Lists → List Limit
+tableRooms features attributeLists labelLists = featureRooms features ++ listRooms attributeLists labelLists
 
--- the same of the weights, where a call is lent them
-abbrev pub weightLimits : Model → List Float → List Limit
-weightLimits m weights = room (length weights) (m .features .count) ∷ []
+abbrev pub weightedTableRooms : Features → List Float → Lists → Lists → List Limit
+weightedTableRooms features weights attributeLists labelLists =
+    (featureRooms features ++ weightRooms features weights) ++ listRooms attributeLists labelLists
+
+abbrev pub modelRooms : Model → List Limit
+modelRooms m = tableRooms (m .features) (m .attributeLists) (m .labelLists)
+
+abbrev pub weightedRooms : Model → List Float → List Limit
+weightedRooms m weights = weightedTableRooms (m .features) weights (m .attributeLists) (m .labelLists)
 
 -- 3 | "a rule of starts is broken" | "index of the first bad start"
 abbrev pub startTests : Model → List Test
@@ -80,16 +90,17 @@ idTests m = featureTests (m .labels) (m .features) ++ entryTests m
 abbrev pub weightTests : Model → List Float → List Test
 weightTests m weights = numbersFinite weights (m .features .count) ∷ []
 
--- "The lowest number wins": 1, 2, 3, 5, 6
+-- "The lowest number wins": 1, 2 of the counts, 2 of the rooms, 3, 5, 6
 unfoldable pub modelChecked : Model → List Float → Checked
 modelChecked m weights =
     first
     (one (m .labels)
-    ∷ two (modelLimits m ++ weightLimits m weights)
+    ∷ two (modelCounts m)
+    ∷ two (weightedRooms m weights)
     ∷ checks (startTests m)
     ++ checks (idTests m)
     ++ checks (weightTests m weights))
 
--- its first two: what can be said before any table is read
+-- its first three: what can be said before any table is read
 unfoldable pub modelSized : Model → List Float → Checked
-modelSized m weights = first (one (m .labels) ∷ two (modelLimits m ++ weightLimits m weights) ∷ [])
+modelSized m weights = first (one (m .labels) ∷ two (modelCounts m) ∷ two (weightedRooms m weights) ∷ [])

@@ -4,19 +4,19 @@ use mathlib.Core.List.{List}
 use Prim.Native.Nat.{ℕ, _<_, _≤_}
 use lib.ListN.{length, getD}
 use lib.Ieee.{Float}
+use Rattle.refusals.specs.Bounds.{theFeatures, theAttributeLists, theLabelLists, theAttributeEntries, theLabelEntries, most}
 use Rattle.score_tables.specs.Sound.{LabelsIn}
-use Rattle.score_tables.specs.Meaning.{FiniteTo}
+use Rattle.fronts.specs.Finite.{FiniteTo}
 use Rattle.lines.specs.Tables.{Model, Transition}
 use Rattle.lines.specs.Sound.{SoundLists, SoundTransitions, SoundCounts}
-use Rattle.feature_gen.specs.Rows.{mostFeatures, mostAttributeLists, mostLabelLists, mostEntries}
 
 -- 2 does not apply: the counts are within their bounds, and each table has room for its count
 pub record Sized (m : Model) : Type 0 where
-  pub few-features : m .features .count ≤ mostFeatures
-  pub few-attribute-lists : m .attributeLists .count ≤ mostAttributeLists
-  pub few-label-lists : m .labelLists .count ≤ mostLabelLists
-  pub few-attribute-entries : m .attributeLists .size ≤ mostEntries
-  pub few-label-entries : m .labelLists .size ≤ mostEntries
+  pub few-features : m .features .count ≤ most theFeatures
+  pub few-attribute-lists : m .attributeLists .count ≤ most theAttributeLists
+  pub few-label-lists : m .labelLists .count ≤ most theLabelLists
+  pub few-attribute-entries : m .attributeLists .size ≤ most theAttributeEntries
+  pub few-label-entries : m .labelLists .size ≤ most theLabelEntries
   pub kinds : m .features .count ≤ length (m .features .kinds)
   pub destinations : m .features .count ≤ length (m .features .destinations)
   pub sources : m .features .count ≤ length (m .features .sources)

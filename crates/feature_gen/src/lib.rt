@@ -7,7 +7,7 @@ ghost use lib.ListN.{length, take, drop};
 ghost use Rattle.refusals.specs.Refusals.{firstFrom};
 ghost use Rattle.refusal_rows.specs.Limits.{anyBroken};
 ghost use Rattle.refusal_rows.specs.Tests.{startsRise, idsBelow, checks};
-ghost use Rattle.feature_gen.specs.Rows.{limits, featureTests, modelSized};
+ghost use Rattle.feature_gen.specs.Rows.{countLimits, featureRooms, listRooms, tableRooms, weightedTableRooms, featureTests, modelSized};
 ghost use Rattle.feature_gen.specs.Lent.{featuresOf, attributeListsOf, labelListsOf, modelOf};
 ghost use Rattle.feature_gen.specs.CheckModel.{ModelChecked};
 use refusals::Checked;
@@ -34,8 +34,43 @@ pub struct Counts {
     pub label_entries: u32,
 }
 
-// 2: whether a count is outside its bound, or a table other than the weights too short.
-pub fn exceeds(
+// 2: whether a count is outside its bound.
+pub fn exceeds(counts: Counts) -> bool
+    ensures { λ r. ⌜ r ≡ anyBroken (countLimits (counts .features) (counts .«attribute_lists») (counts .«label_lists») (counts .«attribute_entries») (counts .«label_entries»)) ⌝ }
+{
+    (MOST_FEATURES < counts.features)
+        | (MOST_ATTRIBUTE_LISTS < counts.attribute_lists)
+        | (MOST_LABEL_LISTS < counts.label_lists)
+        | (MOST_ENTRIES < counts.attribute_entries)
+        | (MOST_ENTRIES < counts.label_entries)
+}
+
+// 2: whether a table of the features is too short.
+fn lacks_features(counts: Counts, kinds: &[u8], destinations: &[u32], sources: &[u32]) -> bool
+    ensures { λ r. ⌜ r ≡ anyBroken (featureRooms (featuresOf counts (now (kinds .entry)) (now (destinations .entry)) (now (sources .entry)))) ⌝ }
+{
+    let n = counts.features as usize;
+    (kinds.len() < n) | (destinations.len() < n) | (sources.len() < n)
+}
+
+// 2: whether a table of the lists is too short.
+fn lacks_lists(
+    counts: Counts,
+    attribute_starts: &[u32],
+    attribute_entries: &[u32],
+    label_starts: &[u32],
+    label_entries: &[u32],
+) -> bool
+    ensures { λ r. ⌜ r ≡ anyBroken (listRooms (attributeListsOf counts (now («attribute_starts» .entry)) (now («attribute_entries» .entry))) (labelListsOf counts (now («label_starts» .entry)) (now («label_entries» .entry)))) ⌝ }
+{
+    (attribute_starts.len() < counts.attribute_lists as usize + 1)
+        | (attribute_entries.len() < counts.attribute_entries as usize)
+        | (label_starts.len() < counts.label_lists as usize + 1)
+        | (label_entries.len() < counts.label_entries as usize)
+}
+
+// 2: whether a table of a model without weights is too short.
+pub fn lacks_tables(
     counts: Counts,
     kinds: &[u8],
     destinations: &[u32],
@@ -45,20 +80,43 @@ pub fn exceeds(
     label_starts: &[u32],
     label_entries: &[u32],
 ) -> bool
-    ensures { λ r. ⌜ r ≡ anyBroken (limits (featuresOf counts (now (kinds .entry)) (now (destinations .entry)) (now (sources .entry))) (attributeListsOf counts (now («attribute_starts» .entry)) (now («attribute_entries» .entry))) (labelListsOf counts (now («label_starts» .entry)) (now («label_entries» .entry)))) ⌝ }
+    ensures { λ r. ⌜ r ≡ anyBroken (tableRooms (featuresOf counts (now (kinds .entry)) (now (destinations .entry)) (now (sources .entry))) (attributeListsOf counts (now («attribute_starts» .entry)) (now («attribute_entries» .entry))) (labelListsOf counts (now («label_starts» .entry)) (now («label_entries» .entry)))) ⌝ }
 {
-    (MOST_FEATURES < counts.features)
-        | (MOST_ATTRIBUTE_LISTS < counts.attribute_lists)
-        | (MOST_LABEL_LISTS < counts.label_lists)
-        | (MOST_ENTRIES < counts.attribute_entries)
-        | (MOST_ENTRIES < counts.label_entries)
-        | (kinds.len() < counts.features as usize)
-        | (destinations.len() < counts.features as usize)
-        | (sources.len() < counts.features as usize)
-        | (attribute_starts.len() < counts.attribute_lists as usize + 1)
-        | (attribute_entries.len() < counts.attribute_entries as usize)
-        | (label_starts.len() < counts.label_lists as usize + 1)
-        | (label_entries.len() < counts.label_entries as usize)
+    let features = lacks_features(counts, kinds, destinations, sources);
+    features
+        | lacks_lists(
+            counts,
+            attribute_starts,
+            attribute_entries,
+            label_starts,
+            label_entries,
+        )
+}
+
+// 2: whether a table of a model, or its weights, is too short.
+pub fn lacks_weighted(
+    counts: Counts,
+    kinds: &[u8],
+    destinations: &[u32],
+    sources: &[u32],
+    weights: &[f64],
+    attribute_starts: &[u32],
+    attribute_entries: &[u32],
+    label_starts: &[u32],
+    label_entries: &[u32],
+) -> bool
+    ensures { λ r. ⌜ r ≡ anyBroken (weightedTableRooms (featuresOf counts (now (kinds .entry)) (now (destinations .entry)) (now (sources .entry))) (now (weights .entry)) (attributeListsOf counts (now («attribute_starts» .entry)) (now («attribute_entries» .entry))) (labelListsOf counts (now («label_starts» .entry)) (now («label_entries» .entry)))) ⌝ }
+{
+    let features = lacks_features(counts, kinds, destinations, sources);
+    let weighted = features | (weights.len() < counts.features as usize);
+    weighted
+        | lacks_lists(
+            counts,
+            attribute_starts,
+            attribute_entries,
+            label_starts,
+            label_entries,
+        )
 }
 
 // 3 for the lists: attribute lists, then label lists.
@@ -120,7 +178,7 @@ pub fn check_entries(
     table_checks::check_ids(a, label_entries, labels, counts.features)
 }
 
-// 1 and 2: what can be said before any table is read.
+// 1, then 2 of the counts, then 2 of the tables: what can be said before any table is read.
 fn check_sizes(
     labels: u32,
     counts: Counts,
@@ -141,18 +199,19 @@ fn check_sizes(
         0,
         refusals::is_outside(1, score_tables::MOST_LABELS, labels),
     );
-    let outside = exceeds(
+    let two = refusals::refuse_if(one, 2, 0, exceeds(counts));
+    let short = lacks_weighted(
         counts,
         kinds,
         destinations,
         sources,
+        weights,
         attribute_starts,
         attribute_entries,
         label_starts,
         label_entries,
     );
-    let short = weights.len() < counts.features as usize;
-    refusals::refuse_if(one, 2, 0, outside | short)
+    refusals::refuse_if(two, 2, 0, short)
 }
 
 // Whether a model is one that document 01 accepts: 1, 2, 3, 5, 6.

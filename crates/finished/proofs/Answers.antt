@@ -19,8 +19,8 @@ use Rattle.finished.proofs.Meant.{eight-is-last, not-eight}
 
 module _
     (checked finished : Checked)
-    (labels words : ℕ) (limits : List Limit) (starts ids numbers : List Test) (EightAt : ℕ → Type 0) (AllFinite : Type 0)
-    (m : Meaning checked labels words limits starts ids numbers) (e : Eight finished AllFinite EightAt)
+    (labels words : ℕ) (counts rooms : List Limit) (starts ids numbers : List Test) (EightAt : ℕ → Type 0) (AllFinite : Type 0)
+    (m : Meaning checked labels words counts rooms starts ids numbers) (e : Eight finished AllFinite EightAt)
     (Refuses : ℕ → ℕ → Type 0) (Accepts : Type 0)
     (to : (number place : ℕ) → Refuses number place → orNext checked finished ≡ refusedAt number place)
     (from : (number place : ℕ) → 0 < number → orNext checked finished ≡ refusedAt number place → Refuses number place)
@@ -44,7 +44,7 @@ module _
   more number (inr (inr (inr (inr (inr (inl h)))))) = inr (inr (inr (inr (inr (inl h)))))
   more number (inr (inr (inr (inr (inr (inr h)))))) = absurd h
 
-  pub answered : Answers labels words limits starts ids numbers Refuses Accepts EightAt AllFinite
+  pub answered : Answers labels words counts rooms starts ids numbers Refuses Accepts EightAt AllFinite
   answered = record {
     one = early 1 (omega arith) (λ q. omega arith) (m .one);
     four = early 4 (omega arith) (λ q. omega arith) (m .four);

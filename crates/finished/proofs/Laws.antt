@@ -1,24 +1,41 @@
--- Laws of 8: a search whose places are counted on, and what the front of a longer buffer is found to be. Assumes nothing.
+-- Laws of 8: what the finite test of a front tells of it, a search whose places are counted on, and what the front of a longer buffer is found to be. Assumes nothing.
 use mathlib.Core.Path.{_≡_, refl, ap, _∙_}
-use mathlib.Core.Bool.{Bool, true, false, not}
+use mathlib.Core.Bool.{Bool, true, false, not, true≢false}
 use mathlib.Core.List.{List, _++_}
 use mathlib.Core.Logic.{_⊎_, inl, inr, ⊎-elim}
 use Prim.Native.Nat.{ℕ, zero, suc, _+_, _*_, _<_, _≤_}
 use native.Mathlib.Nat.{zero-add}
 use native.Mathlib.Omega.{arith}
-use lib.Dec.{ltb}
-use lib.ListN.{length, drop, replicate, List·getD-append}
+use lib.Dec.{T, ltb}
+use lib.ListN.{length, getD, drop, replicate, List·getD-append}
 use lib.Seq.{drop-at}
 use lib.Ieee.{Float, nan}
+use lib.Ieee.Bits.{is-true}
 use lib.Ieee.Scale.{finite}
 use Rattle.refusals.specs.declared.Checked.{Checked}
 use Rattle.refusals.specs.declared.Checked.the-variants.{Accepted, Refused}
 use Rattle.refusals.specs.Refusals.{refuse, orNext, lowest}
+use Rattle.refusals.specs.Tables.{notFinite}
 use Rattle.refusals.proofs.Laws.{Passed, found}
+use Rattle.refusals.proofs.Meant.{accepted-means, accepted-if}
+use Rattle.fronts.proofs.Finite.{all-finite-at, all-finite-if}
 use Rattle.lines.specs.Passes.{nought}
 use Rattle.lines.specs.Sound.{SoundWords}
 use Rattle.finished.specs.Rows.{finishedChecked, placedAfter, scoresFinished}
-use Rattle.finished.specs.After.{cleared, clearedWhere, contents}
+use Rattle.finished.specs.Meaning.{TestAccepts}
+use Rattle.finished.specs.After.{clearedWhere, contents}
+use Rattle.fronts.specs.Cleared.{cleared}
+
+-- ---- the search and the finite test
+pub test-accepts : TestAccepts
+test-accepts numbers n = (
+  λ e. all-finite-if numbers n (λ i l. not-bad (finite (getD numbers i nan)) (accepted-means 8 (notFinite numbers) n e i l)),
+  λ e. accepted-if 8 (notFinite numbers) n (λ i l. ap not (is-true (finite (getD numbers i nan)) (all-finite-at numbers n e i l))),
+)
+  where
+    not-bad : (b : Bool) → not b ≡ false → T b
+    not-bad true e = tt
+    not-bad false e = absurd (true≢false e)
 
 placed-refuse : (others i : ℕ) (b : Bool) → refuse 8 (others + i) b ≡ placedAfter others (refuse 8 i b)
 unfolding refuse

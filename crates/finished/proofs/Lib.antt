@@ -1,4 +1,3 @@
 pub mod Laws
 pub mod Meant
-mod Halves
 pub mod Answers

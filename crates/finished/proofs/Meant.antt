@@ -17,7 +17,7 @@ use Rattle.refusals.specs.Refusals.{refusedAt, orNext}
 use Rattle.refusals.specs.Tables.{notFinite}
 use Rattle.refusals.proofs.Laws.{never, both, either, number-of, place-of}
 use Rattle.refusals.proofs.Meant.{accepted-means, accepted-if, exactly}
-use Rattle.score_tables.specs.Meaning.{NotFinite}
+use Rattle.fronts.specs.Finite.{NotFinite}
 use Rattle.refusal_rows.specs.Given.{OneOf}
 use Rattle.finished.specs.Rows.{finishedChecked, placedAfter, scoresFinished}
 use Rattle.finished.specs.Meaning.{CountsMean, EightAt, in-states, in-transitions, ScoresMean, EightIsLast}

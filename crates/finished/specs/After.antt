@@ -1,15 +1,12 @@
 -- What a result buffer holds after a call on a single line, accepted or refused. Assumes nothing.
 use mathlib.Core.List.{List, _++_}
 use Prim.Native.Nat.{ℕ}
-use lib.ListN.{drop, replicate}
+use lib.ListN.{drop}
 use lib.Ieee.{Float}
 use Rattle.refusals.specs.declared.Checked.{Checked}
 use Rattle.refusals.specs.declared.Checked.the-variants.{Accepted, Refused}
+use Rattle.fronts.specs.Cleared.{cleared}
 use Rattle.lines.specs.Passes.{nought}
-
--- "the needed front .. is zero", and "only the needed front is touched"
-abbrev pub cleared : {A : Type 0} → A → ℕ → List A → List A
-cleared zero needed before = replicate needed zero ++ drop needed before
 
 -- numbers whose front is cleared where a check refuses
 abbrev pub clearedWhere : Checked → ℕ → List Float → List Float

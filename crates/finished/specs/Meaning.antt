@@ -1,5 +1,6 @@
 -- What 8 means in plain terms: exactly when it is given, and with which place. The proofs are in proofs/Meant.
 use mathlib.Core.Path.{_≡_}
+use mathlib.Core.Bool.{true}
 use mathlib.Core.List.{List}
 use mathlib.Core.Logic.{_↔_}
 use Prim.Native.Nat.{ℕ, _+_, _*_}
@@ -9,7 +10,7 @@ use Rattle.refusals.specs.declared.Checked.{Checked}
 use Rattle.refusals.specs.declared.Checked.the-variants.{Accepted, Refused}
 use Rattle.refusals.specs.Refusals.{refusedAt, orNext}
 use Rattle.refusals.specs.Meaning.{FirstBad}
-use Rattle.score_tables.specs.Meaning.{FiniteTo, NotFinite}
+use Rattle.fronts.specs.Finite.{FiniteTo, NotFinite, allFinite}
 use Rattle.finished.specs.Rows.{finishedChecked, scoresFinished}
 
 -- a check that gives 8 exactly at the places that it should, and no other number
@@ -21,6 +22,10 @@ pub record Eight (check : Checked) (Fine : Type 0) (At : ℕ → Type 0) : Type 
 -- "counts: feature id": the first count that is not finite
 abbrev pub CountsMean : Type 0
 CountsMean = (counts : List Float) (features : ℕ) → Eight (finishedChecked counts features) (FiniteTo counts features) (FirstBad (NotFinite counts) features)
+
+-- 8 is not given exactly where the finite test of the front passes
+abbrev pub TestAccepts : Type 0
+TestAccepts = (numbers : List Float) (n : ℕ) → finishedChecked numbers n ≡ Accepted ↔ allFinite numbers n ≡ true
 
 -- "table: t·L+l, then T·L+prev·L+next": the first state that is not finite, or, where all states are finite, the first such transition
 pub data EightAt (labels words : ℕ) (states transitions : List Float) (place : ℕ) : Type 0 where

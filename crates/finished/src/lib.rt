@@ -1,8 +1,7 @@
 // Refusal 8 of a call on a single line: the finished scores, or the finished counts, are looked at, and where one of them is not
 // finite the needed front of what was made is zero again. A refusal that comes before them is handed on, and leaves the buffers.
-ghost use mathlib.Core.Bool.{true};
 ghost use mathlib.Core.Path.{_≡_};
-ghost use Prim.Native.Nat.{_+_, _*_, _≤_};
+ghost use Prim.Native.Nat.{_*_, _≤_};
 ghost use lib.ListN.{length};
 ghost use Rattle.refusals.specs.declared.Checked.the-variants.{Accepted, Refused};
 ghost use Rattle.score_tables.specs.Sound.{Sized};
@@ -11,31 +10,13 @@ ghost use Rattle.finished.specs.After.{clearedWhere};
 use refusals::Checked;
 use refusals::Refusal;
 
-// Both halves of the front are finite. One comparison tells of two entries, and the loop has no way out in the middle: it costs
-// less than half of a branch at each entry.
-fn halves_finite(numbers: &[f64], half: usize) -> bool
-    requires { ⌜ half + half ≤ length (now numbers) ⌝ }
-    ensures { λ r. ⌜ (r ≡ true → finishedChecked (now (numbers .entry)) (half + half) ≡ Accepted) ⌝ }
-{
-    let mut all = true;
-    let mut i = 0usize;
-    while i < half {
-        let both = binary64::are_finite(numbers[i], numbers[half + i]);
-        all = all & both;
-        i += 1;
-    }
-    all
-}
-
-// How many of the first n are seen to be finite at a glance: all but an odd last one, or else none.
+// Where to begin to look for the first that is not finite: past the front where all of it is seen to be finite at a glance.
 fn finite_front(numbers: &[f64], n: usize) -> usize
     requires { ⌜ n ≤ length (now numbers) ⌝ }
     ensures { λ r. ⌜ r ≤ n ⌝ }
     ensures { λ r. ⌜ finishedChecked (now (numbers .entry)) r ≡ Accepted ⌝ }
 {
-    let half = n / 2;
-    let all = halves_finite(numbers, half);
-    if all { half + half } else { 0 }
+    if fronts::all_finite(numbers, n) { n } else { 0 }
 }
 
 // 8: neither a NaN nor an infinity among the first n, whose places follow on others.
@@ -90,8 +71,8 @@ pub fn finish_scores(
 {
     let finished = check_scores(labels, words, transitions, states);
     if let Checked::Refused(why) = finished {
-        lines::clear_front(states, score_tables::entries(words, labels));
-        lines::clear_front(transitions, score_tables::entries(labels, labels));
+        fronts::fill(states, score_tables::entries(words, labels), 0.0);
+        fronts::fill(transitions, score_tables::entries(labels, labels), 0.0);
         return Checked::Refused(why);
     }
     Checked::Accepted
@@ -113,7 +94,7 @@ pub fn finish_counts(features: usize, counts: &mut [f64]) -> Checked
 {
     let finished = check_finished(counts, features, 0);
     if let Checked::Refused(why) = finished {
-        lines::clear_front(counts, features);
+        fronts::fill(counts, features, 0.0);
         return Checked::Refused(why);
     }
     Checked::Accepted

@@ -1,1 +1,2 @@
+mod Product
 mod Cell

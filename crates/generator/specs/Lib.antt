@@ -1,1 +1,2 @@
+pub mod SplitMix64
 pub mod Draw

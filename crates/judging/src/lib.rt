@@ -42,8 +42,8 @@ pub fn judge(
     requires { ⌜ Scored labels words (now transitions) (now states) (now references) (now path) ⌝ }
     ensures { λ r. ⌜ Judged labels words (now (transitions .entry)) (now (states .entry)) (now (references .entry)) (now (path .exit)) r ⌝ }
 {
-    let finite = training_tables::all_finite(states, words * labels)
-        & training_tables::all_finite(transitions, labels * labels);
+    let finite = fronts::all_finite(states, words * labels)
+        & fronts::all_finite(transitions, labels * labels);
     if !finite {
         return Prediction {
             finite: false,

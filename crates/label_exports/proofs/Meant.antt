@@ -2,11 +2,13 @@
 use mathlib.Core.Path.{_≡_, refl, ap, _∙_}
 use mathlib.Core.List.{[], _∷_}
 use mathlib.Core.Logic.{inl, ⊎-elim}
+use Prim.Native.Nat.{ℕ}
 use lib.ListN.{length, take, drop}
 use lib.Seq.{take-at}
 use Rattle.refusals.specs.declared.Checked.{Checked}
 use Rattle.refusals.specs.declared.Checked.the-variants.{Accepted}
 use Rattle.refusals.specs.Refusals.{orNext}
+use Rattle.refusals.specs.Said.{Said}
 use Rattle.refusals.proofs.Laws.{either}
 use Rattle.best_path.specs.Decoded.{decodedPath, decodedSum}
 use Rattle.best_path.specs.Lead.{lead}
@@ -14,10 +16,12 @@ use Rattle.best_path.proofs.Laws.{decoded-length}
 use Rattle.best_path.proofs.Demand3.{demand-3}
 use Rattle.refusal_rows.proofs.Groups.{above-zero}
 use Rattle.finished.proofs.Meant.{scores-mean}
-use Rattle.scoring.specs.Promise.{statesOfLine, transitionsOfLine, finishedOf}
+use Rattle.compute_scores.specs.Promise.{statesOfLine, transitionsOfLine, finishedOf}
+use Rattle.viterbi.specs.Promise.{SumAndLead}
 use Rattle.label_line.specs.Promise.{scoresOf, checkedOf, answerTo, pathAfter}
 use Rattle.label_line.proofs.Meant.{checks-mean, labelled-so}
 use Rattle.label_line.proofs.Demand3.{all-finite}
+use Rattle.answers.specs.Numbers.{decodedNumbers}
 use Rattle.answers.proofs.Told.{number-of, sum-of, gives-refusal, refusal-given, zero-accepted}
 use Rattle.label_exports.specs.Meaning.{LabelsMean, EveryLineIsBest}
 
@@ -25,16 +29,19 @@ pub labels-mean : LabelsMean
 unfolding answerTo
 labels-mean given before outcome kept =
     let all : Checked = orNext (checkedOf given before) (finishedOf given) in
-    let sum = decodedSum (scoresOf given) (given .words) in
-    let ahead = lead (scoresOf given) (given .words) in
+    let found : SumAndLead = record { sum = decodedSum (scoresOf given) (given .words); lead = lead (scoresOf given) (given .words) } in
+    let number : Said SumAndLead → ℕ = λ x. decodedNumbers x .number in
+    let place : Said SumAndLead → ℕ = λ x. decodedNumbers x .place in
+    let zero = number-of (found .sum) (found .lead) in
     let s = scores-mean (given .model .labels) (given .words) (statesOfLine given) (transitionsOfLine given) in
     rw (kept .answers)
     (labelled-so given before _ _
-    (gives-refusal sum ahead all) (refusal-given sum ahead all)
-    (zero-accepted sum ahead all (λ number place h.
+    (gives-refusal number place found zero (λ why. refl) (λ why. refl) all)
+    (refusal-given number place found zero (λ why. refl) (λ why. refl) all)
+    (zero-accepted number place found zero (λ why. refl) (λ why. refl) all (λ n p h.
     ⊎-elim
-    (λ c. above-zero (1 ∷ 4 ∷ 2 ∷ 3 ∷ 5 ∷ 6 ∷ []) number tt (checks-mean given (length before) .only _ c))
-    (λ p. rw (s .only _ (p .1)) (above-zero (8 ∷ []) 8 tt (inl refl)))
+    (λ c. above-zero (1 ∷ 4 ∷ 2 ∷ 3 ∷ 5 ∷ 6 ∷ []) n tt (checks-mean given (length before) .only _ c))
+    (λ q. rw (s .only _ (q .1)) (above-zero (8 ∷ []) 8 tt (inl refl)))
     (either (checkedOf given before) (finishedOf given) _ h))))
 
 pub every-line-is-best : EveryLineIsBest

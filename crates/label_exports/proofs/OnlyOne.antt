@@ -2,7 +2,7 @@
 use mathlib.Core.Path.{_≡_, sym, _∙_}
 use mathlib.Core.List.{List}
 use Prim.Native.Nat.{ℕ}
-use Rattle.scoring.specs.Promise.{Given}
+use Rattle.compute_scores.specs.Promise.{Given}
 use Rattle.answers.specs.Numbers.{DecodedLine}
 use Rattle.label_exports.specs.Labels.{Labels}
 

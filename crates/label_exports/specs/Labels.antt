@@ -2,7 +2,7 @@
 use mathlib.Core.Path.{_≡_}
 use mathlib.Core.List.{List}
 use Prim.Native.Nat.{ℕ}
-use Rattle.scoring.specs.Promise.{Given}
+use Rattle.compute_scores.specs.Promise.{Given}
 use Rattle.label_line.specs.Promise.{answerTo, pathAfter}
 use Rattle.answers.specs.Numbers.{decodedNumbers, DecodedLine}
 

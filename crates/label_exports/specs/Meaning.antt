@@ -4,8 +4,8 @@ use mathlib.Core.List.{List}
 use Prim.Native.Nat.{ℕ}
 use lib.ListN.{take}
 use Rattle.best_path.specs.BestPath.{BestPath}
-use Rattle.scoring.specs.Promise.{Given}
-use Rattle.scoring.specs.Meaning.{ScoresFinite}
+use Rattle.compute_scores.specs.Promise.{Given}
+use Rattle.compute_scores.specs.Meaning.{ScoresFinite}
 use Rattle.label_line.specs.Promise.{scoresOf}
 use Rattle.label_line.specs.Meaning.{Meaning, Unrefused}
 use Rattle.answers.specs.Numbers.{DecodedLine}

@@ -1,18 +1,19 @@
 -- What labelling a line answers is best, as demand 3 says. Assumes nothing.
-use mathlib.Core.Path.{_≡_, sym, _∙_}
+use mathlib.Core.Path.{_≡_, sym, ap, _∙_}
 use lib.ListN.{length, take, drop}
 use lib.Seq.{take-at}
 use Rattle.refusals.specs.declared.Checked.the-variants.{Accepted}
 use Rattle.refusals.specs.Refusals.{orNext}
 use Rattle.refusals.proofs.Laws.{both}
+use Rattle.refusals.proofs.Said.{same-given, accepted-said}
 use Rattle.best_path.specs.Scores.{AllFinite}
 use Rattle.best_path.specs.Decoded.{decodedPath, decodedSum}
 use Rattle.best_path.proofs.Laws.{decoded-length}
 use Rattle.best_path.proofs.Demand3.{demand-3}
 use Rattle.score_tables.proofs.Laws.{within}
-use Rattle.viterbi.proofs.Said.{accepts, sum-said}
+use Rattle.viterbi.specs.Promise.{SumAndLead}
 use Rattle.finished.proofs.Meant.{scores-mean}
-use Rattle.scoring.specs.Promise.{Given, statesOfLine, transitionsOfLine, finishedOf}
+use Rattle.compute_scores.specs.Promise.{Given, statesOfLine, transitionsOfLine, finishedOf}
 use Rattle.label_line.specs.Promise.{scoresOf, checkedOf, answerTo, pathAfter}
 use Rattle.label_line.specs.Demand3.{AnswersAreBest}
 use Rattle.label_line.proofs.Meant.{checks-mean}
@@ -33,10 +34,10 @@ answers-are-best given before outcome kept sum l answer =
     let s = scoresOf given in
     let words = given .words in
     let said-so = sym (kept .answers) ∙ answer in
-    let all : orNext (checkedOf given before) (finishedOf given) ≡ Accepted = accepts _ _ sum l said-so in
+    let all : orNext (checkedOf given before) (finishedOf given) ≡ Accepted = accepted-said _ (record { sum = sum; lead = l }) _ said-so in
     let accepted = both (checkedOf given before) (finishedOf given) all in
     let fine = checks-mean given (length before) .accepted .0 (accepted .0) in
     let best = demand-3 s words (fine .0 .low) (fine .1 .0 .low) (all-finite given (accepted .1)) in
     let front : take words (outcome .path) ≡ decodedPath s words = rw (kept .path, accepted .0, accepted .1) (take-at (decodedPath s words) (drop words before) words (decoded-length s words (fine .1 .0 .low))) in
-    let same : decodedSum s words ≡ sum = sum-said _ _ _ _ (rw all at said-so) in
+    let same : decodedSum s words ≡ sum = ap (λ (found : SumAndLead). found .sum) (same-given (rw all at said-so)) in
     rw (front, ← same) best

@@ -7,13 +7,13 @@ use lib.Seq.{take-at}
 use Rattle.refusals.specs.declared.Checked.the-variants.{Accepted}
 use Rattle.refusals.specs.Refusals.{orNext}
 use Rattle.refusals.proofs.Laws.{both}
+use Rattle.refusals.proofs.Said.{accepted-said}
 use Rattle.best_path.specs.Decoded.{decodedPath}
 use Rattle.best_path.proofs.Laws.{decoded-length}
 use Rattle.viterbi.specs.Promise.{decoded, said}
-use Rattle.viterbi.proofs.Said.{accepts}
 use Rattle.same_scores.proofs.Same.{only-named-matters}
-use Rattle.scoring.specs.Promise.{Given, finishedOf}
-use Rattle.scoring.specs.Independent.{inputOf}
+use Rattle.compute_scores.specs.Promise.{Given, finishedOf}
+use Rattle.compute_scores.specs.Independent.{inputOf}
 use Rattle.label_line.specs.Promise.{Outcome, scoresOf, checkedOf, decodedOf, answerTo, pathAfter, Promised}
 use Rattle.label_line.specs.Independent.{IsLabelled, SameLabels}
 use Rattle.label_line.proofs.Meant.{checks-mean}
@@ -22,7 +22,7 @@ use Rattle.label_line.proofs.Meant.{checks-mean}
 module _ (given : Given) (before : List ℕ) (outcome : Outcome) (kept : Promised given before outcome) (labelled : IsLabelled outcome) where
   all : orNext (checkedOf given before) (finishedOf given) ≡ Accepted
   unfolding answerTo
-  all = accepts _ _ (labelled .0) (labelled .1) (sym (kept .answers) ∙ labelled .2)
+  all = accepted-said _ (record { sum = labelled .0; lead = labelled .1 }) _ (sym (kept .answers) ∙ labelled .2)
 
   accepted : (checkedOf given before ≡ Accepted) × (finishedOf given ≡ Accepted)
   accepted = both (checkedOf given before) (finishedOf given) all

@@ -10,9 +10,9 @@ use Rattle.refusals.specs.declared.Checked.the-variants.{Accepted, Refused}
 use Rattle.refusals.specs.Refusals.{orNext}
 use Rattle.lines.proofs.Fronts.{length-states, length-transitions}
 use Rattle.viterbi.specs.declared.Decoding.{Decoding}
-use Rattle.scoring.specs.Promise.{Given, Buffers, stateEntries, transitionEntries, statesOfLine, transitionsOfLine}
-use Rattle.scoring.proofs.Kept.{finished-is}
-use Rattle.decode_scores.specs.Finished.{Finished}
+use Rattle.compute_scores.specs.Promise.{Given, Buffers, stateEntries, transitionEntries, statesOfLine, transitionsOfLine}
+use Rattle.compute_scores.proofs.Kept.{finished-is}
+use Rattle.label_line.specs.Finished.{Finished}
 use Rattle.label_line.specs.Promise.{checkedOf, answerTo, pathAfter, Labelled, Promised}
 
 module _ (given : Given) (lent : Buffers) {states transitions : List Float} (p : states ≡ statesOfLine given ++ drop (stateEntries given) (lent .states)) (q : transitions ≡ transitionsOfLine given ++ drop (transitionEntries given) (lent .transitions)) where

@@ -1,3 +1,5 @@
+mod Fronts
+pub mod Parted
 pub mod Unique
 pub mod Meant
 pub mod Kept

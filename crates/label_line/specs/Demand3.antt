@@ -7,7 +7,7 @@ use lib.Ieee.{Float}
 use Rattle.best_path.specs.Lead.{Lead}
 use Rattle.best_path.specs.BestPath.{BestPath}
 use Rattle.viterbi.specs.Promise.{decoded, said}
-use Rattle.scoring.specs.Promise.{Given}
+use Rattle.compute_scores.specs.Promise.{Given}
 use Rattle.label_line.specs.Promise.{Outcome, scoresOf, Promised}
 
 -- whatever satisfies the promise and is no refusal has a best path of the line's scores at the front of the buffer, and its rounded sum in the answer

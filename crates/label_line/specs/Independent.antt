@@ -7,8 +7,8 @@ use lib.Ieee.{Float}
 use Rattle.best_path.specs.Lead.{Lead}
 use Rattle.viterbi.specs.Promise.{decoded, said}
 use Rattle.same_scores.specs.Agree.{Agree}
-use Rattle.scoring.specs.Promise.{Given}
-use Rattle.scoring.specs.Independent.{inputOf}
+use Rattle.compute_scores.specs.Promise.{Given}
+use Rattle.compute_scores.specs.Independent.{inputOf}
 use Rattle.label_line.specs.Promise.{Outcome, Promised}
 
 -- the answer is no refusal

@@ -1,3 +1,5 @@
+pub mod Finished
+pub mod Rows
 pub mod Promise
 pub mod Meaning
 pub mod Demand3

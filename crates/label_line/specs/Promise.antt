@@ -6,14 +6,15 @@ use lib.ListN.{length}
 use Rattle.refusals.specs.declared.Checked.{Checked}
 use Rattle.refusals.specs.declared.Checked.the-variants.{Accepted}
 use Rattle.refusals.specs.Refusals.{orNext}
+use Rattle.refusals.specs.Said.{Said, orRefused}
 use Rattle.best_path.specs.Scores.{Scores, tabled}
 use Rattle.best_path.specs.Decoded.{decodedPath, decodedSum}
 use Rattle.best_path.specs.Lead.{lead}
 use Rattle.viterbi.specs.declared.Decoding.{Decoding}
-use Rattle.viterbi.specs.Promise.{Said, decoded, said, orRefused}
+use Rattle.viterbi.specs.Promise.{SumAndLead, decoded, said}
 use Rattle.finished.specs.After.{contents}
-use Rattle.scoring.specs.Promise.{Given, statesOfLine, transitionsOfLine, finishedOf}
-use Rattle.label_check.specs.Rows.{labelChecked}
+use Rattle.compute_scores.specs.Promise.{Given, statesOfLine, transitionsOfLine, finishedOf}
+use Rattle.label_line.specs.Rows.{labelChecked}
 
 -- the answer, and what the lent buffer holds afterwards
 pub record Outcome : Type 0 where
@@ -29,11 +30,11 @@ abbrev pub checkedOf : Given → List ℕ → Checked
 checkedOf given before = labelChecked given (length before)
 
 -- "The answer is the path and its rounded sum", with the lead
-abbrev pub decodedOf : Given → Said
+abbrev pub decodedOf : Given → Said SumAndLead
 decodedOf given = decoded (decodedSum (scoresOf given) (given .words)) (lead (scoresOf given) (given .words))
 
 -- what document 01 says: "The lowest number wins", so 8, of the scores, comes last
-unfoldable pub answerTo : Given → List ℕ → Said
+unfoldable pub answerTo : Given → List ℕ → Said SumAndLead
 answerTo given before = orRefused (orNext (checkedOf given before) (finishedOf given)) (decodedOf given)
 
 unfoldable pub pathAfter : Given → List ℕ → List ℕ

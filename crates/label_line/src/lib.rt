@@ -1,14 +1,122 @@
 // Labelling a line under a model: its scores, which stay inside, then the decoded path with its sum and lead.
-ghost use Prim.Native.Nat.{_≤_};
-ghost use lib.ListN.{length};
+ghost use mathlib.Core.Path.{_≡_};
+ghost use Prim.Native.Nat.{_*_, _≤_};
+ghost use lib.ListN.{length, take};
+ghost use Rattle.viterbi.specs.Answered.{Ready, Answered};
+ghost use Rattle.label_line.specs.Finished.{Finished};
 ghost use Rattle.feature_gen.specs.Lent.{modelOf};
+ghost use Rattle.label_line.specs.Rows.{labelChecked};
 ghost use Rattle.line_check.specs.Sound.{SoundScoring};
 ghost use Rattle.label_line.specs.Promise.{Labelled, Promised};
 use feature_gen::Counts;
-use label_check::MOST_STATES;
-use label_check::MOST_TRANSITIONS;
 use refusals::Checked;
 use viterbi::Decoding;
+use viterbi_end::Found;
+
+// The most states of a line, and the most transitions: room for every line.
+pub const MOST_STATES: usize = 4096;
+
+pub const MOST_TRANSITIONS: usize = 1024;
+
+// 1, 4, 2, 3, 5 and 6. The scores have room, so of the buffers only the path can be too short: it comes after the tables, and
+// before anything is read of them.
+pub fn check_line(
+    labels: u32,
+    words: u32,
+    counts: Counts,
+    kinds: &[u8],
+    destinations: &[u32],
+    sources: &[u32],
+    weights: &[f64],
+    attribute_starts: &[u32],
+    attribute_entries: &[u32],
+    label_starts: &[u32],
+    label_entries: &[u32],
+    attributes: u32,
+    begins: &[u32],
+    ids: &[u32],
+    values: &[f64],
+    path: usize,
+) -> Checked
+    ensures { λ r. ⌜ r ≡ labelChecked (record { model = modelOf labels counts (now (kinds .entry)) (now (destinations .entry)) (now (sources .entry)) (now («attribute_starts» .entry)) (now («attribute_entries» .entry)) (now («label_starts» .entry)) (now («label_entries» .entry)); weights = now (weights .entry); words = words; line = record { starts = now (begins .entry); size = attributes; ids = now (ids .entry); values = now (values .entry) } }) path ⌝ }
+{
+    let sizes = line_check::scoring_sizes(
+        labels,
+        counts,
+        kinds,
+        destinations,
+        sources,
+        weights,
+        attribute_starts,
+        attribute_entries,
+        label_starts,
+        label_entries,
+        words,
+        attributes,
+        begins,
+        ids,
+        values,
+        MOST_TRANSITIONS,
+        MOST_STATES,
+    );
+    let room = refusals::refuse_if(sizes, 2, 0, refusals::is_short(path, words as usize));
+    let scoring = line_check::check_scoring(
+        labels,
+        counts,
+        kinds,
+        destinations,
+        sources,
+        weights,
+        attribute_starts,
+        attribute_entries,
+        label_starts,
+        label_entries,
+        words,
+        attributes,
+        begins,
+        ids,
+        values,
+        MOST_TRANSITIONS,
+        MOST_STATES,
+    );
+    refusals::or_next(room, scoring)
+}
+
+// Decoding over the fronts of two tables.
+fn decode_front(
+    labels: u32,
+    words: u32,
+    transitions: &[f64],
+    states: &[f64],
+    path: &mut [u32],
+) -> Found
+    requires { ⌜ Ready labels words (now transitions) (now states) (now path) ⌝ }
+    ensures { λ r. ⌜ Answered labels words (take (labels * labels) (now (transitions .entry))) (take (words * labels) (now (states .entry))) (now (path .entry)) r (now (path .exit)) ⌝ }
+{
+    let n = score_tables::entries(words, labels);
+    let m = score_tables::entries(labels, labels);
+    let needed = &transitions[..m];
+    viterbi::decode_tables(labels as usize, words as usize, needed, &states[..n], path)
+}
+
+// The labels by the scores of a line: 8 clears the path.
+pub fn decode_scores(
+    labels: u32,
+    words: u32,
+    transitions: &[f64],
+    states: &[f64],
+    path: &mut [u32],
+) -> Decoding
+    requires { ⌜ Ready labels words (now transitions) (now states) (now path) ⌝ }
+    ensures { λ r. ⌜ Finished labels words (now (transitions .entry)) (now (states .entry)) (now (path .entry)) r (now (path .exit)) ⌝ }
+{
+    let finished = finished::check_scores(labels, words, transitions, states);
+    if let Checked::Refused(late) = finished {
+        fronts::clear(path, words as usize);
+        return Decoding::Refused(late);
+    }
+    Decoding::Decoded(decode_front(labels, words, transitions, states, path))
+}
 
 // The labels of a line that is accepted, its scores in buffers that are long enough.
 fn label_accepted(
@@ -35,7 +143,7 @@ fn label_accepted(
     requires { ⌜ words ≤ length (now path) ⌝ }
     ensures { λ r. ⌜ Labelled (record { model = modelOf labels counts (now (kinds .entry)) (now (destinations .entry)) (now (sources .entry)) (now («attribute_starts» .entry)) (now («attribute_entries» .entry)) (now («label_starts» .entry)) (now («label_entries» .entry)); weights = now (weights .entry); words = words; line = record { starts = now (begins .entry); size = attributes; ids = now (ids .entry); values = now (values .entry) } }) (now (path .entry)) (record { answer = r; path = now (path .exit) }) ⌝ }
 {
-    scoring::fill_scores(
+    compute_scores::fill_scores(
         labels,
         words,
         counts,
@@ -54,7 +162,7 @@ fn label_accepted(
         transitions,
         states,
     );
-    decode_scores::decode_scores(labels, words, transitions, states, path)
+    decode_scores(labels, words, transitions, states, path)
 }
 
 // The labels of a line, at the front of `path`, with the sum and the lead; or the refusal.
@@ -78,7 +186,7 @@ pub fn label_line(
 ) -> Decoding
     ensures { λ r. ⌜ Promised (record { model = modelOf labels counts (now (kinds .entry)) (now (destinations .entry)) (now (sources .entry)) (now («attribute_starts» .entry)) (now («attribute_entries» .entry)) (now («label_starts» .entry)) (now («label_entries» .entry)); weights = now (weights .entry); words = words; line = record { starts = now (begins .entry); size = attributes; ids = now (ids .entry); values = now (values .entry) } }) (now (path .entry)) (record { answer = r; path = now (path .exit) }) ⌝ }
 {
-    let checked = label_check::check_line(
+    let checked = check_line(
         labels,
         words,
         counts,

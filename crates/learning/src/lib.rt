@@ -5,7 +5,7 @@ ghost use lib.ListN.{length};
 ghost use Rattle.training.specs.Epochs.{Result, trained};
 ghost use Rattle.feature_gen.specs.Sound.{Sound};
 ghost use Rattle.training_check.specs.Sound.{SoundData};
-ghost use Rattle.prediction.specs.Tables.{modelOf, dataOf};
+ghost use Rattle.prediction.specs.Tables.{modelAt, modelWas, dataAt, dataWas};
 ghost use Rattle.parameters.specs.Trainers.{ruleOf};
 ghost use Rattle.updates.specs.Updating.{Exact};
 ghost use Rattle.begin_and_end.specs.Ending.{Swept};
@@ -39,11 +39,15 @@ pub fn train(
     truly: &mut [f64],
     predicted: &mut [f64],
 ) -> Training
-    requires { ⌜ Sound (modelOf sizes (now kinds) (now destinations) (now sources) (now starts) (now entries) (now «label_starts») (now «label_entries»)) ⌝ }
-    requires { ⌜ SoundData (sizes .labels) (dataOf sizes (now lines) (now begins) (now ids) (now values) (now references) (now shares)) ⌝ }
+    requires { ⌜ Sound (modelAt sizes kinds destinations sources starts entries «label_starts» «label_entries») ⌝ }
+    requires { ⌜ SoundData (sizes .labels) (dataAt sizes lines begins ids values references shares) ⌝ }
     requires { ⌜ Exact (sizes .features) (now weights) (now beside) (now truly) (now predicted) ⌝ }
     requires { ⌜ (allowed ≤ 1000) × (length (now order) ≡ sizes .instances) ⌝ }
-    ensures { λ r. ⌜ _≡_ {A = Result} (record { answer = r; weights = now (weights .exit) }) (trained (ruleOf trainer) (record { epochs = allowed; epsilon = epsilon; seed = seed }) (modelOf sizes (now (kinds .entry)) (now (destinations .entry)) (now (sources .entry)) (now (starts .entry)) (now (entries .entry)) (now («label_starts» .entry)) (now («label_entries» .entry))) (dataOf sizes (now (lines .entry)) (now (begins .entry)) (now (ids .entry)) (now (values .entry)) (now (references .entry)) (now (shares .entry)))) ⌝ }
+    ensures { λ r.
+        let m = modelWas sizes kinds destinations sources starts entries «label_starts» «label_entries» in
+        let d = dataWas sizes lines begins ids values references shares in
+        let made : Result = record { answer = r; weights = now (weights .exit) } in
+        ⌜ made ≡ trained (ruleOf trainer) (record { epochs = allowed; epsilon = epsilon; seed = seed }) m d ⌝ }
     ensures { λ _. ⌜ Swept (sizes .features) (sizes .instances) (now (order .exit)) (now (beside .exit)) (now (truly .exit)) (now (predicted .exit)) ⌝ }
 {
     let features = sizes.features;

@@ -9,16 +9,17 @@ use Rattle.refusal_rows.specs.Limits.{Limit}
 use Rattle.refusal_rows.specs.Tests.{Test, startsRise, numbersFinite, Good}
 use Rattle.refusal_rows.proofs.Means.{two-means, Numbered, good-parts}
 use Rattle.refusal_rows.proofs.Groups.{Group, single, tested, rowsOf, given-first, given-after, accepted-when, given-only}
+use Rattle.refusal_rows.proofs.TableGroups.{pair}
 use Rattle.lines.specs.Tables.{Words}
 use Rattle.feature_gen.specs.Rows.{startTests, idTests, weightTests}
 use Rattle.feature_gen.proofs.Sound.{rising, below, all-finite, sound-words, sound, weighted}
-use Rattle.line_check.specs.Rows.{Scoring, Counting, scoringLimits, countingLimits, lineStarts, labelTests, valueTests, scoringChecked, countingChecked}
+use Rattle.line_check.specs.Rows.{Scoring, Counting, scoringCounts, scoringRooms, countingCounts, countingRooms, lineStarts, labelTests, valueTests, scoringChecked, countingChecked}
 use Rattle.line_check.specs.Sound.{LineSized, SoundLine}
 use Rattle.line_check.specs.Meaning.{Meaning, ScoringMeans, CountingMeans, ScoringSound, CountingSound}
 use Rattle.line_check.proofs.Laws.{scoring-within, counting-within}
 
 -- any call with these rows
-module _ (labels words : ℕ) (limits : List Limit) (starts ids numbers : List Test) (n3 : Numbered 3 starts) (n5 : Numbered 5 ids) (n6 : Numbered 6 numbers) where
+module _ (labels words : ℕ) (counts rooms : List Limit) (starts ids numbers : List Test) (n3 : Numbered 3 starts) (n5 : Numbered 5 ids) (n6 : Numbered 6 numbers) where
   abbrev ones : Group
   ones = single (one-means labels)
 
@@ -26,7 +27,7 @@ module _ (labels words : ℕ) (limits : List Limit) (starts ids numbers : List T
   fours = single (four-means words)
 
   abbrev twos : Group
-  twos = single (two-means limits)
+  twos = pair (two-means counts) (two-means rooms)
 
   abbrev threes : Group
   threes = tested 3 starts n3
@@ -40,7 +41,7 @@ module _ (labels words : ℕ) (limits : List Limit) (starts ids numbers : List T
   abbrev all : List Group
   all = ones ∷ fours ∷ twos ∷ threes ∷ fives ∷ sixes ∷ []
 
-  pub meaning : Meaning (first (rowsOf all)) labels words limits starts ids numbers
+  pub meaning : Meaning (first (rowsOf all)) labels words counts rooms starts ids numbers
   meaning = record {
     one = λ place. given-first place ones (fours ∷ twos ∷ threes ∷ fives ∷ sixes ∷ []) tt;
     four = λ place. given-after place (ones ∷ []) fours (twos ∷ threes ∷ fives ∷ sixes ∷ []) tt tt;
@@ -55,7 +56,7 @@ module _ (labels words : ℕ) (limits : List Limit) (starts ids numbers : List T
 pub scoring-means : ScoringMeans
 unfolding scoringChecked
 scoring-means s =
-    meaning (s .model .labels) (s .words) (scoringLimits s)
+    meaning (s .model .labels) (s .words) (scoringCounts s) (scoringRooms s)
     (lineStarts (s .model) (s .words) (s .line .starts) (s .line .size))
     (idTests (s .model))
     (weightTests (s .model) (s .weights) ++ valueTests (s .line))
@@ -66,7 +67,7 @@ scoring-means s =
 pub counting-means : CountingMeans
 unfolding countingChecked
 counting-means c =
-    meaning (c .model .labels) (c .words) (countingLimits c)
+    meaning (c .model .labels) (c .words) (countingCounts c) (countingRooms c)
     (lineStarts (c .model) (c .words) (c .line .starts) (c .line .size))
     (idTests (c .model) ++ labelTests c)
     (valueTests (c .line))

@@ -1,13 +1,15 @@
 -- Decided points of a call on a single line, computed over a small model: what is accepted, and which number comes first. Assumes nothing.
 use mathlib.Core.Path.{_≡_, refl}
+use mathlib.Core.Bool.{true}
 use mathlib.Core.List.{List, [], _∷_}
 use Prim.Native.Nat.{ℕ}
 use lib.Ieee.{Float, nan}
 use Rattle.refusals.specs.declared.Checked.the-variants.{Accepted}
 use Rattle.refusals.specs.Refusals.{refusedAt, refuse, orNext, lowest}
+use Rattle.refusal_rows.specs.Limits.{inOrder}
 use Rattle.lines.specs.Passes.{nought}
 use Rattle.lines.specs.Tables.{Model}
-use Rattle.line_check.specs.Rows.{Scoring, Counting, scoringChecked, countingChecked}
+use Rattle.line_check.specs.Rows.{Scoring, Counting, scoringCounts, countingCounts, scoringChecked, countingChecked}
 
 -- two labels, "attribute 0 .. listing State features to labels 0 and 1", whose sources may be anything, and three label lists with these entries
 abbrev small : List ℕ → Model
@@ -75,3 +77,10 @@ labelled = refl
 bad-label : countingChecked (counted 2 nan) ≡ refusedAt 5 0
 unfolding countingChecked lowest orNext refuse
 bad-label = refl
+
+-- the counts are tested in the order of "Tables and bounds"
+scoring-in-order : (s : Scoring) → inOrder (scoringCounts s) ≡ true
+scoring-in-order s = refl
+
+counting-in-order : (c : Counting) → inOrder (countingCounts c) ≡ true
+counting-in-order c = refl

@@ -6,11 +6,12 @@ use lib.ListN.{length}
 use lib.Ieee.{Float}
 use Rattle.refusals.specs.declared.Checked.{Checked}
 use Rattle.refusals.specs.Refusals.{first, refuse}
+use Rattle.refusals.specs.Bounds.{theAttributes}
 use Rattle.score_tables.specs.Rows.{one, four}
-use Rattle.refusal_rows.specs.Limits.{Limit, atMost, room, anyBroken, two}
+use Rattle.refusal_rows.specs.Limits.{Limit, count, room, anyBroken, two}
 use Rattle.refusal_rows.specs.Tests.{Test, startsRise, idsBelow, numbersFinite, checks}
 use Rattle.lines.specs.Tables.{Model, Words}
-use Rattle.feature_gen.specs.Rows.{modelLimits, weightLimits, startTests, idTests, weightTests}
+use Rattle.feature_gen.specs.Rows.{modelCounts, modelRooms, weightedRooms, startTests, idTests, weightTests}
 
 -- what a call that scores a line is given: T, the line's attributes by words, and how long the buffers for the scores are
 pub record Scoring : Type 0 where
@@ -29,47 +30,53 @@ pub record Counting : Type 0 where
   pub path : List ℕ
   pub features : ℕ
 
--- "attributes in all: at most 4,194,304"
-abbrev pub mostAttributes : ℕ
-mostAttributes = 4194304
+-- ---- 2 | "a count other than L, T and epochs outside its bound" | 0
 
--- ---- 2 | "a count other than L, T and epochs outside its bound, or a lent buffer too short" | 0
+-- the model's counts, and the line's attributes
+abbrev pub lineCounts : Model → Words → List Limit
+lineCounts m line = modelCounts m ++ count theAttributes (line .size) ∷ []
+
+abbrev pub scoringCounts : Scoring → List Limit
+scoringCounts s = lineCounts (s .model) (s .line)
+
+abbrev pub countingCounts : Counting → List Limit
+countingCounts c = lineCounts (c .model) (c .line)
+
+-- ---- 2 | "a lent buffer too short" | 0, in the order of the call's slices
 
 -- the line: "for n lists, n+1 starts"
-abbrev pub lineLimits : ℕ → Words → List Limit
-lineLimits words line =
-    atMost mostAttributes (line .size)
-    ∷ room (length (line .starts)) (words + 1)
+abbrev pub lineRooms : ℕ → Words → List Limit
+lineRooms words line =
+    room (length (line .starts)) (words + 1)
     ∷ room (length (line .ids)) (line .size)
     ∷ room (length (line .values)) (line .size)
     ∷ []
 
 -- the buffers for the scores: L·L transitions, T·L states
-abbrev pub scoreLimits : ℕ → ℕ → ℕ → ℕ → List Limit
-scoreLimits labels words transitions states =
+abbrev pub scoreRooms : ℕ → ℕ → ℕ → ℕ → List Limit
+scoreRooms labels words transitions states =
     room transitions (labels * labels)
     ∷ room states (words * labels)
     ∷ []
 
-abbrev pub scoringLimits : Scoring → List Limit
-scoringLimits s =
-    modelLimits (s .model)
-    ++ weightLimits (s .model) (s .weights)
-    ++ lineLimits (s .words) (s .line)
-    ++ scoreLimits (s .model .labels) (s .words) (s .transitions) (s .states)
+abbrev pub scoringRooms : Scoring → List Limit
+scoringRooms s =
+    weightedRooms (s .model) (s .weights)
+    ++ lineRooms (s .words) (s .line)
+    ++ scoreRooms (s .model .labels) (s .words) (s .transitions) (s .states)
 
 -- the labels, and the buffer for the counts
-abbrev pub countLimits : Counting → List Limit
-countLimits c =
+abbrev pub countRooms : Counting → List Limit
+countRooms c =
     room (length (c .path)) (c .words)
     ∷ room (c .features) (c .model .features .count)
     ∷ []
 
-abbrev pub countingLimits : Counting → List Limit
-countingLimits c =
-    modelLimits (c .model)
-    ++ lineLimits (c .words) (c .line)
-    ++ countLimits c
+abbrev pub countingRooms : Counting → List Limit
+countingRooms c =
+    modelRooms (c .model)
+    ++ lineRooms (c .words) (c .line)
+    ++ countRooms c
 
 -- ---- 3 | "a rule of starts is broken" | "index of the first bad start": attribute lists, label lists, then the line's attributes
 
@@ -92,32 +99,34 @@ valueTests line = numbersFinite (line .values) (line .size) ∷ []
 
 -- ---- the order: "a call that takes T as a number tests 4 right after 1"
 
--- 1, 4 and 2: what can be said before any table is read
-abbrev pub sizesTested : ℕ → ℕ → Bool → Checked
-sizesTested labels words outside = first (one labels ∷ four words ∷ refuse 2 0 outside ∷ [])
+-- 1, 4, 2 of the counts and 2 of the rooms: what can be said before any table is read
+abbrev pub sizesTested : ℕ → ℕ → Bool → Bool → Checked
+sizesTested labels words outside short = first (one labels ∷ four words ∷ refuse 2 0 outside ∷ refuse 2 0 short ∷ [])
 
 unfoldable pub scoringSized : Scoring → Checked
-scoringSized s = sizesTested (s .model .labels) (s .words) (anyBroken (scoringLimits s))
+scoringSized s = sizesTested (s .model .labels) (s .words) (anyBroken (scoringCounts s)) (anyBroken (scoringRooms s))
 
 unfoldable pub scoringChecked : Scoring → Checked
 scoringChecked s =
     first
     (one (s .model .labels)
     ∷ four (s .words)
-    ∷ two (scoringLimits s)
+    ∷ two (scoringCounts s)
+    ∷ two (scoringRooms s)
     ∷ checks (lineStarts (s .model) (s .words) (s .line .starts) (s .line .size))
     ++ checks (idTests (s .model))
     ++ checks (weightTests (s .model) (s .weights) ++ valueTests (s .line)))
 
 unfoldable pub countingSized : Counting → Checked
-countingSized c = sizesTested (c .model .labels) (c .words) (anyBroken (countingLimits c))
+countingSized c = sizesTested (c .model .labels) (c .words) (anyBroken (countingCounts c)) (anyBroken (countingRooms c))
 
 unfoldable pub countingChecked : Counting → Checked
 countingChecked c =
     first
     (one (c .model .labels)
     ∷ four (c .words)
-    ∷ two (countingLimits c)
+    ∷ two (countingCounts c)
+    ∷ two (countingRooms c)
     ∷ checks (lineStarts (c .model) (c .words) (c .line .starts) (c .line .size))
     ++ checks (idTests (c .model) ++ labelTests c)
     ++ checks (valueTests (c .line)))

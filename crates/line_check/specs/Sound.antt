@@ -2,16 +2,17 @@
 use mathlib.Core.List.{List}
 use Prim.Native.Nat.{ℕ, _*_, _<_, _≤_}
 use lib.ListN.{length, getD}
+use Rattle.refusals.specs.Bounds.{theAttributes, most}
 use Rattle.score_tables.specs.Sound.{WordsIn}
-use Rattle.score_tables.specs.Meaning.{FiniteTo}
+use Rattle.fronts.specs.Finite.{FiniteTo}
 use Rattle.lines.specs.Tables.{Words}
 use Rattle.lines.specs.Sound.{SoundWords}
 use Rattle.feature_gen.specs.Sound.{Sized, Sound, Weighted}
-use Rattle.line_check.specs.Rows.{Scoring, Counting, mostAttributes}
+use Rattle.line_check.specs.Rows.{Scoring, Counting}
 
 -- 2 does not apply to the line: its attributes are not too many, and each of its tables has room for its count
 pub record LineSized (words : ℕ) (line : Words) : Type 0 where
-  pub few-attributes : line .size ≤ mostAttributes
+  pub few-attributes : line .size ≤ most theAttributes
   pub starts : words < length (line .starts)
   pub ids : line .size ≤ length (line .ids)
   pub values : line .size ≤ length (line .values)

@@ -9,38 +9,38 @@ ghost use Rattle.refusal_rows.specs.Limits.{anyBroken};
 ghost use Rattle.refusal_rows.specs.Tests.{checks};
 ghost use Rattle.feature_gen.specs.Lent.{modelOf};
 ghost use Rattle.feature_gen.specs.Sound.{Sized};
-ghost use Rattle.line_check.specs.Rows.{Scoring, Counting, lineLimits, scoreLimits, sizesTested, listTests};
+ghost use Rattle.line_check.specs.Rows.{Scoring, Counting, lineRooms, scoreRooms, sizesTested, listTests};
 ghost use Rattle.line_check.specs.Rows.{scoringSized, scoringChecked, countingSized, countingChecked};
 use feature_gen::Counts;
 use refusals::Checked;
 
 pub const MOST_ATTRIBUTES: u32 = 4194304;
 
-// 2: whether a line's attributes are too many, or one of its tables too short.
-pub fn exceeds(words: u32, attributes: u32, begins: &[u32], ids: &[u32], values: &[f64]) -> bool
-    ensures { λ r. ⌜ r ≡ anyBroken (lineLimits words (record { starts = now (begins .entry); size = attributes; ids = now (ids .entry); values = now (values .entry) })) ⌝ }
+// 2: whether a table of a line is too short.
+pub fn lacks_line(words: u32, attributes: u32, begins: &[u32], ids: &[u32], values: &[f64]) -> bool
+    ensures { λ r. ⌜ r ≡ anyBroken (lineRooms words (record { starts = now (begins .entry); size = attributes; ids = now (ids .entry); values = now (values .entry) })) ⌝ }
 {
-    (MOST_ATTRIBUTES < attributes)
-        | (begins.len() < words as usize + 1)
+    (begins.len() < words as usize + 1)
         | (ids.len() < attributes as usize)
         | (values.len() < attributes as usize)
 }
 
-// 2: whether a buffer for the scores of a line is too short.
-fn exceeds_scores(labels: u32, words: u32, transitions: usize, states: usize) -> bool
-    ensures { λ r. ⌜ r ≡ anyBroken (scoreLimits labels words transitions states) ⌝ }
+// 2: whether a buffer for the scores is too short.
+fn lacks_scores(labels: u32, words: u32, transitions: usize, states: usize) -> bool
+    ensures { λ r. ⌜ r ≡ anyBroken (scoreRooms labels words transitions states) ⌝ }
 {
     (transitions < score_tables::entries(labels, labels))
         | (states < score_tables::entries(words, labels))
 }
 
-// 1, 4 and 2, the last where the sizes that a call looks at are outside.
-fn check_sizes(labels: u32, words: u32, outside: bool) -> Checked
-    ensures { λ r. ⌜ r ≡ sizesTested labels words outside ⌝ }
+// 1 and 4; 2 where a count that a call looks at is outside its bound, then where what it is lent is too short.
+fn check_sizes(labels: u32, words: u32, outside: bool, short: bool) -> Checked
+    ensures { λ r. ⌜ r ≡ sizesTested labels words outside short ⌝ }
 {
     let bounds = score_tables::check_bounds(labels, words);
-    let sizes = refusals::refuse_if(Checked::Accepted, 2, 0, outside);
-    refusals::or_next(bounds, sizes)
+    let two = refusals::refuse_if(Checked::Accepted, 2, 0, outside);
+    let counts = refusals::or_next(bounds, two);
+    refusals::refuse_if(counts, 2, 0, short)
 }
 
 // 3 and 5 for the model's tables, with the line's starts between.
@@ -69,7 +69,8 @@ fn check_lists(
     feature_gen::check_entries(features, counts, attribute_entries, label_entries)
 }
 
-fn scoring_sizes(
+// 1, 4 and 2 of a line to be scored: what can be said before any table is read.
+pub fn scoring_sizes(
     labels: u32,
     counts: Counts,
     kinds: &[u8],
@@ -90,20 +91,21 @@ fn scoring_sizes(
 ) -> Checked
     ensures { λ r. ⌜ r ≡ scoringSized (record { model = modelOf labels counts (now (kinds .entry)) (now (destinations .entry)) (now (sources .entry)) (now («attribute_starts» .entry)) (now («attribute_entries» .entry)) (now («label_starts» .entry)) (now («label_entries» .entry)); weights = now (weights .entry); words = words; line = record { starts = now (begins .entry); size = attributes; ids = now (ids .entry); values = now (values .entry) }; transitions = transitions; states = states }) ⌝ }
 {
-    let model = feature_gen::exceeds(
+    let outside = feature_gen::exceeds(counts) | (MOST_ATTRIBUTES < attributes);
+    let model = feature_gen::lacks_weighted(
         counts,
         kinds,
         destinations,
         sources,
+        weights,
         attribute_starts,
         attribute_entries,
         label_starts,
         label_entries,
     );
-    let short = weights.len() < counts.features as usize;
-    let line = exceeds(words, attributes, begins, ids, values);
-    let scores = exceeds_scores(labels, words, transitions, states);
-    check_sizes(labels, words, model | short | line | scores)
+    let line = lacks_line(words, attributes, begins, ids, values);
+    let scores = lacks_scores(labels, words, transitions, states);
+    check_sizes(labels, words, outside, model | line | scores)
 }
 
 // Whether a line can be scored under a model into buffers of these lengths.
@@ -189,7 +191,8 @@ fn counting_sizes(
 ) -> Checked
     ensures { λ r. ⌜ r ≡ countingSized (record { model = modelOf labels counts (now (kinds .entry)) (now (destinations .entry)) (now (sources .entry)) (now («attribute_starts» .entry)) (now («attribute_entries» .entry)) (now («label_starts» .entry)) (now («label_entries» .entry)); words = words; line = record { starts = now (begins .entry); size = attributes; ids = now (ids .entry); values = now (values .entry) }; path = now (path .entry); features = features }) ⌝ }
 {
-    let model = feature_gen::exceeds(
+    let outside = feature_gen::exceeds(counts) | (MOST_ATTRIBUTES < attributes);
+    let model = feature_gen::lacks_tables(
         counts,
         kinds,
         destinations,
@@ -199,9 +202,9 @@ fn counting_sizes(
         label_starts,
         label_entries,
     );
-    let line = exceeds(words, attributes, begins, ids, values);
+    let line = lacks_line(words, attributes, begins, ids, values);
     let short = (path.len() < words as usize) | (features < counts.features as usize);
-    check_sizes(labels, words, model | line | short)
+    check_sizes(labels, words, outside, model | line | short)
 }
 
 // Whether the features of a line can be counted under labels into a buffer of this length.

@@ -1,11 +1,11 @@
 -- Laws of a pass over a range, for the loops that make one. Assumes nothing.
 use mathlib.Core.Path.{_≡_, refl, sym, ap, _∙_}
-use mathlib.Core.List.{List, [], _∷_, _++_}
+use mathlib.Core.List.{List}
 use Prim.Native.Nat.{ℕ, zero, suc, _+_, _-_, _≤_, _<_}
 use native.Mathlib.Numerals.{add-one}
-use native.Mathlib.Nat.{le-antisymm, zero-add, not-suc-le-zero, le-of-suc-le-suc}
+use native.Mathlib.Nat.{le-antisymm, zero-add}
 use native.Mathlib.Omega.{arith}
-use lib.ListN.{getD, set, drop, replicate, length}
+use lib.ListN.{getD}
 use Rattle.lines.specs.Passes.{through, throughList}
 
 module _ {S : Type 0} (step : ℕ → S → S) where
@@ -80,16 +80,3 @@ unfolding through
 through-cong f g first zero s h = refl
 through-cong f g first (suc n) s h =
     h n (omega arith) (through f first n s) ∙ ap (g (first + n)) (through-cong f g first n s (λ j k t. h j (omega arith) t))
-
--- ---- a loop that fills a list from the front, one store a turn
-module _ {A : Type 0} (v : A) where
-  pub fill-none : (d : List A) → d ≡ replicate 0 v ++ drop 0 d
-  fill-none d = refl
-
-  fill-suc : (n : ℕ) (d : List A) → n < length d → set (replicate n v ++ drop n d) n v ≡ replicate (suc n) v ++ drop (suc n) d
-  fill-suc n [] l = absurd (not-suc-le-zero l)
-  fill-suc zero (x ∷ d) l = refl
-  fill-suc (suc n) (x ∷ d) l = ap (λ (t : List A). v ∷ t) (fill-suc n d (le-of-suc-le-suc l))
-
-  pub fill-more : (n : ℕ) (d : List A) → n < length d → set (replicate n v ++ drop n d) n v ≡ replicate (n + 1) v ++ drop (n + 1) d
-  fill-more n d l = rw add-one (fill-suc n d l)

@@ -1,11 +1,9 @@
 // The tables of a model and of lines, what the scores and the feature counts of a line are, and the laws of these definitions.
-// Of code only what scoring and counting share: the attribute that they hand on, how an attribute and the places of its list are
-// read, and how a buffer's front is cleared. The loops over these are in compute_scores and extract_features.
+// Of code only what scoring and counting share: the attribute that they hand on, and how an attribute and the places of its list
+// are read. The loops over these are in compute_scores and extract_features.
 ghost use mathlib.Core.Path.{_≡_};
-ghost use mathlib.Core.List.{List, _++_};
-ghost use Prim.Native.Nat.{ℕ, _+_, _≤_, _<_, min};
-ghost use lib.ListN.{length, getD, drop, replicate};
-ghost use Rattle.lines.specs.Passes.{nought};
+ghost use Prim.Native.Nat.{_≤_, _<_, min};
+ghost use lib.ListN.{length, getD};
 ghost use Rattle.lines.specs.Spans.{attributeBefore, spanOf};
 
 // "An attribute is an id with a value."
@@ -70,16 +68,4 @@ pub fn attribute_span(lists: usize, starts: &[u32], attribute: Attribute) -> Spa
     ensures { λ r. ⌜ r ≡ spanOf lists (now (starts .entry)) (attribute .id) ⌝ }
 {
     list_span(lists, starts, attribute.id as usize)
-}
-
-// The first n are +0, and what comes after them stays.
-pub fn clear_front(buffer: &mut [f64], n: usize)
-    requires { ⌜ n ≤ length (now buffer) ⌝ }
-    ensures { λ _. ⌜ now (buffer .exit) ≡ replicate n nought ++ drop n (now (buffer .entry)) ⌝ }
-{
-    let mut i = 0;
-    while i < n {
-        buffer[i] = 0.0;
-        i += 1;
-    }
 }

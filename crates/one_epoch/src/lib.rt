@@ -1,14 +1,12 @@
 // An epoch's visits, in the order of the shuffle.
-ghost use Prim.Native.Nat.{ℕ, _+_, _≤_, _<_, _^_};
-ghost use lib.ListN.{length, getD};
 ghost use Rattle.training.specs.Visits.{visited};
 ghost use Rattle.training.specs.Epochs.{epochOver};
 ghost use Rattle.feature_gen.specs.Sound.{Sound};
 ghost use Rattle.training_check.specs.Sound.{SoundData};
-ghost use Rattle.prediction.specs.Tables.{modelOf, dataOf};
+ghost use Rattle.prediction.specs.Tables.{modelAt, modelWas, dataAt, dataWas};
 ghost use Rattle.parameters.specs.Trainers.{ruleOf};
 ghost use Rattle.updates.specs.Updating.{stateOf, Agreed, Exact};
-ghost use Rattle.one_epoch.specs.Visited.{CountedIn};
+ghost use Rattle.one_epoch.specs.Visited.{Ahead, CountedIn};
 use parameters::Trainer;
 use prediction::Sizes;
 use training::Step;
@@ -38,12 +36,16 @@ pub fn epoch(
     truly: &mut [f64],
     predicted: &mut [f64],
 ) -> Step
-    requires { ⌜ Sound (modelOf sizes (now kinds) (now destinations) (now sources) (now starts) (now entries) (now «label_starts») (now «label_entries»)) ⌝ }
-    requires { ⌜ SoundData (sizes .labels) (dataOf sizes (now lines) (now begins) (now ids) (now values) (now references) (now shares)) ⌝ }
+    requires { ⌜ Sound (modelAt sizes kinds destinations sources starts entries «label_starts» «label_entries») ⌝ }
+    requires { ⌜ SoundData (sizes .labels) (dataAt sizes lines begins ids values references shares) ⌝ }
     requires { ⌜ Exact (sizes .features) (now weights) (now beside) (now truly) (now predicted) ⌝ }
-    requires { ⌜ (sizes .instances ≤ length (now order)) × ((j : ℕ) → j < sizes .instances → getD (now order) j 0 < sizes .instances) ⌝ }
-    requires { ⌜ (s .visits + sizes .instances ≤ 2 ^ 53) × (s .updates ≤ s .visits) ⌝ }
-    ensures { λ r. ⌜ Agreed (stateOf r (now (weights .exit)) (now (beside .exit))) (epochOver (visited (ruleOf trainer) (modelOf sizes (now (kinds .entry)) (now (destinations .entry)) (now (sources .entry)) (now (starts .entry)) (now (entries .entry)) (now («label_starts» .entry)) (now («label_entries» .entry))) (dataOf sizes (now (lines .entry)) (now (begins .entry)) (now (ids .entry)) (now (values .entry)) (now (references .entry)) (now (shares .entry)))) (now (order .entry)) (sizes .instances) (stateOf s (now (weights .entry)) (now (beside .entry)))) ⌝ }
+    requires { ⌜ Ahead (sizes .instances) (now order) s ⌝ }
+    ensures { λ r.
+        let m = modelWas sizes kinds destinations sources starts entries «label_starts» «label_entries» in
+        let d = dataWas sizes lines begins ids values references shares in
+        let before = stateOf s (now (weights .entry)) (now (beside .entry)) in
+        let after = stateOf r (now (weights .exit)) (now (beside .exit)) in
+        ⌜ Agreed after (epochOver (visited (ruleOf trainer) m d) (now (order .entry)) (sizes .instances) before) ⌝ }
     ensures { λ r. ⌜ CountedIn (sizes .instances) s r ⌝ }
 {
     let n = sizes.instances;
@@ -80,7 +82,7 @@ pub fn epoch(
             predicted,
         );
         let v = step.visit;
-        if steps::is_refused(v) {
+        if updates::is_refused(v) {
             return step;
         }
         j += 1;

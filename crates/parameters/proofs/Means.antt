@@ -12,13 +12,14 @@ use lib.Ieee.Scale.{finite}
 use Rattle.refusals.specs.declared.Checked.{Checked}
 use Rattle.refusals.specs.declared.Checked.the-variants.{Accepted}
 use Rattle.refusals.specs.Refusals.{refusedAt, refuse}
+use Rattle.refusals.specs.Bounds.{theEpochs, most}
 use Rattle.refusals.specs.Meaning.{AllAccepted, FirstRefused}
 use Rattle.refusals.proofs.Laws.{passes, holds, never, neither, test-number, place-of}
 use Rattle.score_tables.proofs.Order.{Never, why}
 use Rattle.refusal_rows.proofs.Means.{outside-means}
 use Rattle.refusal_rows.proofs.Groups.{Group}
 use Rattle.lines.specs.Passes.{nought}
-use Rattle.parameters.specs.Parameters.{Parameter, epochs, epsilon, scale, gamma, variant, numberOf, lastVariant, mostEpochs, negative, notAboveZero, unfit, sevens, Fit, AllFit, FirstUnfit}
+use Rattle.parameters.specs.Parameters.{Parameter, epochs, epsilon, scale, gamma, variant, numberOf, lastVariant, negative, notAboveZero, unfit, sevens, Fit, AllFit, FirstUnfit}
 
 holds-if : (b : Bool) → not b ≡ false ↔ T b
 holds-if true = (λ h. tt, λ t. refl)
@@ -40,7 +41,7 @@ positive-means x = (
 )
 
 pub fit-means : (p : Parameter) → unfit p ≡ false ↔ Fit p
-fit-means (epochs n) = outside-means 1 mostEpochs n
+fit-means (epochs n) = outside-means 1 (most theEpochs) n
 fit-means (epsilon x) = negative-means x
 fit-means (scale x) = positive-means x
 fit-means (gamma x) = positive-means x

@@ -9,15 +9,11 @@ use lib.Ieee.{Float, lt}
 use lib.Ieee.Scale.{finite}
 use Rattle.refusals.specs.declared.Checked.{Checked}
 use Rattle.refusals.specs.Refusals.{refuse}
-use Rattle.refusals.specs.Tables.{outside}
+use Rattle.refusals.specs.Bounds.{theEpochs, bound, Inside, outsideIts}
 use Rattle.lines.specs.Passes.{nought}
 use Rattle.parameters.specs.declared.Perceptron.{Perceptron}
 use Rattle.parameters.specs.declared.Passive.{Passive}
 use Rattle.parameters.specs.declared.Arow.{Arow}
-
--- "Epochs: 1 to 1,000."
-abbrev pub mostEpochs : ℕ
-mostEpochs = 1000
 
 -- "variants 0 Pa, 1 PaI, 2 PaII"
 abbrev pub lastVariant : ℕ
@@ -56,7 +52,7 @@ abbrev pub notAboveZero : Float → Bool
 notAboveZero x = not (lt nought x) || not (finite x)
 
 abbrev pub unfit : Parameter → Bool
-unfit (epochs n) = outside 1 mostEpochs n
+unfit (epochs n) = outsideIts theEpochs n
 unfit (epsilon x) = negative x
 unfit (scale x) = notAboveZero x
 unfit (gamma x) = notAboveZero x
@@ -70,7 +66,7 @@ sevens (p ∷ ps) = refuse 7 (numberOf p) (unfit p) ∷ sevens ps
 -- ---- the same in plain terms
 
 abbrev pub Fit : Parameter → Type 0
-Fit (epochs n) = (1 ≤ n) × (n ≤ mostEpochs)
+Fit (epochs n) = Inside (bound theEpochs) n
 Fit (epsilon x) = (lt x nought ≡ false) × T (finite x)
 Fit (scale x) = (lt nought x ≡ true) × T (finite x)
 Fit (gamma x) = (lt nought x ≡ true) × T (finite x)

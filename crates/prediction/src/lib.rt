@@ -4,7 +4,7 @@ ghost use Prim.Native.Nat.{_*_, _≤_};
 ghost use lib.ListN.{length};
 ghost use Rattle.lines.specs.Scored.{statesOf, transitionsOf};
 ghost use Rattle.feature_gen.specs.Sound.{Sound};
-ghost use Rattle.prediction.specs.Tables.{modelOf, wordsIn, SoundLine};
+ghost use Rattle.prediction.specs.Tables.{modelAt, modelWas, wordsAt, wordsWas, SoundLine};
 ghost use Rattle.judging.specs.Judged.{Judged};
 use judging::Prediction;
 
@@ -42,11 +42,15 @@ fn predict_in(
     states: &mut [f64],
     path: &mut [u32],
 ) -> Prediction
-    requires { ⌜ Sound (modelOf sizes (now kinds) (now destinations) (now sources) (now starts) (now entries) (now «label_starts») (now «label_entries»)) ⌝ }
-    requires { ⌜ SoundLine (sizes .labels) (wordsIn sizes (now begins) (now ids) (now values)) first words (now references) ⌝ }
+    requires { ⌜ Sound (modelAt sizes kinds destinations sources starts entries «label_starts» «label_entries») ⌝ }
+    requires { ⌜ SoundLine (sizes .labels) (wordsAt sizes begins ids values) first words (now references) ⌝ }
     requires { ⌜ (length (now weights) ≡ sizes .features) × (length (now path) ≡ words) ⌝ }
     requires { ⌜ (length (now transitions) ≡ sizes .labels * sizes .labels) × (length (now states) ≡ words * sizes .labels) ⌝ }
-    ensures { λ r. ⌜ Judged (sizes .labels) words (transitionsOf (modelOf sizes (now (kinds .entry)) (now (destinations .entry)) (now (sources .entry)) (now (starts .entry)) (now (entries .entry)) (now («label_starts» .entry)) (now («label_entries» .entry))) (now (weights .entry))) (statesOf (modelOf sizes (now (kinds .entry)) (now (destinations .entry)) (now (sources .entry)) (now (starts .entry)) (now (entries .entry)) (now («label_starts» .entry)) (now («label_entries» .entry))) (now (weights .entry)) (wordsIn sizes (now (begins .entry)) (now (ids .entry)) (now (values .entry))) first words) (now (references .entry)) (now (path .exit)) r ⌝ }
+    ensures { λ r.
+        let m = modelWas sizes kinds destinations sources starts entries «label_starts» «label_entries» in
+        let line = wordsWas sizes begins ids values in
+        let w = now (weights .entry) in
+        ⌜ Judged (sizes .labels) words (transitionsOf m w) (statesOf m w line first words) (now (references .entry)) (now (path .exit)) r ⌝ }
 {
     let labels = sizes.labels;
     let features = sizes.features;
@@ -100,11 +104,15 @@ fn predict_short(
     references: &[u32],
     path: &mut [u32],
 ) -> Prediction
-    requires { ⌜ Sound (modelOf sizes (now kinds) (now destinations) (now sources) (now starts) (now entries) (now «label_starts») (now «label_entries»)) ⌝ }
-    requires { ⌜ SoundLine (sizes .labels) (wordsIn sizes (now begins) (now ids) (now values)) first words (now references) ⌝ }
+    requires { ⌜ Sound (modelAt sizes kinds destinations sources starts entries «label_starts» «label_entries») ⌝ }
+    requires { ⌜ SoundLine (sizes .labels) (wordsAt sizes begins ids values) first words (now references) ⌝ }
     requires { ⌜ (length (now weights) ≡ sizes .features) × (length (now path) ≡ words) ⌝ }
     requires { ⌜ (sizes .labels * sizes .labels ≤ 256) × (words * sizes .labels ≤ 256) ⌝ }
-    ensures { λ r. ⌜ Judged (sizes .labels) words (transitionsOf (modelOf sizes (now (kinds .entry)) (now (destinations .entry)) (now (sources .entry)) (now (starts .entry)) (now (entries .entry)) (now («label_starts» .entry)) (now («label_entries» .entry))) (now (weights .entry))) (statesOf (modelOf sizes (now (kinds .entry)) (now (destinations .entry)) (now (sources .entry)) (now (starts .entry)) (now (entries .entry)) (now («label_starts» .entry)) (now («label_entries» .entry))) (now (weights .entry)) (wordsIn sizes (now (begins .entry)) (now (ids .entry)) (now (values .entry))) first words) (now (references .entry)) (now (path .exit)) r ⌝ }
+    ensures { λ r.
+        let m = modelWas sizes kinds destinations sources starts entries «label_starts» «label_entries» in
+        let line = wordsWas sizes begins ids values in
+        let w = now (weights .entry) in
+        ⌜ Judged (sizes .labels) words (transitionsOf m w) (statesOf m w line first words) (now (references .entry)) (now (path .exit)) r ⌝ }
 {
     let mut transitions = [0.0; 256];
     let mut states = [0.0; 256];
@@ -151,10 +159,14 @@ fn predict_long(
     references: &[u32],
     path: &mut [u32],
 ) -> Prediction
-    requires { ⌜ Sound (modelOf sizes (now kinds) (now destinations) (now sources) (now starts) (now entries) (now «label_starts») (now «label_entries»)) ⌝ }
-    requires { ⌜ SoundLine (sizes .labels) (wordsIn sizes (now begins) (now ids) (now values)) first words (now references) ⌝ }
+    requires { ⌜ Sound (modelAt sizes kinds destinations sources starts entries «label_starts» «label_entries») ⌝ }
+    requires { ⌜ SoundLine (sizes .labels) (wordsAt sizes begins ids values) first words (now references) ⌝ }
     requires { ⌜ (length (now weights) ≡ sizes .features) × (length (now path) ≡ words) ⌝ }
-    ensures { λ r. ⌜ Judged (sizes .labels) words (transitionsOf (modelOf sizes (now (kinds .entry)) (now (destinations .entry)) (now (sources .entry)) (now (starts .entry)) (now (entries .entry)) (now («label_starts» .entry)) (now («label_entries» .entry))) (now (weights .entry))) (statesOf (modelOf sizes (now (kinds .entry)) (now (destinations .entry)) (now (sources .entry)) (now (starts .entry)) (now (entries .entry)) (now («label_starts» .entry)) (now («label_entries» .entry))) (now (weights .entry)) (wordsIn sizes (now (begins .entry)) (now (ids .entry)) (now (values .entry))) first words) (now (references .entry)) (now (path .exit)) r ⌝ }
+    ensures { λ r.
+        let m = modelWas sizes kinds destinations sources starts entries «label_starts» «label_entries» in
+        let line = wordsWas sizes begins ids values in
+        let w = now (weights .entry) in
+        ⌜ Judged (sizes .labels) words (transitionsOf m w) (statesOf m w line first words) (now (references .entry)) (now (path .exit)) r ⌝ }
 {
     let mut transitions = [0.0; 1024];
     let mut states = [0.0; 4096];
@@ -201,10 +213,14 @@ pub fn predict(
     references: &[u32],
     path: &mut [u32],
 ) -> Prediction
-    requires { ⌜ Sound (modelOf sizes (now kinds) (now destinations) (now sources) (now starts) (now entries) (now «label_starts») (now «label_entries»)) ⌝ }
-    requires { ⌜ SoundLine (sizes .labels) (wordsIn sizes (now begins) (now ids) (now values)) first words (now references) ⌝ }
+    requires { ⌜ Sound (modelAt sizes kinds destinations sources starts entries «label_starts» «label_entries») ⌝ }
+    requires { ⌜ SoundLine (sizes .labels) (wordsAt sizes begins ids values) first words (now references) ⌝ }
     requires { ⌜ (length (now weights) ≡ sizes .features) × (length (now path) ≡ words) ⌝ }
-    ensures { λ r. ⌜ Judged (sizes .labels) words (transitionsOf (modelOf sizes (now (kinds .entry)) (now (destinations .entry)) (now (sources .entry)) (now (starts .entry)) (now (entries .entry)) (now («label_starts» .entry)) (now («label_entries» .entry))) (now (weights .entry))) (statesOf (modelOf sizes (now (kinds .entry)) (now (destinations .entry)) (now (sources .entry)) (now (starts .entry)) (now (entries .entry)) (now («label_starts» .entry)) (now («label_entries» .entry))) (now (weights .entry)) (wordsIn sizes (now (begins .entry)) (now (ids .entry)) (now (values .entry))) first words) (now (references .entry)) (now (path .exit)) r ⌝ }
+    ensures { λ r.
+        let m = modelWas sizes kinds destinations sources starts entries «label_starts» «label_entries» in
+        let line = wordsWas sizes begins ids values in
+        let w = now (weights .entry) in
+        ⌜ Judged (sizes .labels) words (transitionsOf m w) (statesOf m w line first words) (now (references .entry)) (now (path .exit)) r ⌝ }
 {
     let labels = sizes.labels;
     if (labels * labels <= 256) & (words * labels <= 256) {

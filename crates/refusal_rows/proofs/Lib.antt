@@ -1,4 +1,3 @@
 pub mod Means
 pub mod Groups
 pub mod TableGroups
-pub mod Said

@@ -9,14 +9,14 @@ use borrow.Author.Tests.{ltb-false, le-ltb}
 use lib.Dec.{ltb}
 use Rattle.refusals.specs.declared.Checked.the-variants.{Accepted}
 use Rattle.refusals.specs.Tables.{outside}
+use Rattle.refusals.specs.Bounds.{Bound, span, upTo, theLineWords, bound, beyond, Inside, most, outsideIts}
 use Rattle.refusals.specs.Meaning.{Exactly, AllAccepted, FirstRefused, StartsMean, KindsMean, IdsMean, SourcesMean, NumbersMean}
 use Rattle.refusals.proofs.Laws.{neither, passes}
 use Rattle.refusals.proofs.Meant.{exactly, starts-mean, kinds-mean, ids-mean, sources-mean, numbers-mean}
-use Rattle.score_tables.specs.Rows.{mostWords}
 use Rattle.score_tables.specs.Sound.{WordsIn}
 use Rattle.score_tables.specs.Meaning.{Row}
 use Rattle.score_tables.proofs.Order.{row, Never, not-table, why}
-use Rattle.refusal_rows.specs.Limits.{Limit, atMost, between, room, broken, brokenFrom, anyBroken, two, Within, AllWithin}
+use Rattle.refusal_rows.specs.Limits.{Limit, count, room, broken, brokenFrom, anyBroken, two, Within, AllWithin}
 use Rattle.refusal_rows.specs.Tests.{Test, startsRise, linesFit, kindsKnown, idsBelow, sourcesBelow, numbersFinite, wordsIn, badLength, checked, checks, numberOf, places, Bad, Good, AllGood, FirstBadOf}
 
 -- ---- limits
@@ -27,9 +27,12 @@ outside-means least most n = (
   λ w. rw (le-ltb n least (w .0), le-ltb most n (w .1)),
 )
 
+beyond-means : (b : Bound) (n : ℕ) → beyond b n ≡ false ↔ Inside b n
+beyond-means (span least most) n = outside-means least most n
+beyond-means (upTo most) n = (ltb-false most n, le-ltb most n)
+
 limit-means : (limit : Limit) → broken limit ≡ false ↔ Within limit
-limit-means (atMost most n) = (ltb-false most n, le-ltb most n)
-limit-means (between least most n) = outside-means least most n
+limit-means (count which n) = beyond-means (bound which) n
 limit-means (room have need) = (ltb-false have need, le-ltb have need)
 
 -- the answer so far is no, and no limit is broken
@@ -84,13 +87,13 @@ otherwise : {Fine : Type 0} (b : Bool) → b ≡ false ↔ Fine → b ≡ true �
 otherwise true m = (λ e f. let z : _≡_ {A = ℕ} 0 1 = cc (m .1 f) in omega arith, λ n. refl)
 otherwise false m = (λ e f. let z : _≡_ {A = ℕ} 0 1 = cc in omega arith, λ n. absurd (n (m .0 refl)))
 
-words-mean : (n : ℕ) → outside 1 mostWords n ≡ false ↔ WordsIn n
-words-mean n = let m = outside-means 1 mostWords n in (λ h. record { low = m .0 h .0; high = m .0 h .1 }, λ w. m .1 (w .low, w .high))
+words-mean : (n : ℕ) → outsideIts theLineWords n ≡ false ↔ WordsIn n
+words-mean n = let m = outside-means 1 (most theLineWords) n in (λ h. record { low = m .0 h .0; high = m .0 h .1 }, λ w. m .1 (w .low, w .high))
 
 lengths-mean : (table : List ℕ) (n : ℕ) → Exactly (checked (linesFit table n)) 4 n (Bad (linesFit table n))
 lengths-mean table n =
     exactly 4 (badLength table) n (Bad (linesFit table n))
-    (λ i. otherwise (outside 1 mostWords (wordsIn table i)) (words-mean (wordsIn table i)))
+    (λ i. otherwise (outsideIts theLineWords (wordsIn table i)) (words-mean (wordsIn table i)))
 
 le-unless : {a b : ℕ} → (b < a → ⊥) → a ≤ b
 le-unless h = omega arith

@@ -8,7 +8,8 @@ use Rattle.refusals.specs.declared.Checked.{Checked}
 use Rattle.refusals.specs.Meaning.{FirstRefused}
 use Rattle.refusals.proofs.Laws.{place-of}
 use Rattle.score_tables.specs.Rows.{sixes}
-use Rattle.score_tables.specs.Meaning.{Row, FiniteTo, SixAt}
+use Rattle.score_tables.specs.Meaning.{Row, SixAt}
+use Rattle.fronts.specs.Finite.{FiniteTo}
 use Rattle.score_tables.proofs.Order.{not-row, why, of-two}
 use Rattle.score_tables.proofs.Meant.{finite-to, to-finite, not-six, six-means}
 use Rattle.refusal_rows.specs.Given.{AtZero}

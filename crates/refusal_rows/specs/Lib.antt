@@ -1,4 +1,3 @@
 pub mod Limits
 pub mod Tests
 pub mod Given
-pub mod Said

@@ -1,22 +1,21 @@
--- Row 2 of document 01's table as a list of limits: bounds of counts, and room in what is lent. Assumes nothing.
-use mathlib.Core.Bool.{Bool, false, _||_}
+-- Row 2 of document 01's table as lists of limits: counts within their bounds, and room in what is lent. A call has a list of each, counts first. Assumes nothing.
+use mathlib.Core.Bool.{Bool, true, false, _||_, _&&_}
 use mathlib.Core.List.{List, [], _∷_}
-use Prim.Native.Nat.{ℕ, _≤_}
-use lib.Dec.{ltb}
+use Prim.Native.Nat.{ℕ, _+_, _≤_}
+use lib.Dec.{leb}
 use Rattle.refusals.specs.declared.Checked.{Checked}
 use Rattle.refusals.specs.Refusals.{refuse}
-use Rattle.refusals.specs.Tables.{outside, short}
+use Rattle.refusals.specs.Tables.{short}
+use Rattle.refusals.specs.Bounds.{Count, position, bound, Inside, outsideIts}
 
--- "0 to" a bound, a bound "to" another, and a lent table or buffer with what is needed of it
+-- a count that is so large, and a lent table or buffer with what is needed of it
 pub data Limit : Type 0 where
-  atMost : (most n : ℕ) → Limit
-  between : (least most n : ℕ) → Limit
+  count : (which : Count) (n : ℕ) → Limit
   room : (have need : ℕ) → Limit
 
 -- "outside its bound", "too short"
 abbrev pub broken : Limit → Bool
-broken (atMost most n) = ltb most n
-broken (between least most n) = outside least most n
+broken (count which n) = outsideIts which n
 broken (room have need) = short have need
 
 -- the answer so far, or one of the limits is broken
@@ -27,6 +26,15 @@ brokenFrom answer (limit ∷ limits) = brokenFrom (answer || broken limit) limit
 abbrev pub anyBroken : List Limit → Bool
 anyBroken limits = brokenFrom false limits
 
+-- limits that are counts alone, in document 01's order: a test that computes
+abbrev pub risingFrom : ℕ → List Limit → Bool
+risingFrom least [] = true
+risingFrom least (count which n ∷ limits) = leb least (position which) && risingFrom (position which + 1) limits
+risingFrom least (room have need ∷ limits) = false
+
+abbrev pub inOrder : List Limit → Bool
+inOrder limits = risingFrom 0 limits
+
 -- 2 | "a count other than L, T and epochs outside its bound, or a lent buffer too short" | 0
 abbrev pub two : List Limit → Checked
 two limits = refuse 2 0 (anyBroken limits)
@@ -34,10 +42,13 @@ two limits = refuse 2 0 (anyBroken limits)
 -- ---- the same in plain terms
 
 abbrev pub Within : Limit → Type 0
-Within (atMost most n) = n ≤ most
-Within (between least most n) = (least ≤ n) × (n ≤ most)
+Within (count which n) = Inside (bound which) n
 Within (room have need) = need ≤ have
 
 abbrev pub AllWithin : List Limit → Type 0
 AllWithin [] = Unit
 AllWithin (limit ∷ limits) = Within limit × AllWithin limits
+
+-- every count is within its bound, and every table and buffer has room
+abbrev pub Fitting : List Limit → List Limit → Type 0
+Fitting counts rooms = AllWithin counts × AllWithin rooms

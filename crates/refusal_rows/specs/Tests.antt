@@ -9,9 +9,9 @@ use lib.Ieee.{Float, nan}
 use lib.Ieee.Scale.{finite}
 use Rattle.refusals.specs.declared.Checked.{Checked}
 use Rattle.refusals.specs.Refusals.{lowest}
-use Rattle.refusals.specs.Tables.{outside, startsChecked, kindsChecked, idsChecked, sourcesChecked, numbersChecked}
+use Rattle.refusals.specs.Tables.{startsChecked, kindsChecked, idsChecked, sourcesChecked, numbersChecked}
+use Rattle.refusals.specs.Bounds.{theLineWords, outsideIts}
 use Rattle.refusals.specs.Meaning.{FirstBad, BadStart}
-use Rattle.score_tables.specs.Rows.{mostWords}
 use Rattle.score_tables.specs.Sound.{WordsIn}
 
 -- how many words an instance has, by the starts of the instances
@@ -35,7 +35,7 @@ pub data Test : Type 0 where
 
 -- the T of instance i is outside 1 to 128
 abbrev pub badLength : List ℕ → ℕ → Bool
-badLength table i = outside 1 mostWords (wordsIn table i)
+badLength table i = outsideIts theLineWords (wordsIn table i)
 
 abbrev pub lengthsChecked : List ℕ → ℕ → Checked
 lengthsChecked table n = lowest 4 (badLength table) n

@@ -7,8 +7,12 @@ use Rattle.refusals.specs.declared.Checked.{Checked}
 use Rattle.refusals.specs.declared.Checked.the-variants.{Accepted, Refused}
 
 -- the refusal with this number and place: nothing else makes one
+abbrev pub numbered : ℕ → ℕ → Refusal
+numbered number place = record { number = number; place = place }
+
+-- a check that refuses so
 abbrev pub refusedAt : ℕ → ℕ → Checked
-refusedAt number place = Refused (record { number = number; place = place })
+refusedAt number place = Refused (numbered number place)
 
 -- "Given exactly when": refused where the test holds
 unfoldable pub refuse : ℕ → ℕ → Bool → Checked

@@ -1,7 +1,7 @@
 // Refusals: the numbers and places of document 01's table, and which of two comes first.
 ghost use mathlib.Core.Path.{_≡_};
 ghost use Prim.Native.Nat.{_≤_};
-ghost use Rattle.refusals.specs.Refusals.{refusedAt, refuse, orNext, toCheck};
+ghost use Rattle.refusals.specs.Refusals.{numbered as Refusals·numbered, refusedAt, refuse, orNext, toCheck};
 ghost use Rattle.refusals.specs.Tables.{outside, short};
 
 pub struct Refusal {
@@ -15,13 +15,20 @@ pub enum Checked {
 }
 
 // The refusal with this number and place: nothing else makes one.
+pub fn numbered(number: u32, place: u64) -> Refusal
+    ensures { λ r. ⌜ r ≡ Refusals·numbered number place ⌝ }
+{
+    Refusal {
+        number: number,
+        place: place,
+    }
+}
+
+// A check that refuses so.
 pub fn refused(number: u32, place: usize) -> Checked
     ensures { λ r. ⌜ r ≡ refusedAt number place ⌝ }
 {
-    Checked::Refused(Refusal {
-        number: number,
-        place: place as u64,
-    })
+    Checked::Refused(numbered(number, place as u64))
 }
 
 // The answer so far where that refuses, or else the next.

@@ -9,8 +9,9 @@ use lib.Ieee.{Float, nan, inf, fin, binary64, fits, lt, size, toBits, ofBits}
 use lib.Ieee.Bits.{ofBits-toBits}
 use lib.Ieee.Nearest.{div-same}
 use lib.Ieee.Positive.{num, den, den-pos}
-use Rattle.roots.specs.Root.{plain, square, total, NearestRoot, nearestRoot, OnlyOne, WorkedOut}
-use Rattle.roots.proofs.Units.{one, held, order}
+use Rattle.binary64.specs.Units.{plain, one}
+use Rattle.binary64.proofs.Units.{held, order}
+use Rattle.roots.specs.Root.{square, total, NearestRoot, nearestRoot, OnlyOne, WorkedOut}
 use Rattle.roots.proofs.Nearest.{units, passes, passes-nearest}
 use Rattle.roots.proofs.Each.{each-at}
 

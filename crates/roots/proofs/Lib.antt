@@ -1,5 +1,4 @@
-mod Gap
-mod Units
+mod Middle
 mod Nearest
 mod Each
 mod Patterns

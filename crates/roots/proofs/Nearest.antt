@@ -10,9 +10,11 @@ use lib.Ieee.{Float, nan, inf, fin, lt}
 use lib.Ieee.Scale.{finite}
 use lib.Ieee.Fits.{and-l, and-r}
 use lib.Ieee.Positive.{num, den, den-pos}
-use Rattle.roots.specs.Root.{plain, square, RootBelowMiddle, RootAboveMiddle, NearestRoot}
-use Rattle.roots.proofs.Gap.{some, after, before, after-least, before-most}
-use Rattle.roots.proofs.Units.{one, Units, taken, lt-units, below-middle, above-middle}
+use Rattle.binary64.specs.Units.{plain, one, Units}
+use Rattle.binary64.proofs.Gap.{some, after, before, after-least, before-most}
+use Rattle.binary64.proofs.Units.{taken, lt-units}
+use Rattle.roots.specs.Root.{square, RootBelowMiddle, RootAboveMiddle, NearestRoot}
+use Rattle.roots.proofs.Middle.{below-middle, above-middle}
 
 -- how many units a plain x is
 abbrev pub units : Float → ℕ

@@ -8,8 +8,9 @@ use lib.Dec.{T, leb, eqb, eqb→eq, nleb→lt, lit≤}
 use lib.Arith.{lt→nleb}
 use lib.Ieee.{Float, nan, inf, fin, binary64, fits, odd, ofFields, ofBits, toBits}
 use lib.Ieee.Bits.{ofBits-fits, ofBits-toBits, is-false}
-use Rattle.roots.specs.Root.{plain, EveryPattern}
-use Rattle.roots.proofs.Units.{held}
+use Rattle.binary64.specs.Units.{plain}
+use Rattle.roots.specs.Root.{EveryPattern}
+use Rattle.binary64.proofs.Units.{held}
 
 -- finite with the sign +, whatever holds it
 abbrev good : Float → Bool

@@ -6,12 +6,7 @@ use lib.Dec.{T, leb, eqb}
 use lib.Ieee.{Float, nan, inf, fin, binary64, fits, lt, round, ofBits, toBits}
 use lib.Ieee.Scale.{finite}
 use lib.Ieee.Positive.{num, den}
-
--- a finite binary64 with the sign +; of the two zeros it is +0
-abbrev pub plain : Float → Bool
-plain nan = false
-plain (inf s) = false
-plain (fin s m e) = not s && fits binary64 (fin s m e)
+use Rattle.binary64.specs.Units.{plain}
 
 abbrev pub square : ℕ → ℕ
 square a = a * a

@@ -16,7 +16,8 @@ use Rattle.refusals.specs.Tables.{numbersChecked}
 use Rattle.refusals.proofs.Laws.{neither, passes}
 use Rattle.refusals.proofs.Meant.{numbers-finite}
 use Rattle.best_path.specs.Scores.{AllFinite, tabled}
-use Rattle.score_tables.specs.Rows.{mostLabels, mostWords, one, four, two}
+use Rattle.refusals.specs.Bounds.{theLabels, theLineWords, most}
+use Rattle.score_tables.specs.Rows.{one, four, two}
 use Rattle.score_tables.specs.Sound.{LabelsIn, WordsIn, Room, Sized}
 
 -- the product of two numbers of 32 bits fits 64
@@ -35,13 +36,13 @@ within rows width row column r c = omega (arith, mul-le-mul-right width r)
 -- 1, 4 and 2 accept: the sizes are in bounds
 pub labels-in : {labels : ℕ} → one labels ≡ Accepted → LabelsIn labels
 labels-in {labels} h =
-    let o = neither (ltb labels 1) (ltb mostLabels labels) (passes 1 0 _ h) in
-    record { low = ltb-false labels 1 (o .0); high = ltb-false mostLabels labels (o .1) }
+    let o = neither (ltb labels 1) (ltb (most theLabels) labels) (passes 1 0 _ h) in
+    record { low = ltb-false labels 1 (o .0); high = ltb-false (most theLabels) labels (o .1) }
 
 pub words-in : {words : ℕ} → four words ≡ Accepted → WordsIn words
 words-in {words} h =
-    let o = neither (ltb words 1) (ltb mostWords words) (passes 4 0 _ h) in
-    record { low = ltb-false words 1 (o .0); high = ltb-false mostWords words (o .1) }
+    let o = neither (ltb words 1) (ltb (most theLineWords) words) (passes 4 0 _ h) in
+    record { low = ltb-false words 1 (o .0); high = ltb-false (most theLineWords) words (o .1) }
 
 module _ {labels words : ℕ} {transitions states : List Float} where
   pub room : two labels words transitions states ≡ Accepted → Room labels words transitions states

@@ -15,16 +15,18 @@ use Rattle.refusals.specs.Tables.{numbersChecked}
 use Rattle.refusals.specs.Meaning.{FirstRefused}
 use Rattle.refusals.proofs.Meant.{numbers-mean, numbers-finite}
 use Rattle.best_path.specs.Scores.{AllFinite, tabled}
-use Rattle.score_tables.specs.Rows.{mostLabels, mostWords, sixes}
-use Rattle.score_tables.specs.Meaning.{OneMeans, FourMeans, TwoMeans, FiniteTo, SixAt, in-transitions, in-states}
+use Rattle.refusals.specs.Bounds.{theLabels, theLineWords, most}
+use Rattle.score_tables.specs.Rows.{sixes}
+use Rattle.score_tables.specs.Meaning.{OneMeans, FourMeans, TwoMeans, SixAt, in-transitions, in-states}
+use Rattle.fronts.specs.Finite.{FiniteTo}
 use Rattle.score_tables.proofs.Laws.{true-holds, within, labels-in, words-in, room}
 use Rattle.score_tables.proofs.Order.{row, Never, not-table, why}
 
 pub one-means : OneMeans
-one-means labels = row 1 _ labels-in (λ l. rw (le-ltb labels 1 (l .low), le-ltb mostLabels labels (l .high)))
+one-means labels = row 1 _ labels-in (λ l. rw (le-ltb labels 1 (l .low), le-ltb (most theLabels) labels (l .high)))
 
 pub four-means : FourMeans
-four-means words = row 4 _ words-in (λ w. rw (le-ltb words 1 (w .low), le-ltb mostWords words (w .high)))
+four-means words = row 4 _ words-in (λ w. rw (le-ltb words 1 (w .low), le-ltb (most theLineWords) words (w .high)))
 
 pub two-means : TwoMeans
 two-means labels words transitions states =

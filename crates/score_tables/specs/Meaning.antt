@@ -1,18 +1,15 @@
 -- What the rows of the score tables mean in plain terms: each number exactly when document 01 gives it. The proofs are in proofs/Meant.
 use mathlib.Core.Path.{_≡_}
-use mathlib.Core.Bool.{false}
 use mathlib.Core.List.{List}
 use mathlib.Core.Logic.{_↔_}
-use Prim.Native.Nat.{ℕ, _*_, _<_}
-use lib.Dec.{T}
-use lib.ListN.{getD}
-use lib.Ieee.{Float, nan}
-use lib.Ieee.Scale.{finite}
+use Prim.Native.Nat.{ℕ, _*_}
+use lib.Ieee.{Float}
 use Rattle.refusals.specs.declared.Refusal.{Refusal}
 use Rattle.refusals.specs.declared.Checked.{Checked}
 use Rattle.refusals.specs.declared.Checked.the-variants.{Accepted, Refused}
 use Rattle.refusals.specs.Refusals.{refusedAt}
 use Rattle.refusals.specs.Meaning.{FirstBad}
+use Rattle.fronts.specs.Finite.{FiniteTo, NotFinite}
 use Rattle.score_tables.specs.Rows.{one, four, two}
 use Rattle.score_tables.specs.Sound.{LabelsIn, WordsIn, Room}
 
@@ -30,14 +27,6 @@ FourMeans = (words : ℕ) → Row (four words) 4 (WordsIn words)
 
 abbrev pub TwoMeans : Type 0
 TwoMeans = (labels words : ℕ) (transitions states : List Float) → Row (two labels words transitions states) 2 (Room labels words transitions states)
-
--- the first n numbers of a table are finite
-abbrev pub FiniteTo : List Float → ℕ → Type 0
-FiniteTo numbers n = (i : ℕ) → i < n → T (finite (getD numbers i nan))
-
--- "not finite"
-abbrev pub NotFinite : List Float → ℕ → Type 0
-NotFinite numbers i = finite (getD numbers i nan) ≡ false
 
 -- the place of 6: the first bad entry of the first table that has one, "transitions; states"
 pub data SixAt (labels words : ℕ) (transitions states : List Float) (place : ℕ) : Type 0 where

@@ -6,23 +6,16 @@ use lib.ListN.{length}
 use lib.Ieee.{Float}
 use Rattle.refusals.specs.declared.Checked.{Checked}
 use Rattle.refusals.specs.Refusals.{first, refuse}
-use Rattle.refusals.specs.Tables.{outside, short, numbersChecked}
-
--- "Labels L: 1 to 32"
-abbrev pub mostLabels : ℕ
-mostLabels = 32
-
--- "Words T: 1 to 128 a line"
-abbrev pub mostWords : ℕ
-mostWords = 128
+use Rattle.refusals.specs.Tables.{short, numbersChecked}
+use Rattle.refusals.specs.Bounds.{theLabels, theLineWords, outsideIts}
 
 -- 1 | "L outside its bound" | 0
 abbrev pub one : ℕ → Checked
-one labels = refuse 1 0 (outside 1 mostLabels labels)
+one labels = refuse 1 0 (outsideIts theLabels labels)
 
 -- 4 | "a T outside 1 to 128" | "0 for a single line"
 abbrev pub four : ℕ → Checked
-four words = refuse 4 0 (outside 1 mostWords words)
+four words = refuse 4 0 (outsideIts theLineWords words)
 
 -- 2 | "a lent buffer too short": L·L transitions, T·L states | 0
 abbrev pub two : ℕ → ℕ → List Float → List Float → Checked

@@ -3,18 +3,18 @@ use mathlib.Core.List.{List}
 use Prim.Native.Nat.{ℕ, _*_, _≤_}
 use lib.ListN.{length}
 use lib.Ieee.{Float}
+use Rattle.refusals.specs.Bounds.{theLabels, theLineWords, most}
 use Rattle.best_path.specs.Scores.{AllFinite, tabled}
-use Rattle.score_tables.specs.Rows.{mostLabels, mostWords}
 
 -- 1 does not apply: "Labels L: 1 to 32"
 pub record LabelsIn (labels : ℕ) : Type 0 where
   pub low : 1 ≤ labels
-  pub high : labels ≤ mostLabels
+  pub high : labels ≤ most theLabels
 
 -- 4 does not apply: "Words T: 1 to 128 a line"
 pub record WordsIn (words : ℕ) : Type 0 where
   pub low : 1 ≤ words
-  pub high : words ≤ mostWords
+  pub high : words ≤ most theLineWords
 
 -- 2 does not apply: each table has its entries
 pub record Room (labels words : ℕ) (transitions states : List Float) : Type 0 where

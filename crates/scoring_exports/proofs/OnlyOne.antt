@@ -1,6 +1,6 @@
 -- No two different outcomes satisfy one promise. Assumes nothing.
 use mathlib.Core.Path.{_≡_, sym, _∙_}
-use Rattle.scoring.specs.Promise.{Given, Buffers}
+use Rattle.compute_scores.specs.Promise.{Given, Buffers}
 use Rattle.scoring_exports.specs.Scores.{Outcome, Scores}
 
 pub one-scored : (given : Given) (before : Buffers) (a b : Outcome) → Scores given before a → Scores given before b → a ≡ b

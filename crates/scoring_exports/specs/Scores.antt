@@ -2,7 +2,7 @@
 use mathlib.Core.Path.{_≡_}
 use mathlib.Core.List.{List}
 use lib.Ieee.{Float}
-use Rattle.scoring.specs.Promise.{Given, Buffers, answerTo, statesAfter, transitionsAfter}
+use Rattle.compute_scores.specs.Promise.{Given, Buffers, answerTo, statesAfter, transitionsAfter}
 use Rattle.answers.specs.declared.checks.Refused.{Refused}
 use Rattle.answers.specs.Numbers.{numbers}
 

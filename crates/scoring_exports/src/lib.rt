@@ -27,7 +27,7 @@ pub extern "C" fn bodkinbloom_compute_scores(
 ) -> Refused
     ensures { λ r. ⌜ Scores (record { model = modelOf labels counts (now (kinds .entry)) (now (destinations .entry)) (now (sources .entry)) (now («attribute_starts» .entry)) (now («attribute_entries» .entry)) (now («label_starts» .entry)) (now («label_entries» .entry)); weights = now (weights .entry); words = words; line = record { starts = now («word_starts» .entry); size = attributes; ids = now (ids .entry); values = now (values .entry) } }) (record { transitions = now (transitions .entry); states = now (states .entry) }) (record { answer = r; transitions = now (transitions .exit); states = now (states .exit) }) ⌝ }
 {
-    let answer = scoring::compute_scores(
+    let answer = compute_scores::compute_scores(
         labels,
         words,
         counts,

@@ -1,17 +1,17 @@
 -- What a path score answers means what `Meaning` says. Assumes nothing.
-use mathlib.Core.Path.{_≡_, refl, sym, ap, _∙_}
+use mathlib.Core.Path.{_≡_, sym, ap, _∙_}
 use mathlib.Core.List.{List, [], _∷_}
 use mathlib.Core.Logic.{_↔_}
 use Prim.Native.Nat.{ℕ, _≤_, _<_}
 use native.Mathlib.Omega.{arith}
 use borrow.Author.Tests.{ltb-false, le-ltb}
 use lib.ListN.{length}
-use lib.Ieee.{Float}
 use Rattle.refusals.specs.declared.Checked.{Checked}
-use Rattle.refusals.specs.declared.Checked.the-variants.{Accepted, Refused}
-use Rattle.refusals.specs.Refusals.{refusedAt}
+use Rattle.refusals.specs.Refusals.{numbered}
+use Rattle.refusals.specs.Said.{accepted, orRefused}
 use Rattle.refusals.specs.Meaning.{Exactly}
 use Rattle.refusals.proofs.Laws.{passes}
+use Rattle.refusals.proofs.Said.{refused-said, accepted-said}
 use Rattle.refusals.proofs.Meant.{ids-mean, ids-below}
 use Rattle.best_path.specs.Scores.{at, tabled}
 use Rattle.best_path.specs.PathScore.{pathScore}
@@ -22,7 +22,7 @@ use Rattle.refusal_rows.proofs.Groups.{Group, single, given-first, given-after,
 use Rattle.refusal_rows.proofs.TableGroups.{pair, tableSixes}
 use Rattle.sequence_score.specs.Rows.{longer, pathShort, five, pathChecked}
 use Rattle.sequence_score.specs.Sound.{LabelsBelow}
-use Rattle.sequence_score.specs.Promise.{Given, scored, refused, orRefused, checkedOf, answerTo}
+use Rattle.sequence_score.specs.Promise.{Given, checkedOf, answerTo}
 use Rattle.sequence_score.specs.Meaning.{FiveAt, Meaning, PathsMean, AnswersMean}
 use Rattle.sequence_score.proofs.Laws.{sound}
 
@@ -108,27 +108,12 @@ told to from a m = record {
   accepted = (λ h. m .accepted .0 (a .0 h), λ f. a .1 (m .accepted .1 f));
 }
 
--- what is said tells the check's answer
-pub refused-said : (check : Checked) (score : Float) (number place : ℕ) → orRefused check score ≡ refused number place ↔ check ≡ refusedAt number place
-refused-said check score number place = (go check, ap (λ (c : Checked). orRefused c score))
-  where
-    go : (check : Checked) → orRefused check score ≡ refused number place → check ≡ refusedAt number place
-    go Accepted h = let z : _≡_ {A = ℕ} 0 1 = cc in absurd (omega arith)
-    go (Refused why) h =
-        let n : why .number ≡ number = cc in
-        let p : why .place ≡ place = cc in
-        rw (← n, ← p)
-
-accepts : (check : Checked) (score other : Float) → orRefused check score ≡ scored other → check ≡ Accepted
-accepts Accepted score other h = refl
-accepts (Refused why) score other h = let z : _≡_ {A = ℕ} 0 1 = cc in absurd (omega arith)
-
 pub answers-mean : AnswersMean
 unfolding answerTo
 answers-mean given outcome kept =
     let score = pathScore (tabled (given .labels) (given .transitions) (given .states)) (given .path) (given .count) in
     told
-    (λ number place h. refused-said (checkedOf given) score number place .0 (sym (kept .answers) ∙ h))
-    (λ number place _ h. kept .answers ∙ refused-said (checkedOf given) score number place .1 h)
-    (λ h. accepts (checkedOf given) score (h .0) (sym (kept .answers) ∙ h .1), λ h. (score, kept .answers ∙ ap (λ (c : Checked). orRefused c score) h))
+    (λ number place h. refused-said score (checkedOf given) (numbered number place) .0 (sym (kept .answers) ∙ h))
+    (λ number place _ h. kept .answers ∙ refused-said score (checkedOf given) (numbered number place) .1 h)
+    (λ h. accepted-said score (h .0) (checkedOf given) (sym (kept .answers) ∙ h .1), λ h. (score, kept .answers ∙ ap (λ (c : Checked). orRefused c (accepted score)) h))
     (paths-mean given)

@@ -6,7 +6,8 @@ use Prim.Native.Nat.{ℕ, _≤_}
 use lib.ListN.{length}
 use lib.Ieee.{Float}
 use Rattle.refusals.specs.declared.Checked.the-variants.{Accepted}
-use Rattle.refusals.specs.Refusals.{refusedAt}
+use Rattle.refusals.specs.Refusals.{numbered, refusedAt}
+use Rattle.refusals.specs.Said.{accepted, refused}
 use Rattle.refusals.specs.Meaning.{FirstBad}
 use Rattle.best_path.specs.Scores.{at}
 use Rattle.score_tables.specs.Sound.{LabelsIn, WordsIn, Room}
@@ -14,7 +15,7 @@ use Rattle.score_tables.specs.Meaning.{SixAt}
 use Rattle.refusal_rows.specs.Given.{AtZero, OneOf}
 use Rattle.sequence_score.specs.declared.PathScore.{PathScore}
 use Rattle.sequence_score.specs.Sound.{LabelsBelow, SoundPath}
-use Rattle.sequence_score.specs.Promise.{Given, scored, refused, said, checkedOf, Promised}
+use Rattle.sequence_score.specs.Promise.{Given, said, checkedOf, Promised}
 
 -- T within its bound, and the path no longer
 abbrev pub LengthsIn : Given → Type 0
@@ -49,4 +50,4 @@ PathsMean = (given : Given) → Meaning (λ number place. checkedOf given ≡ re
 abbrev pub AnswersMean : Type 0
 AnswersMean =
     (given : Given) (outcome : PathScore) → Promised given outcome →
-    Meaning (λ number place. said outcome ≡ refused number place) ((score : Float) × (said outcome ≡ scored score)) given
+    Meaning (λ number place. said outcome ≡ refused (numbered number place)) ((score : Float) × (said outcome ≡ accepted score)) given

@@ -4,6 +4,7 @@ use mathlib.Core.List.{List}
 use Prim.Native.Nat.{ℕ}
 use lib.Ieee.{Float}
 use Rattle.refusals.specs.declared.Checked.{Checked}
+use Rattle.refusals.specs.Said.{Said, accepted, refused, orRefused}
 use Rattle.best_path.specs.Scores.{tabled}
 use Rattle.best_path.specs.PathScore.{pathScore}
 use Rattle.sequence_score.specs.declared.PathScore.{PathScore}
@@ -19,28 +20,19 @@ pub record Given : Type 0 where
   pub count : ℕ
 
 -- document 01's number and values for each case of the answer
-pub data Said : Type 0 where
-  scored : Float → Said
-  refused : (number place : ℕ) → Said
-
-abbrev pub said : PathScore → Said
-said (PathScore.Scored score) = scored score
-said (PathScore.Refused why) = refused (why .number) (why .place)
-
--- the refusal where there is one, else the score
-abbrev pub orRefused : Checked → Float → Said
-orRefused Checked.Accepted score = scored score
-orRefused (Checked.Refused why) score = refused (why .number) (why .place)
+abbrev pub said : PathScore → Said Float
+said (PathScore.Scored score) = accepted score
+said (PathScore.Refused why) = refused why
 
 -- the first row of the table of refusals that applies, where one does
 abbrev pub checkedOf : Given → Checked
 checkedOf given = pathChecked (given .labels) (given .words) (given .transitions) (given .states) (given .path) (given .count)
 
 -- what document 01 says: refused by the first row that applies, or else the path score
-unfoldable pub answerTo : Given → Said
+unfoldable pub answerTo : Given → Said Float
 answerTo given =
     orRefused (checkedOf given)
-    (pathScore (tabled (given .labels) (given .transitions) (given .states)) (given .path) (given .count))
+    (accepted (pathScore (tabled (given .labels) (given .transitions) (given .states)) (given .path) (given .count)))
 
 -- the promise
 pub record Promised (given : Given) (outcome : PathScore) : Type 0 where

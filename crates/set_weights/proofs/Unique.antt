@@ -1,6 +1,6 @@
 -- No two different outcomes satisfy the promise of `set_weights`. Assumes nothing.
 use mathlib.Core.Path.{_≡_, sym, _∙_}
-use Rattle.refusal_rows.proofs.Said.{said-once}
+use Rattle.refusals.proofs.Said.{said-once}
 use Rattle.set_weights.specs.SetWeights.{OnlyOne}
 
 pub only-weights : OnlyOne

@@ -7,10 +7,10 @@ use lib.Ieee.{Float}
 use Rattle.refusals.specs.declared.Checked.{Checked}
 use Rattle.refusals.specs.declared.Checked.the-variants.{Accepted, Refused}
 use Rattle.refusals.specs.Refusals.{first}
-use Rattle.refusal_rows.specs.Limits.{Limit, atMost, room, two}
+use Rattle.refusals.specs.Bounds.{theFeatures}
+use Rattle.refusal_rows.specs.Limits.{Limit, count, room, two}
 use Rattle.refusal_rows.specs.Tests.{Test, numbersFinite, checks}
-use Rattle.refusal_rows.specs.Said.{Said, saidOf}
-use Rattle.feature_gen.specs.Rows.{mostFeatures}
+use Rattle.refusals.specs.Said.{Said, saidOf}
 
 -- F, and the new weights
 pub record Setting : Type 0 where
@@ -22,11 +22,14 @@ pub record Outcome : Type 0 where
   pub answer : Checked
   pub weights : List Float
 
--- 2 | "a count .. outside its bound, or a lent buffer too short" | 0
-abbrev pub newLimits : Setting → ℕ → List Limit
-newLimits given have =
-    atMost mostFeatures (given .features)
-    ∷ room (length (given .new)) (given .features)
+-- 2 | "a count .. outside its bound" | 0
+abbrev pub newCounts : Setting → List Limit
+newCounts given = count theFeatures (given .features) ∷ []
+
+-- 2 | "a lent buffer too short" | 0
+abbrev pub newRooms : Setting → ℕ → List Limit
+newRooms given have =
+    room (length (given .new)) (given .features)
     ∷ room have (given .features)
     ∷ []
 
@@ -34,16 +37,16 @@ newLimits given have =
 abbrev pub newTests : Setting → List Test
 newTests given = numbersFinite (given .new) (given .features) ∷ []
 
--- "The lowest number wins": 2, 6, for a table that has so many places
+-- "The lowest number wins": 2 of the count, 2 of the rooms, 6, for a table that has so many places
 unfoldable pub newChecked : Setting → ℕ → Checked
-newChecked given have = first (two (newLimits given have) ∷ checks (newTests given))
+newChecked given have = first (two (newCounts given) ∷ two (newRooms given have) ∷ checks (newTests given))
 
 -- "every lent buffer holds its entry contents" where the call is refused; else the first F are the new weights, and the rest is as it was
 abbrev pub tableAfter : Checked → Setting → List Float → List Float
 tableAfter (Refused why) given before = before
 tableAfter Accepted given before = take (given .features) (given .new) ++ drop (given .features) before
 
-unfoldable pub answerTo : Setting → List Float → Said
+unfoldable pub answerTo : Setting → List Float → Said Unit
 answerTo given before = saidOf (newChecked given (length before))
 
 unfoldable pub weightsAfter : Setting → List Float → List Float

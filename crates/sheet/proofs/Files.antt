@@ -10,17 +10,17 @@ use lib.Ieee.Bits.{ofBits-fits}
 use Rattle.refusals.specs.declared.Checked.{Checked}
 use Rattle.refusals.specs.declared.Checked.the-variants.{Accepted, Refused}
 use Rattle.refusals.proofs.Meant.{numbers-finite}
-use Rattle.score_tables.specs.Meaning.{FiniteTo}
+use Rattle.fronts.specs.Finite.{FiniteTo}
 use Rattle.score_tables.proofs.Meant.{to-finite}
 use Rattle.sheet.specs.File.{Sheet, littleEndian, numbers, encoded, Finite64, Sound}
-use Rattle.sheet_bytes.specs.Fields.{labelsIn, wordsIn, statesFrom, wholeLength, numbersIn, transitionsIn, statesIn}
-use Rattle.sheet_check.specs.Rows.{Given, Lent, sheetChecked}
-use Rattle.sheet_check.specs.Meaning.{RightHead, RightFile}
+use Rattle.sheet.specs.Fields.{labelsIn, wordsIn, statesFrom, wholeLength, numbersIn, transitionsIn, statesIn}
+use Rattle.sheet.specs.Rows.{Given, Lent, sheetChecked}
+use Rattle.sheet.specs.RowsMeaning.{RightHead, RightFile}
 use Rattle.sheet.specs.Promise.{Outcome, said, read, answerBy, answerTo, transitionsAfter, statesAfter, Promised}
 use Rattle.sheet.specs.Files.{sheetIn, Bytes, RoomFor, RightFilesAreSheets, ReadFrom, ExactlyTheFiles}
-use Rattle.sheet_bytes.proofs.Laws.{length-numbers, number-at}
+use Rattle.sheet.proofs.Bytes.{length-numbers, number-at}
 use Rattle.sheet.proofs.Little.{length-bytes, numbers-read, numbers-back, drop-bytes}
-use Rattle.sheet_check.proofs.Meant.{mark-byte, sheets-mean}
+use Rattle.sheet.proofs.RowsMeant.{mark-byte, sheets-mean}
 
 -- ---- the fields of an encoded sheet
 

@@ -4,9 +4,9 @@ use mathlib.Core.List.{List}
 use Prim.Native.Nat.{ℕ, _*_}
 use Rattle.refusals.specs.declared.Refusal.{Refusal}
 use Rattle.refusals.specs.declared.Checked.the-variants.{Accepted, Refused}
-use Rattle.sheet_bytes.specs.Fields.{labelsIn, wordsIn, transitionsIn, statesIn}
-use Rattle.sheet_bytes.proofs.Laws.{length-numbers}
-use Rattle.sheet_check.specs.Rows.{Lent, sheetChecked}
+use Rattle.sheet.specs.Fields.{labelsIn, wordsIn, transitionsIn, statesIn}
+use Rattle.sheet.proofs.Bytes.{length-numbers}
+use Rattle.sheet.specs.Rows.{Lent, sheetChecked}
 use Rattle.sheet.specs.Steps.{filled}
 use Rattle.sheet.specs.Promise.{Outcome, said, read, answerTo, transitionsAfter, statesAfter, Promised}
 use Rattle.sheet.specs.declared.Reading.{Reading}

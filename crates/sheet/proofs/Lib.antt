@@ -1,3 +1,6 @@
+pub mod Rows
+pub mod RowsMeant
+pub mod Bytes
 pub mod Pattern
 pub mod Laws
 pub mod Kept

@@ -12,7 +12,7 @@ use lib.Ieee.{Float, nan, binary64, fits, toBits, ofBits}
 use lib.Ieee.Bits.{toBits-ofBits, ofBits-toBits, toBits-lt}
 use lib.Ieee.Scale.{finite}
 use Rattle.sheet.specs.File.{littleEndian, numbers}
-use Rattle.sheet_bytes.specs.Fields.{valueOf, numbersIn}
+use Rattle.sheet.specs.Fields.{valueOf, numbersIn}
 use Rattle.sheet.specs.Files.{Bytes}
 use Rattle.sheet.proofs.Pattern.{no-nan}
 

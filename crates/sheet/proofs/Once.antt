@@ -2,23 +2,21 @@
 use mathlib.Core.Path.{_≡_, sym, _∙_, ap}
 use Prim.Native.Nat.{ℕ}
 use native.Mathlib.Omega.{arith}
-use Rattle.refusals.specs.declared.Refusal.{Refusal}
+use Rattle.refusals.proofs.Said.{same-given, same-refusal}
 use Rattle.sheet.specs.declared.Reading.{Reading}
 use Rattle.sheet.specs.declared.Reading.the-variants.{Read, Refused}
-use Rattle.sheet.specs.Promise.{Outcome, said, OnlyOne}
-
--- a refusal is its number and its place
-pub same-refusal : (a b : Refusal) → a .number ≡ b .number → a .place ≡ b .place → a ≡ b
-same-refusal a b n p =
-    let e : _≡_ {A = Refusal} (record { number = a .number; place = a .place }) (record { number = b .number; place = b .place }) = rw (n, p) in
-    e
+use Rattle.sheet.specs.Promise.{LabelsAndWords, Outcome, said, OnlyOne}
 
 -- what is said tells the answer
 pub said-tells : (a b : Reading) → said a ≡ said b → a ≡ b
-said-tells (Read l w) (Read m v) h = cc
+said-tells (Read l w) (Read m v) h =
+    let e = same-given h in
+    let a : l ≡ m = ap (λ (z : LabelsAndWords). z .labels) e in
+    let b : w ≡ v = ap (λ (z : LabelsAndWords). z .words) e in
+    rw (a, b)
 said-tells (Read l w) (Refused why) h = let z : _≡_ {A = ℕ} 0 1 = cc in absurd (omega arith)
 said-tells (Refused why) (Read l w) h = let z : _≡_ {A = ℕ} 0 1 = cc in absurd (omega arith)
-said-tells (Refused why) (Refused other) h = ap Refused (same-refusal why other (cc) (cc))
+said-tells (Refused why) (Refused other) h = ap Refused (same-refusal h)
 
 pub only-one : OnlyOne
 only-one given before o p h k =

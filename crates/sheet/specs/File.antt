@@ -7,7 +7,7 @@ use lib.ListN.{length, getD}
 use lib.Ieee.{Float, nan, binary64, fits, toBits}
 use lib.Ieee.Scale.{finite}
 use Rattle.score_tables.specs.Sound.{LabelsIn, WordsIn}
-use Rattle.sheet_bytes.specs.Fields.{mark}
+use Rattle.sheet.specs.Fields.{mark}
 
 -- L, T and the two tables
 pub record Sheet : Type 0 where

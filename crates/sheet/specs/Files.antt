@@ -5,9 +5,9 @@ use mathlib.Core.Logic.{_↔_}
 use Prim.Native.Nat.{ℕ, _<_}
 use lib.ListN.{length, getD, drop}
 use Rattle.score_tables.specs.Sound.{Room}
-use Rattle.sheet_bytes.specs.Fields.{labelsIn, wordsIn, transitionsIn, statesIn}
-use Rattle.sheet_check.specs.Rows.{Given, Lent}
-use Rattle.sheet_check.specs.Meaning.{RightFile}
+use Rattle.sheet.specs.Fields.{labelsIn, wordsIn, transitionsIn, statesIn}
+use Rattle.sheet.specs.Rows.{Given, Lent}
+use Rattle.sheet.specs.RowsMeaning.{RightFile}
 use Rattle.sheet.specs.File.{Sheet, encoded, Sound}
 use Rattle.sheet.specs.Promise.{Outcome, said, read, Promised}
 

@@ -1,14 +1,16 @@
 -- What `read_sheet` answers in plain terms, of whatever satisfies its promise: each number exactly when document 01 gives it. The proof is in proofs/Meant.
 use mathlib.Core.Path.{_≡_}
 use Rattle.score_tables.specs.Sound.{Room}
-use Rattle.sheet_bytes.specs.Fields.{labelsIn, wordsIn}
-use Rattle.sheet_check.specs.Rows.{Given, Lent}
-use Rattle.sheet_check.specs.Meaning.{Meaning}
-use Rattle.sheet.specs.Promise.{Outcome, said, read, refused, Promised}
+use Rattle.refusals.specs.Refusals.{numbered}
+use Rattle.refusals.specs.Said.{refused}
+use Rattle.sheet.specs.Fields.{labelsIn, wordsIn}
+use Rattle.sheet.specs.Rows.{Given, Lent}
+use Rattle.sheet.specs.RowsMeaning.{Meaning}
+use Rattle.sheet.specs.Promise.{Outcome, said, read, Promised}
 
 abbrev pub ReadingMeans : Type 0
 ReadingMeans =
     (given : Given) (before : Lent) (outcome : Outcome) → Promised given before outcome →
     let bytes = given .bytes in
-    Meaning (λ number place. said (outcome .answer) ≡ refused number place) (said (outcome .answer) ≡ read (labelsIn bytes) (wordsIn bytes)) bytes
+    Meaning (λ number place. said (outcome .answer) ≡ refused (numbered number place)) (said (outcome .answer) ≡ read (labelsIn bytes) (wordsIn bytes)) bytes
     (Room (labelsIn bytes) (wordsIn bytes) (before .transitions) (before .states))

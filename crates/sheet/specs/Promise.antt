@@ -6,8 +6,9 @@ use lib.ListN.{length, drop}
 use lib.Ieee.{Float}
 use Rattle.refusals.specs.declared.Checked.{Checked}
 use Rattle.refusals.specs.declared.Checked.the-variants.{Accepted, Refused}
-use Rattle.sheet_bytes.specs.Fields.{labelsIn, wordsIn, transitionsIn, statesIn}
-use Rattle.sheet_check.specs.Rows.{Given, Lent, sheetChecked}
+use Rattle.refusals.specs.Said.{Said, accepted, refused, orRefused}
+use Rattle.sheet.specs.Fields.{labelsIn, wordsIn, transitionsIn, statesIn}
+use Rattle.sheet.specs.Rows.{Given, Lent, sheetChecked}
 use Rattle.sheet.specs.declared.Reading.{Reading}
 use Rattle.sheet.specs.declared.Reading.the-variants.{Read, Refused as ReadRefused}
 
@@ -17,26 +18,29 @@ pub record Outcome : Type 0 where
   pub transitions : List Float
   pub states : List Float
 
+-- what an accepted call gives beside the tables: L and T
+pub record LabelsAndWords : Type 0 where
+  pub labels : ℕ
+  pub words : ℕ
+
 -- document 01's number and values for each case of the answer
-pub data Said : Type 0 where
-  read : (labels words : ℕ) → Said
-  refused : (number place : ℕ) → Said
+abbrev pub read : ℕ → ℕ → Said LabelsAndWords
+read labels words = accepted (record { labels = labels; words = words })
 
-abbrev pub said : Reading → Said
+abbrev pub said : Reading → Said LabelsAndWords
 said (Read labels words) = read labels words
-said (ReadRefused why) = refused (why .number) (why .place)
+said (ReadRefused why) = refused why
 
--- the number and the place of the first row that refuses, or else L and T
-abbrev pub answerBy : Checked → List ℕ → Said
-answerBy Accepted bytes = read (labelsIn bytes) (wordsIn bytes)
-answerBy (Refused why) bytes = refused (why .number) (why .place)
+-- the refusal of the first row that refuses, or else L and T
+abbrev pub answerBy : Checked → List ℕ → Said LabelsAndWords
+answerBy checked bytes = orRefused checked (read (labelsIn bytes) (wordsIn bytes))
 
 -- "After 1 to 7 and 10 every lent buffer holds its entry contents"; else a table has the file's numbers in front, and its tail is unchanged
 abbrev pub tableBy : Checked → List Float → List Float → List Float
 tableBy Accepted table before = table ++ drop (length table) before
 tableBy (Refused why) table before = before
 
-unfoldable pub answerTo : Given → Lent → Said
+unfoldable pub answerTo : Given → Lent → Said LabelsAndWords
 answerTo given before = answerBy (sheetChecked given before) (given .bytes)
 
 unfoldable pub transitionsAfter : Given → Lent → List Float

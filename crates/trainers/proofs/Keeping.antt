@@ -9,11 +9,12 @@ use Rattle.refusals.specs.declared.Refusal.{Refusal}
 use Rattle.refusals.specs.declared.Checked.{Checked}
 use Rattle.refusals.specs.declared.Checked.the-variants.{Accepted, Refused}
 use Rattle.refusals.specs.Refusals.{firstFrom}
+use Rattle.refusals.specs.Bounds.{theEpochs, most}
 use Rattle.training.specs.declared.Training.{Training}
 use Rattle.training.specs.Rules.{Rule}
 use Rattle.training.specs.Epochs.{Settings, Result, trained}
 use Rattle.begin_and_end.specs.Ending.{Swept}
-use Rattle.parameters.specs.Parameters.{AllFit, mostEpochs, sevens}
+use Rattle.parameters.specs.Parameters.{AllFit, sevens}
 use Rattle.training_check.specs.Rows.{inputChecked}
 use Rattle.training_check.proofs.Laws.{with-parameters}
 use Rattle.training_check.proofs.Meant.{training-means}
@@ -61,7 +62,7 @@ refused-kept rule settings given before why h = rw h (record { answers = refl; a
 pub accepted-kept : {rule : Rule} {settings : Settings} {given : Given} {before : Buffers} {checked : Checked} {outcome : Outcome} → checked ≡ Accepted → Kept Accepted rule settings given before outcome → Kept checked rule settings given before outcome
 accepted-kept h k = rw h k
 
-few-epochs : (call : Call) → AllFit (ownOf call) → settingsFor call .epochs ≤ mostEpochs
+few-epochs : (call : Call) → AllFit (ownOf call) → settingsFor call .epochs ≤ most theEpochs
 few-epochs (averagedPerceptron p) f = f .0 .1
 few-epochs (passiveAggressive p) f = f .0 .1
 few-epochs (adaptive p) f = f .0 .1

@@ -6,7 +6,8 @@ use native.Mathlib.Omega.{arith}
 use lib.Dec.{T}
 use lib.Ieee.Scale.{finite}
 use Rattle.refusals.specs.declared.Checked.the-variants.{Accepted}
-use Rattle.refusals.specs.Refusals.{refusedAt}
+use Rattle.refusals.specs.Refusals.{numbered, refusedAt}
+use Rattle.refusals.specs.Said.{refused}
 use Rattle.training.specs.declared.Training.{Training}
 use Rattle.training.specs.declared.Trained.{Trained}
 use Rattle.training.specs.Rules.{besideAtFirst}
@@ -15,7 +16,7 @@ use Rattle.training.proofs.AlwaysFinite.{always-finite}
 use Rattle.training.proofs.RefusedExactly.{refused-exactly}
 use Rattle.parameters.specs.Parameters.{AllFit}
 use Rattle.training_check.proofs.Meant.{training-means}
-use Rattle.trainers.specs.Promise.{Call, averagedPerceptron, passiveAggressive, adaptive, Given, Buffers, Outcome, accepted, refused, said, ruleFor, settingsFor, ownOf, inputOf, checkedOf, trainedOf, answerTo, Promised}
+use Rattle.trainers.specs.Promise.{Call, averagedPerceptron, passiveAggressive, adaptive, Given, Buffers, Outcome, trainedWith, said, ruleFor, settingsFor, ownOf, inputOf, checkedOf, trainedOf, answerTo, Promised}
 use Rattle.trainers.specs.Meaning.{Unrefused, Accepts, LateMeans, FiniteBeforeVisits}
 use Rattle.trainers.proofs.Meant.{accepts, refuses, trained-so, trained-not, at-most}
 
@@ -44,15 +45,15 @@ module _ (call : Call) (given : Given) (before : Buffers) where
     answers-so h = kept .answers ∙ rw h
 
     -- a number above 7 is the training's
-    late-so : (number place : ℕ) → 7 < number → said (outcome .answer) ≡ refused number place → (checkedOf call given before ≡ Accepted) × (trainedOf call given .answer ≡ Training.Refused (record { number = number; place = place }))
+    late-so : (number place : ℕ) → 7 < number → said (outcome .answer) ≡ refused (numbered number place) → (checkedOf call given before ≡ Accepted) × (trainedOf call given .answer ≡ Training.Refused (numbered number place))
     unfolding answerTo
     late-so number place l e = go (refuses (checkedOf call given before) _ number place (sym (kept .answers) ∙ e))
       where
-        go : (checkedOf call given before ≡ refusedAt number place) ⊎ ((checkedOf call given before ≡ Accepted) × (said (trainedOf call given .answer) ≡ refused number place)) → (checkedOf call given before ≡ Accepted) × (trainedOf call given .answer ≡ Training.Refused (record { number = number; place = place }))
+        go : (checkedOf call given before ≡ refusedAt number place) ⊎ ((checkedOf call given before ≡ Accepted) × (said (trainedOf call given .answer) ≡ refused (numbered number place))) → (checkedOf call given before ≡ Accepted) × (trainedOf call given .answer ≡ Training.Refused (numbered number place))
         go (inl h) = absurd (omega (arith, at-most number (training-means (inputOf given before) (ownOf call) .only _ h)))
         go (inr h) = (h .0, trained-not (trainedOf call given .answer) number place (h .1))
 
-    refused-late : (number place : ℕ) → Unrefused call given before → trainedOf call given .answer ≡ Training.Refused (record { number = number; place = place }) → said (outcome .answer) ≡ refused number place
+    refused-late : (number place : ℕ) → Unrefused call given before → trainedOf call given .answer ≡ Training.Refused (numbered number place) → said (outcome .answer) ≡ refused (numbered number place)
     refused-late number place u e = answers-so (checked u) ∙ ap said e
 
     accepted-late : Accepts outcome → (checkedOf call given before ≡ Accepted) × ((t : Trained) × (trainedOf call given .answer ≡ Training.Accepted t))

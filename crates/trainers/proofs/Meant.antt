@@ -8,28 +8,27 @@ use lib.ListN.{drop, List·getD-append}
 use lib.Ieee.{nan}
 use Rattle.refusals.specs.declared.Checked.{Checked}
 use Rattle.refusals.specs.declared.Checked.the-variants.{Accepted, Refused}
-use Rattle.refusals.specs.Refusals.{refusedAt}
+use Rattle.refusals.specs.Refusals.{numbered, refusedAt}
+use Rattle.refusals.specs.Said.{Said, refused, orRefused}
+use Rattle.refusals.proofs.Said.{same-given, same-refusal}
 use Rattle.refusal_rows.specs.Given.{OneOf}
 use Rattle.training.specs.declared.Training.{Training}
+use Rattle.training.specs.declared.Trained.{Trained}
 use Rattle.training.proofs.Accepted.{answers-true}
 use Rattle.parameters.specs.Parameters.{AllFit}
 use Rattle.training_check.proofs.Meant.{training-means}
-use Rattle.trainers.specs.Promise.{Call, averagedPerceptron, passiveAggressive, adaptive, Given, Buffers, Outcome, Said, accepted, refused, said, ruleFor, settingsFor, ownOf, inputOf, checkedOf, trainedOf, orRefused, answerTo, buffersAfter, Promised}
+use Rattle.trainers.specs.Promise.{Call, averagedPerceptron, passiveAggressive, adaptive, Given, Buffers, Outcome, trainedWith, said, ruleFor, settingsFor, ownOf, inputOf, checkedOf, trainedOf, answerTo, buffersAfter, Promised}
 use Rattle.trainers.specs.Meaning.{AcceptedTrue, RefusedMeans, RefusedTrue, ChecksAnswered}
 use Rattle.trainers.proofs.Trained.{trained-late, trained-zero}
 use Rattle.trainers.proofs.Fronts.{after-is, fronts}
 
 -- an answer that is accepted comes from the training
-pub accepts : (checked : Checked) (next : Said) (epochs visits updates : ℕ) → orRefused checked next ≡ accepted epochs visits updates → (checked ≡ Accepted) × (next ≡ accepted epochs visits updates)
+pub accepts : (checked : Checked) (next : Said Trained) (epochs visits updates : ℕ) → orRefused checked next ≡ trainedWith epochs visits updates → (checked ≡ Accepted) × (next ≡ trainedWith epochs visits updates)
 accepts Accepted next epochs visits updates h = (refl, h)
 accepts (Refused why) next epochs visits updates h = let z : _≡_ {A = ℕ} 0 1 = cc in absurd (omega arith)
 
-pub trained-so : (a : Training) (epochs visits updates : ℕ) → said a ≡ accepted epochs visits updates → a ≡ Training.Accepted (record { epochs = epochs; visits = visits; updates = updates })
-trained-so (Training.Accepted t) epochs visits updates h =
-    let e : t .epochs ≡ epochs = cc in
-    let v : t .visits ≡ visits = cc in
-    let n : t .updates ≡ updates = cc in
-    ap Training.Accepted (λ i. record { epochs = e i; visits = v i; updates = n i })
+pub trained-so : (a : Training) (epochs visits updates : ℕ) → said a ≡ trainedWith epochs visits updates → a ≡ Training.Accepted (record { epochs = epochs; visits = visits; updates = updates })
+trained-so (Training.Accepted t) epochs visits updates h = ap Training.Accepted (same-given h)
 trained-so (Training.Refused why) epochs visits updates h = let z : _≡_ {A = ℕ} 0 1 = cc in absurd (omega arith)
 
 -- 7 has seen to it that an epoch is allowed
@@ -60,19 +59,13 @@ accepted-true call given before outcome kept epochs visits updates answer =
 
 -- ---- refusals
 
-pub trained-not : (a : Training) (number place : ℕ) → said a ≡ refused number place → a ≡ Training.Refused (record { number = number; place = place })
+pub trained-not : (a : Training) (number place : ℕ) → said a ≡ refused (numbered number place) → a ≡ Training.Refused (numbered number place)
 trained-not (Training.Accepted t) number place h = let z : _≡_ {A = ℕ} 0 1 = cc in absurd (omega arith)
-trained-not (Training.Refused why) number place h =
-    let n : why .number ≡ number = cc in
-    let p : why .place ≡ place = cc in
-    ap Training.Refused (λ i. record { number = n i; place = p i })
+trained-not (Training.Refused why) number place h = ap Training.Refused (same-refusal h)
 
-pub refuses : (checked : Checked) (next : Said) (number place : ℕ) → orRefused checked next ≡ refused number place → (checked ≡ refusedAt number place) ⊎ ((checked ≡ Accepted) × (next ≡ refused number place))
+pub refuses : (checked : Checked) (next : Said Trained) (number place : ℕ) → orRefused checked next ≡ refused (numbered number place) → (checked ≡ refusedAt number place) ⊎ ((checked ≡ Accepted) × (next ≡ refused (numbered number place)))
 refuses Accepted next number place h = inr (refl, h)
-refuses (Refused why) next number place h =
-    let n : why .number ≡ number = cc in
-    let p : why .place ≡ place = cc in
-    inl (ap Refused (λ i. record { number = n i; place = p i }))
+refuses (Refused why) next number place h = inl (ap Refused (same-refusal h))
 
 -- 1 to 7 are not 8 and 9
 pub at-most : (number : ℕ) → OneOf (1 ∷ 2 ∷ 3 ∷ 4 ∷ 5 ∷ 6 ∷ 7 ∷ []) number → number ≤ 7
@@ -111,7 +104,7 @@ module _ (call : Call) (given : Given) (before : Buffers) (outcome : Outcome) (k
         late = λ l. absurd (omega (arith, at-most number one));
       }
 
-  late-means : checkedOf call given before ≡ Accepted → said (trainedOf call given .answer) ≡ refused number place → RefusedMeans call given before (outcome .after) number place
+  late-means : checkedOf call given before ≡ Accepted → said (trainedOf call given .answer) ≡ refused (numbered number place) → RefusedMeans call given before (outcome .after) number place
   late-means h t =
       let e = trained-not (trainedOf call given .answer) number place t in
       let one = trained-late (ruleFor call) (settingsFor call) (given .model) (given .corpus) _ e in
@@ -131,7 +124,7 @@ module _ (call : Call) (given : Given) (before : Buffers) (outcome : Outcome) (k
         );
       }
 
-  refused-means : (checkedOf call given before ≡ refusedAt number place) ⊎ ((checkedOf call given before ≡ Accepted) × (said (trainedOf call given .answer) ≡ refused number place)) → RefusedMeans call given before (outcome .after) number place
+  refused-means : (checkedOf call given before ≡ refusedAt number place) ⊎ ((checkedOf call given before ≡ Accepted) × (said (trainedOf call given .answer) ≡ refused (numbered number place))) → RefusedMeans call given before (outcome .after) number place
   refused-means (inl h) = early-means h
   refused-means (inr h) = late-means (h .0) (h .1)
 

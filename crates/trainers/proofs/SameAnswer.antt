@@ -1,8 +1,9 @@
 -- What the buffers held when they were lent has no part in what a trainer gives. Assumes nothing.
 use mathlib.Core.Path.{_≡_, sym, _∙_, ap}
 use Rattle.refusals.specs.declared.Checked.{Checked}
+use Rattle.refusals.specs.Said.{orRefused}
 use Rattle.training_check.specs.Rows.{trainingChecked}
-use Rattle.trainers.specs.Promise.{Call, Given, Buffers, said, ownOf, checkedOf, trainedOf, orRefused, answerTo}
+use Rattle.trainers.specs.Promise.{Call, Given, Buffers, said, ownOf, checkedOf, trainedOf, answerTo}
 use Rattle.trainers.specs.SameAnswer.{SameLengths, SameAnswer}
 use Rattle.trainers.proofs.Unique.{told}
 use Rattle.trainers.proofs.Fronts.{fronts}

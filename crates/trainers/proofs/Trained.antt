@@ -18,7 +18,8 @@ use Rattle.training.specs.declared.Visit.{Visit}
 use Rattle.training.specs.declared.Visit.the-variants.{Unchanged, Updated, Refused}
 use Rattle.training.specs.declared.Training.{Training}
 use Rattle.training.specs.declared.Trained.{Trained}
-use Rattle.training.specs.Data.{Data, firstWord, wordsOf, referenceOf, whole, allFinite}
+use Rattle.training.specs.Data.{Data, firstWord, wordsOf, referenceOf, whole}
+use Rattle.fronts.specs.Finite.{allFinite}
 use Rattle.training.specs.Rules.{Rule, Update, stops, averagedBy}
 use Rattle.training.specs.Visits.{State, refusedAs, unchanged, changedTo, finiteState, heldTo, corrected, compared, visited}
 use Rattle.training.specs.Epochs.{Settings, Run, Result, isRefused, opened, visitedAt, epochOver, epoch, epochUnlessOver, begun, ran, refusedWith, averaged, finished, trained}

@@ -2,22 +2,16 @@
 use mathlib.Core.Path.{_≡_, sym, _∙_, ap}
 use Prim.Native.Nat.{ℕ}
 use native.Mathlib.Omega.{arith}
+use Rattle.refusals.proofs.Said.{same-given, same-refusal}
 use Rattle.training.specs.declared.Training.{Training}
 use Rattle.trainers.specs.Promise.{said, OnlyOne}
 
 -- what is said tells the answer
 pub told : (a b : Training) → said a ≡ said b → a ≡ b
-told (Training.Accepted t) (Training.Accepted u) h =
-    let e : t .epochs ≡ u .epochs = cc in
-    let v : t .visits ≡ u .visits = cc in
-    let n : t .updates ≡ u .updates = cc in
-    ap Training.Accepted (λ i. record { epochs = e i; visits = v i; updates = n i })
+told (Training.Accepted t) (Training.Accepted u) h = ap Training.Accepted (same-given h)
 told (Training.Accepted t) (Training.Refused v) h = let z : _≡_ {A = ℕ} 0 1 = cc in absurd (omega arith)
 told (Training.Refused w) (Training.Accepted u) h = let z : _≡_ {A = ℕ} 0 1 = cc in absurd (omega arith)
-told (Training.Refused w) (Training.Refused v) h =
-    let n : w .number ≡ v .number = cc in
-    let p : w .place ≡ v .place = cc in
-    ap Training.Refused (λ i. record { number = n i; place = p i })
+told (Training.Refused w) (Training.Refused v) h = ap Training.Refused (same-refusal h)
 
 pub only-one : OnlyOne
 only-one call given before a b p q =

@@ -7,7 +7,8 @@ use lib.Dec.{T}
 use lib.ListN.{length, getD, take, replicate}
 use lib.Ieee.{nan}
 use lib.Ieee.Scale.{finite}
-use Rattle.refusals.specs.Refusals.{refusedAt}
+use Rattle.refusals.specs.Refusals.{numbered, refusedAt}
+use Rattle.refusals.specs.Said.{refused}
 use Rattle.refusal_rows.specs.Given.{OneOf}
 use Rattle.lines.specs.Passes.{nought}
 use Rattle.training.specs.declared.Visit.{Visit}
@@ -15,7 +16,7 @@ use Rattle.training.specs.Epochs.{isRefused}
 use Rattle.training.specs.Accepted.{isUpdated, howMany, ends}
 use Rattle.training.specs.Reached.{EightAt, NineAt, FiniteThroughout}
 use Rattle.training_check.specs.Meaning.{AllIsFine}
-use Rattle.trainers.specs.Promise.{Call, Given, Buffers, Outcome, accepted, refused, said, ruleFor, settingsFor, ownOf, inputOf, checkedOf, Promised}
+use Rattle.trainers.specs.Promise.{Call, Given, Buffers, Outcome, trainedWith, said, ruleFor, settingsFor, ownOf, inputOf, checkedOf, Promised}
 
 -- nothing of 1 to 7 applies; what each of them is given for is said in training_check's Meaning
 abbrev pub Unrefused : Call → Given → Buffers → Type 0
@@ -42,7 +43,7 @@ pub record AcceptedMeans (call : Call) (given : Given) (before after : Buffers) 
 abbrev pub AcceptedTrue : Type 0
 AcceptedTrue =
     (call : Call) (given : Given) (before : Buffers) (outcome : Outcome) → Promised call given before outcome →
-    (epochs visits updates : ℕ) → said (outcome .answer) ≡ accepted epochs visits updates →
+    (epochs visits updates : ℕ) → said (outcome .answer) ≡ trainedWith epochs visits updates →
     AcceptedMeans call given before (outcome .after) epochs visits updates
 
 -- "After 8 and 9 the needed front of every result and work buffer is zero"
@@ -64,7 +65,7 @@ pub record RefusedMeans (call : Call) (given : Given) (before after : Buffers) (
 abbrev pub RefusedTrue : Type 0
 RefusedTrue =
     (call : Call) (given : Given) (before : Buffers) (outcome : Outcome) → Promised call given before outcome →
-    (number place : ℕ) → said (outcome .answer) ≡ refused number place →
+    (number place : ℕ) → said (outcome .answer) ≡ refused (numbered number place) →
     RefusedMeans call given before (outcome .after) number place
 
 -- and a number of 1 to 7 that the checks give is answered
@@ -72,7 +73,7 @@ abbrev pub ChecksAnswered : Type 0
 ChecksAnswered =
     (call : Call) (given : Given) (before : Buffers) (outcome : Outcome) → Promised call given before outcome →
     (number place : ℕ) → checkedOf call given before ≡ refusedAt number place →
-    said (outcome .answer) ≡ refused number place
+    said (outcome .answer) ≡ refused (numbered number place)
 
 -- ---- 8 and 9, both ways
 
@@ -89,12 +90,12 @@ pub record Accepts (outcome : Outcome) : Type 0 where
   pub epochs : ℕ
   pub visits : ℕ
   pub updates : ℕ
-  pub answers : said (outcome .answer) ≡ accepted epochs visits updates
+  pub answers : said (outcome .answer) ≡ trainedWith epochs visits updates
 
 -- "Given exactly when": 8 and 9 where nothing of 1 to 7 applies, and accepted where nothing of 1 to 9 does
 pub record LateMeaning (call : Call) (given : Given) (before : Buffers) (outcome : Outcome) : Type 0 where
-  pub eight : (place : ℕ) → said (outcome .answer) ≡ refused 8 place ↔ Unrefused call given before × EightFor call given place
-  pub nine : (place : ℕ) → said (outcome .answer) ≡ refused 9 place ↔ Unrefused call given before × NineFor call given place
+  pub eight : (place : ℕ) → said (outcome .answer) ≡ refused (numbered 8 place) ↔ Unrefused call given before × EightFor call given place
+  pub nine : (place : ℕ) → said (outcome .answer) ≡ refused (numbered 9 place) ↔ Unrefused call given before × NineFor call given place
   pub accepted : Accepts outcome ↔ Unrefused call given before × (((place : ℕ) → EightFor call given place → ⊥) × ((place : ℕ) → NineFor call given place → ⊥))
 
 abbrev pub LateMeans : Type 0

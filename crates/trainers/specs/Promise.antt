@@ -6,14 +6,16 @@ use lib.ListN.{length, drop}
 use lib.Ieee.{Float}
 use Rattle.refusals.specs.declared.Checked.{Checked}
 use Rattle.refusals.specs.declared.Checked.the-variants.{Accepted, Refused}
+use Rattle.refusals.specs.Said.{Said, orRefused}
 use Rattle.lines.specs.Passes.{nought}
 use Rattle.lines.specs.Tables.{Model}
-use Rattle.finished.specs.After.{cleared}
+use Rattle.fronts.specs.Cleared.{cleared}
 use Rattle.training.specs.declared.Training.{Training}
+use Rattle.training.specs.declared.Trained.{Trained}
 use Rattle.training.specs.Data.{Data}
 use Rattle.training.specs.Rules.{Rule, perceptron, passive, arow}
 use Rattle.training.specs.Epochs.{Settings, Result, trained}
-pub use Rattle.training.specs.Said.{Said, accepted, refused, said}
+pub use Rattle.training.specs.Said.{trainedWith, said}
 use Rattle.parameters.specs.declared.Perceptron.{Perceptron}
 use Rattle.parameters.specs.declared.Passive.{Passive}
 use Rattle.parameters.specs.declared.Arow.{Arow}
@@ -84,10 +86,6 @@ checkedOf call given before = trainingChecked (inputOf given before) (ownOf call
 abbrev pub trainedOf : Call → Given → Result
 trainedOf call given = trained (ruleFor call) (settingsFor call) (given .model) (given .corpus)
 
-abbrev pub orRefused : Checked → Said → Said
-orRefused Accepted next = next
-orRefused (Refused why) next = refused (why .number) (why .place)
-
 -- "After 1 to 7 .. every lent buffer holds its entry contents"; else the trained weights stand in the result's front, and "work buffers' needed fronts are zero": F entries, and N of the order; "only the needed front is touched"
 abbrev pub holding : Checked → Given → List Float → Buffers → Buffers
 holding (Refused why) given weights before = before
@@ -102,7 +100,7 @@ holding Accepted given weights before =
     }
 
 -- what document 01 says: "The lowest number wins", so 8 and 9 come last
-unfoldable pub answerTo : Call → Given → Buffers → Said
+unfoldable pub answerTo : Call → Given → Buffers → Said Trained
 answerTo call given before = orRefused (checkedOf call given before) (said (trainedOf call given .answer))
 
 unfoldable pub buffersAfter : Call → Given → Buffers → Buffers

@@ -2,10 +2,10 @@
 // their parameters and the rule of their updates.
 ghost use mathlib.Core.Path.{_≡_};
 ghost use Rattle.refusals.specs.declared.Checked.the-variants.{Accepted};
-ghost use Rattle.feature_gen.specs.Lent.{modelOf};
-ghost use Rattle.training_check.specs.Lent.{dataOf};
+ghost use Rattle.feature_gen.specs.Lent.{modelAt, modelWas};
+ghost use Rattle.training_check.specs.Lent.{dataAt, dataWas};
 ghost use Rattle.parameters.specs.Trainers.{ruleOf};
-ghost use Rattle.trainers.specs.Promise.{averagedPerceptron, passiveAggressive, adaptive, Promised};
+ghost use Rattle.trainers.specs.Promise.{averagedPerceptron, passiveAggressive, adaptive, Given, Buffers, Promised};
 ghost use Rattle.trainers.specs.Inside.{Ready, Kept};
 use feature_gen::Counts;
 use parameters::Arow;
@@ -47,8 +47,14 @@ fn train_checked(
     predicted: &mut [f64],
     order: &mut [u32],
 ) -> Training
-    requires { ⌜ (checked ≡ Accepted → Ready (record { model = modelOf labels counts (now kinds) (now destinations) (now sources) (now «attribute_starts») (now «attribute_entries») (now «label_starts») (now «label_entries»); corpus = dataOf totals (now lines) (now begins) (now ids) (now values) (now references) (now shares) }) (record { weights = now weights; beside = now beside; truly = now truly; predicted = now predicted; order = now order }) allowed) ⌝ }
-    ensures { λ r. ⌜ Kept checked (ruleOf trainer) (record { epochs = allowed; epsilon = epsilon; seed = seed }) (record { model = modelOf labels counts (now (kinds .entry)) (now (destinations .entry)) (now (sources .entry)) (now («attribute_starts» .entry)) (now («attribute_entries» .entry)) (now («label_starts» .entry)) (now («label_entries» .entry)); corpus = dataOf totals (now (lines .entry)) (now (begins .entry)) (now (ids .entry)) (now (values .entry)) (now (references .entry)) (now (shares .entry)) }) (record { weights = now (weights .entry); beside = now (beside .entry); truly = now (truly .entry); predicted = now (predicted .entry); order = now (order .entry) }) (record { answer = r; after = record { weights = now (weights .exit); beside = now (beside .exit); truly = now (truly .exit); predicted = now (predicted .exit); order = now (order .exit) } }) ⌝ }
+    requires { let given : Given = record { model = modelAt labels counts kinds destinations sources «attribute_starts» «attribute_entries» «label_starts» «label_entries»; corpus = dataAt totals lines begins ids values references shares } in
+        let buffers : Buffers = record { weights = now weights; beside = now beside; truly = now truly; predicted = now predicted; order = now order } in
+        ⌜ (checked ≡ Accepted → Ready given buffers allowed) ⌝ }
+    ensures { λ r.
+        let given : Given = record { model = modelWas labels counts kinds destinations sources «attribute_starts» «attribute_entries» «label_starts» «label_entries»; corpus = dataWas totals lines begins ids values references shares } in
+        let before : Buffers = record { weights = now (weights .entry); beside = now (beside .entry); truly = now (truly .entry); predicted = now (predicted .entry); order = now (order .entry) } in
+        let after : Buffers = record { weights = now (weights .exit); beside = now (beside .exit); truly = now (truly .exit); predicted = now (predicted .exit); order = now (order .exit) } in
+        ⌜ Kept checked (ruleOf trainer) (record { epochs = allowed; epsilon = epsilon; seed = seed }) given before (record { answer = r; after = after }) ⌝ }
 {
     if let Checked::Refused(why) = checked {
         return Training::Refused(why);
@@ -118,7 +124,11 @@ pub fn averaged_perceptron(
     predicted: &mut [f64],
     order: &mut [u32],
 ) -> Training
-    ensures { λ r. ⌜ Promised (averagedPerceptron parameters) (record { model = modelOf labels counts (now (kinds .entry)) (now (destinations .entry)) (now (sources .entry)) (now («attribute_starts» .entry)) (now («attribute_entries» .entry)) (now («label_starts» .entry)) (now («label_entries» .entry)); corpus = dataOf totals (now (lines .entry)) (now (begins .entry)) (now (ids .entry)) (now (values .entry)) (now (references .entry)) (now (shares .entry)) }) (record { weights = now (weights .entry); beside = now (beside .entry); truly = now (truly .entry); predicted = now (predicted .entry); order = now (order .entry) }) (record { answer = r; after = record { weights = now (weights .exit); beside = now (beside .exit); truly = now (truly .exit); predicted = now (predicted .exit); order = now (order .exit) } }) ⌝ }
+    ensures { λ r.
+        let given : Given = record { model = modelWas labels counts kinds destinations sources «attribute_starts» «attribute_entries» «label_starts» «label_entries»; corpus = dataWas totals lines begins ids values references shares } in
+        let before : Buffers = record { weights = now (weights .entry); beside = now (beside .entry); truly = now (truly .entry); predicted = now (predicted .entry); order = now (order .entry) } in
+        let after : Buffers = record { weights = now (weights .exit); beside = now (beside .exit); truly = now (truly .exit); predicted = now (predicted .exit); order = now (order .exit) } in
+        ⌜ Promised (averagedPerceptron parameters) given before (record { answer = r; after = after }) ⌝ }
 {
     let lent = Lent {
         weights: weights.len(),
@@ -202,7 +212,11 @@ pub fn passive_aggressive(
     predicted: &mut [f64],
     order: &mut [u32],
 ) -> Training
-    ensures { λ r. ⌜ Promised (passiveAggressive parameters) (record { model = modelOf labels counts (now (kinds .entry)) (now (destinations .entry)) (now (sources .entry)) (now («attribute_starts» .entry)) (now («attribute_entries» .entry)) (now («label_starts» .entry)) (now («label_entries» .entry)); corpus = dataOf totals (now (lines .entry)) (now (begins .entry)) (now (ids .entry)) (now (values .entry)) (now (references .entry)) (now (shares .entry)) }) (record { weights = now (weights .entry); beside = now (beside .entry); truly = now (truly .entry); predicted = now (predicted .entry); order = now (order .entry) }) (record { answer = r; after = record { weights = now (weights .exit); beside = now (beside .exit); truly = now (truly .exit); predicted = now (predicted .exit); order = now (order .exit) } }) ⌝ }
+    ensures { λ r.
+        let given : Given = record { model = modelWas labels counts kinds destinations sources «attribute_starts» «attribute_entries» «label_starts» «label_entries»; corpus = dataWas totals lines begins ids values references shares } in
+        let before : Buffers = record { weights = now (weights .entry); beside = now (beside .entry); truly = now (truly .entry); predicted = now (predicted .entry); order = now (order .entry) } in
+        let after : Buffers = record { weights = now (weights .exit); beside = now (beside .exit); truly = now (truly .exit); predicted = now (predicted .exit); order = now (order .exit) } in
+        ⌜ Promised (passiveAggressive parameters) given before (record { answer = r; after = after }) ⌝ }
 {
     let lent = Lent {
         weights: weights.len(),
@@ -287,7 +301,11 @@ pub fn arow(
     predicted: &mut [f64],
     order: &mut [u32],
 ) -> Training
-    ensures { λ r. ⌜ Promised (adaptive parameters) (record { model = modelOf labels counts (now (kinds .entry)) (now (destinations .entry)) (now (sources .entry)) (now («attribute_starts» .entry)) (now («attribute_entries» .entry)) (now («label_starts» .entry)) (now («label_entries» .entry)); corpus = dataOf totals (now (lines .entry)) (now (begins .entry)) (now (ids .entry)) (now (values .entry)) (now (references .entry)) (now (shares .entry)) }) (record { weights = now (weights .entry); beside = now (beside .entry); truly = now (truly .entry); predicted = now (predicted .entry); order = now (order .entry) }) (record { answer = r; after = record { weights = now (weights .exit); beside = now (beside .exit); truly = now (truly .exit); predicted = now (predicted .exit); order = now (order .exit) } }) ⌝ }
+    ensures { λ r.
+        let given : Given = record { model = modelWas labels counts kinds destinations sources «attribute_starts» «attribute_entries» «label_starts» «label_entries»; corpus = dataWas totals lines begins ids values references shares } in
+        let before : Buffers = record { weights = now (weights .entry); beside = now (beside .entry); truly = now (truly .entry); predicted = now (predicted .entry); order = now (order .entry) } in
+        let after : Buffers = record { weights = now (weights .exit); beside = now (beside .exit); truly = now (truly .exit); predicted = now (predicted .exit); order = now (order .exit) } in
+        ⌜ Promised (adaptive parameters) given before (record { answer = r; after = after }) ⌝ }
 {
     let lent = Lent {
         weights: weights.len(),

@@ -4,7 +4,7 @@ use mathlib.Core.Bool.{Bool, true, false, cond, _&&_, _||_, true≢false}
 use mathlib.Core.Logic.{_⊎_, inl, inr}
 use mathlib.Core.List.{List, [], _∷_, _++_}
 use Prim.Native.Nat.{ℕ, zero, suc, _+_, _*_, _≤_, _<_}
-use native.Mathlib.Nat.{zero-add, not-suc-le-zero, eq-or-lt-of-le, le-of-suc-le-suc}
+use native.Mathlib.Nat.{zero-add}
 use native.Mathlib.Omega.{arith}
 use lib.Dec.{T}
 use lib.ListN.{length, getD, set, length-append, length-replicate}
@@ -18,7 +18,9 @@ use Rattle.training.specs.declared.Training.the-variants.{Accepted, Refu
 use Rattle.shuffle.specs.Shuffle.{shuffled}
 use Rattle.lines.specs.Passes.{through, nought}
 use Rattle.lines.specs.Tables.{Model}
-use Rattle.training.specs.Data.{Data, whole, allFinite}
+use Rattle.training.specs.Data.{Data, whole}
+use Rattle.fronts.specs.Finite.{allFinite}
+use Rattle.fronts.proofs.Finite.{all-finite-at}
 use Rattle.training.specs.Rules.{Rule, stops, averagedBy}
 use Rattle.training.specs.Visits.{State, refusedAs, unchanged, changedTo, visited}
 use Rattle.training.specs.Epochs.{Settings, Run, Result, isRefused, opened, visitedAt, epochOver, epoch, epochUnlessOver, begun, ran, refusedWith, averaged, finished, trained}
@@ -128,17 +130,6 @@ module _ (visit : ℕ → State → State) (counts : (i : ℕ) (s : State) → i
       one-epoch-more e t (endsWithin visit stop instances e r) (run-counted e r c) (t .over) refl
 
 -- ---- the answer
-pub all-finite-at : (table : List Float) (n : ℕ) → allFinite table n ≡ true → (i : ℕ) → i < n → T (finite (getD table i nan))
-unfolding allFinite
-all-finite-at table zero e i h = absurd (not-suc-le-zero h)
-all-finite-at table (suc n) e i h = go (allFinite table n) (finite (getD table n nan)) (all-finite-at table n) refl e (eq-or-lt-of-le (le-of-suc-le-suc h))
-  where
-    go : (a b : Bool) → (a ≡ true → (j : ℕ) → j < n → T (finite (getD table j nan))) → finite (getD table n nan) ≡ b → a && b ≡ true → (i ≡ n) ⊎ (i < n) → T (finite (getD table i nan))
-    go false b r f t c = absurd (true≢false (sym t))
-    go true false r f t c = absurd (true≢false (sym t))
-    go true true r f t (inl here) = rw (here, f) tt
-    go true true r f t (inr before) = r refl i before
-
 module _ (rule : Rule) (set : Settings) (m : Model) (d : Data) where
   -- what the final averaging makes of a run
   abbrev last : Run → List Float

@@ -7,7 +7,7 @@ use lib.Dec.{T}
 use lib.ListN.{getD, replicate, getD-replicate}
 use lib.Ieee.{Float, nan}
 use lib.Ieee.Scale.{finite}
-use Rattle.score_tables.specs.Meaning.{FiniteTo}
+use Rattle.fronts.specs.Finite.{FiniteTo}
 use Rattle.shuffle.specs.Shuffle.{shuffled}
 use Rattle.lines.specs.Passes.{through, nought}
 use Rattle.lines.specs.Tables.{Model}

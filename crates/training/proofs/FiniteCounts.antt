@@ -14,7 +14,7 @@ use lib.Ieee.Fits.{and-i, and-l, and-r}
 use lib.Ieee.Bits.{is-true}
 use lib.Ieee.Scale.{finite}
 use Rattle.lines.specs.Passes.{through, raised}
-use Rattle.training.specs.Data.{allFinite}
+use Rattle.fronts.specs.Finite.{allFinite}
 use Rattle.training.specs.Rules.{perceptron, passive, arow, Learned, difference, pushed, pulled, narrowed, byPerceptron, byPassive, byArow, updatedBy, _⊗_}
 use Rattle.training.specs.FiniteCounts.{WeightsTellCounts}
 

@@ -14,7 +14,8 @@ use Rattle.lines.specs.Passes.{through}
 use Rattle.lines.specs.Tables.{Model}
 use Rattle.lines.specs.Scored.{statesOf, transitionsOf}
 use Rattle.lines.specs.Counted.{countsOf}
-use Rattle.training.specs.Data.{Data, firstWord, wordsOf, referenceOf, wrongAt, wrongOf, allFinite}
+use Rattle.training.specs.Data.{Data, firstWord, wordsOf, referenceOf, wrongAt, wrongOf}
+use Rattle.fronts.specs.Finite.{allFinite}
 use Rattle.training.specs.Rules.{Rule, Mistake, updatedBy}
 use Rattle.training.specs.Visits.{State, refusedAs, unchanged, changedTo, finiteState, heldTo, corrected, compared, visited}
 use Rattle.training.specs.Epochs.{isRefused}

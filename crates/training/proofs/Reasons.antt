@@ -12,12 +12,12 @@ use lib.Ieee.{Float, nan}
 use lib.Ieee.Bits.{is-true}
 use lib.Ieee.Scale.{finite}
 use Rattle.refusals.specs.declared.Refusal.{Refusal}
-use Rattle.score_tables.specs.Meaning.{FiniteTo}
+use Rattle.fronts.specs.Finite.{FiniteTo, allFinite}
 use Rattle.training.specs.declared.Visit.{Visit}
 use Rattle.training.specs.declared.Visit.the-variants.{Unchanged, Updated, Refused}
 use Rattle.best_path.specs.Scores.{tabled}
 use Rattle.lines.specs.Tables.{Model}
-use Rattle.training.specs.Data.{Data, wordsOf, referenceOf, allFinite}
+use Rattle.training.specs.Data.{Data, wordsOf, referenceOf}
 use Rattle.training.specs.Rules.{Rule, perceptron, passive, arow, Learned, Mistake, pulled, byPassive, updatedBy}
 use Rattle.training.specs.Visits.{State, refusedAs, unchanged, changedTo, finiteState, heldTo, corrected, compared, visited}
 use Rattle.training.specs.Epochs.{isRefused}
@@ -25,7 +25,7 @@ use Rattle.training.specs.OneVisit.{predictedFor, LabelsAgree}
 use Rattle.training.specs.Reasons.{SomeNotFinite, stateScores, transitionScores, trueCounts, predictedCounts, ScoresFinite, EightIn, state-score, transition-score, true-count, predicted-count, ComesToUpdate, NineAfter, weight, running-sum, covariance, epoch-loss, TablesFinite, afterUpdate, VisitsMean}
 use Rattle.training.proofs.OneVisit.{agree-none, none-agree, wrongIn}
 use Rattle.training.proofs.Weights.{through-keeps}
-use Rattle.training.proofs.Accepted.{all-finite-at}
+use Rattle.fronts.proofs.Finite.{all-finite-at, all-finite-if}
 
 -- ---- a test, either way
 pub by-test : {A : Type 0} (b : Bool) → (b ≡ true → A) → (b ≡ false → A) → A
@@ -37,11 +37,6 @@ refuted true f = absurd (f refl)
 refuted false f = refl
 
 -- ---- the first n of a table, all finite or not
-pub all-of : (table : List Float) (n : ℕ) → FiniteTo table n → allFinite table n ≡ true
-unfolding allFinite
-all-of table zero h = refl
-all-of table (suc n) h = rw (all-of table n (λ i l. h i (omega arith)), is-true (finite (getD table n nan)) (h n (omega arith)))
-
 pub none-of : (table : List Float) (n : ℕ) → SomeNotFinite table n → allFinite table n ≡ false
 none-of table n h =
     refuted (allFinite table n) (λ e. rw (h .bad) at (all-finite-at table n e (h .place) (h .inside)))
@@ -66,7 +61,7 @@ unfolding changedTo
 beside-lost perceptron features k s f h = running-sum tt h
 beside-lost (passive variant c sensitive true) features k s f h = running-sum refl h
 beside-lost (passive variant c sensitive false) features k s f h =
-    absurd (true≢false (sym (all-of (s .learned .beside) features f) ∙ none-of (s .learned .beside) features (rw (same-beside variant c sensitive features k (s .learned)) at h)))
+    absurd (true≢false (sym (all-finite-if (s .learned .beside) features f) ∙ none-of (s .learned .beside) features (rw (same-beside variant c sensitive features k (s .learned)) at h)))
 beside-lost (arow variance gamma) features k s f h = covariance tt h
 
 -- ---- what 9 looks at, found or not
@@ -83,7 +78,7 @@ finite-held features s e =
 
 pub held-finite : (features : ℕ) (s : State) → TablesFinite features s → finiteState features s ≡ true
 unfolding finiteState
-held-finite features s h = rw (all-of (s .learned .weights) features (h .weights), all-of (s .learned .beside) features (h .beside), is-true (finite (s .step .loss)) (h .loss))
+held-finite features s h = rw (all-finite-if (s .learned .weights) features (h .weights), all-finite-if (s .learned .beside) features (h .beside), is-true (finite (s .step .loss)) (h .loss))
 
 nine-lost : (rule : Rule) (features : ℕ) (after : State) → NineAfter rule features after → finiteState features after ≡ false
 unfolding finiteState
@@ -113,13 +108,13 @@ module _ (rule : Rule) (m : Model) (d : Data) (i : ℕ) (s : State) where
   agreeing-so : ScoresFinite m d i s → LabelsAgree m d i s → visited rule m d i s ≡ unchanged s
   unfolding visited compared predictedFor
   agreeing-so f h =
-      rw (all-of (stateScores m d i s) _ (f .states), all-of (transitionScores m d i s) _ (f .transitions), eq-eqb (wrongIn rule m d i s) 0 (agree-none (predictedFor m d i s) (referenceOf d i) (wordsOf d i) h))
+      rw (all-finite-if (stateScores m d i s) _ (f .states), all-finite-if (transitionScores m d i s) _ (f .transitions), eq-eqb (wrongIn rule m d i s) 0 (agree-none (predictedFor m d i s) (referenceOf d i) (wordsOf d i) h))
 
   -- labels that differ bring a visit to the counts
   comes-to-counts : ScoresFinite m d i s → (LabelsAgree m d i s → ⊥) → visited rule m d i s ≡ corrected rule m d i (tabled (m .labels) (transitionScores m d i s) (stateScores m d i s)) (predictedFor m d i s) (wrongIn rule m d i s) s
   unfolding visited compared predictedFor
   comes-to-counts f n =
-      rw (all-of (stateScores m d i s) _ (f .states), all-of (transitionScores m d i s) _ (f .transitions), refuted (eqb (wrongIn rule m d i s) 0) (λ e. n (none-agree (predictedFor m d i s) (referenceOf d i) (wordsOf d i) (eqb-true (wrongIn rule m d i s) 0 e))))
+      rw (all-finite-if (stateScores m d i s) _ (f .states), all-finite-if (transitionScores m d i s) _ (f .transitions), refuted (eqb (wrongIn rule m d i s) 0) (λ e. n (none-agree (predictedFor m d i s) (referenceOf d i) (wordsOf d i) (eqb-true (wrongIn rule m d i s) 0 e))))
 
   counts-refused : ScoresFinite m d i s → (LabelsAgree m d i s → ⊥) → allFinite (trueCounts m d i s) (m .features .count) && allFinite (predictedCounts m d i s) (m .features .count) ≡ false → visited rule m d i s ≡ refusedAs 8 s
   unfolding corrected
@@ -129,7 +124,7 @@ module _ (rule : Rule) (m : Model) (d : Data) (i : ℕ) (s : State) where
   unfolding corrected afterUpdate
   comes-to-update c =
       comes-to-counts (c .scores) (c .differ)
-      ∙ rw (all-of (trueCounts m d i s) (m .features .count) (c .true-counts), all-of (predictedCounts m d i s) (m .features .count) (c .predicted-counts))
+      ∙ rw (all-finite-if (trueCounts m d i s) (m .features .count) (c .true-counts), all-finite-if (predictedCounts m d i s) (m .features .count) (c .predicted-counts))
 
   pub eight-so : EightIn m d i s → visited rule m d i s ≡ refusedAs 8 s
   eight-so (state-score h) = scores-refused (rw (none-of (stateScores m d i s) _ h))

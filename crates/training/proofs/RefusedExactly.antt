@@ -13,13 +13,15 @@ use Rattle.training.specs.declared.Visit.the-variants.{Unchanged, Update
 use Rattle.training.specs.declared.Trained.{Trained}
 use Rattle.training.specs.declared.Training.the-variants.{Accepted, Refused as NotTrained}
 use Rattle.lines.specs.Tables.{Model}
-use Rattle.training.specs.Data.{Data, allFinite}
+use Rattle.training.specs.Data.{Data}
+use Rattle.fronts.specs.Finite.{allFinite}
+use Rattle.fronts.proofs.Finite.{all-finite-if}
 use Rattle.training.specs.Rules.{Rule, perceptron, passive, arow, besideAtFirst, averagedBy}
 use Rattle.training.specs.Visits.{State, refusedAs, visited}
 use Rattle.training.specs.Epochs.{Settings, Run, isRefused, ran, refusedWith, averaged, finished, trained}
 use Rattle.training.specs.Reasons.{SomeNotFinite, KeepsSums, TablesFinite, VisitMeans}
 use Rattle.training.specs.Reached.{instanceAt, stateBefore, endAt, Reached, EightAt, averagedWeights, NineAt, in-visit, in-averaging, RefusedExactly}
-use Rattle.training.proofs.Reasons.{by-test, all-of, none-of, some-of, eight-so, nine-so, visits-mean}
+use Rattle.training.proofs.Reasons.{by-test, none-of, some-of, eight-so, nine-so, visits-mean}
 use Rattle.training.proofs.AlwaysFinite.{ran-finite, before-finite}
 use Rattle.training.proofs.Reached.{visits-before, ran-refused, ran-found, none-refused-so, so-none-refused, all-visits}
 
@@ -68,8 +70,8 @@ averaging-lost : (rule : Rule) (features : ℕ) (counter : Float) (s : State) �
 unfolding averagedBy
 averaging-lost perceptron features counter s f h = tt
 averaging-lost (passive variant c sensitive true) features counter s f h = refl
-averaging-lost (passive variant c sensitive false) features counter s f h = absurd (true≢false (sym (all-of (s .learned .weights) features (f .weights)) ∙ none-of (s .learned .weights) features h))
-averaging-lost (arow variance gamma) features counter s f h = absurd (true≢false (sym (all-of (s .learned .weights) features (f .weights)) ∙ none-of (s .learned .weights) features h))
+averaging-lost (passive variant c sensitive false) features counter s f h = absurd (true≢false (sym (all-finite-if (s .learned .weights) features (f .weights)) ∙ none-of (s .learned .weights) features h))
+averaging-lost (arow variance gamma) features counter s f h = absurd (true≢false (sym (all-finite-if (s .learned .weights) features (f .weights)) ∙ none-of (s .learned .weights) features h))
 
 -- ---- what is claimed
 module _ (rule : Rule) (set : Settings) (m : Model) (d : Data) (start : T (finite (besideAtFirst rule))) where

@@ -1,12 +1,11 @@
 -- The instances that a trainer learns from, and small things that training asks of tables. Assumes nothing.
-use mathlib.Core.Bool.{Bool, true, cond, _&&_}
+use mathlib.Core.Bool.{cond}
 use mathlib.Core.List.{List}
-use Prim.Native.Nat.{ℕ, zero, suc, _+_}
+use Prim.Native.Nat.{ℕ, _+_}
 use lib.Dec.{eqb}
 use lib.IntN.{pos}
 use lib.ListN.{getD, take, drop}
-use lib.Ieee.{Float, nan, binary64, ofInt}
-use lib.Ieee.Scale.{finite}
+use lib.Ieee.{Float, binary64, ofInt}
 use Rattle.lines.specs.Passes.{start, size, through}
 use Rattle.lines.specs.Tables.{Words}
 
@@ -39,8 +38,3 @@ wrongAt p q word n = cond (eqb (getD p word 0) (getD q word 0)) n (n + 1)
 
 unfoldable pub wrongOf : List ℕ → List ℕ → ℕ → ℕ
 wrongOf p q words = through (wrongAt p q) 0 words 0
-
--- the first n of a table are finite
-unfoldable pub allFinite : List Float → ℕ → Bool
-allFinite table zero = true
-allFinite table (suc n) = allFinite table n && finite (getD table n nan)

@@ -8,7 +8,7 @@ use lib.Dec.{T}
 use lib.Ieee.{Float}
 use lib.Ieee.Scale.{finite}
 use Rattle.refusals.specs.declared.Refusal.{Refusal}
-use Rattle.score_tables.specs.Meaning.{FiniteTo, NotFinite}
+use Rattle.fronts.specs.Finite.{FiniteTo, NotFinite}
 use Rattle.training.specs.declared.Visit.the-variants.{Unchanged, Updated, Refused}
 use Rattle.best_path.specs.Scores.{tabled}
 use Rattle.lines.specs.Tables.{Model}

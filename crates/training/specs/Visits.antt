@@ -6,6 +6,7 @@ use lib.Dec.{eqb}
 use lib.ListN.{getD}
 use lib.Ieee.{Float, nan}
 use lib.Ieee.Scale.{finite}
+use Rattle.refusals.specs.Refusals.{numbered}
 use Rattle.training.specs.declared.Visit.{Visit}
 use Rattle.training.specs.declared.Visit.the-variants.{Unchanged, Updated, Refused}
 use Rattle.training.specs.declared.Step.{Step}
@@ -15,7 +16,8 @@ use Rattle.best_path.specs.PathScore.{pathScore}
 use Rattle.lines.specs.Tables.{Model}
 use Rattle.lines.specs.Scored.{statesOf, transitionsOf}
 use Rattle.lines.specs.Counted.{countsOf}
-use Rattle.training.specs.Data.{Data, firstWord, wordsOf, referenceOf, whole, wrongOf, allFinite}
+use Rattle.training.specs.Data.{Data, firstWord, wordsOf, referenceOf, whole, wrongOf}
+use Rattle.fronts.specs.Finite.{allFinite}
 use Rattle.training.specs.Rules.{Rule, Learned, Mistake, Update, updatedBy, _⊕_}
 
 -- what goes from visit to visit
@@ -28,7 +30,7 @@ pub record State : Type 0 where
 unfoldable pub refusedAs : ℕ → State → State
 refusedAs number s = record {
   step = record {
-    visit = Refused (record { number = number; place = s .step .visits });
+    visit = Refused (numbered number (s .step .visits));
     visits = s .step .visits;
     updates = s .step .updates;
     loss = s .step .loss;

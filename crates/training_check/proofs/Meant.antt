@@ -12,6 +12,7 @@ use Rattle.score_tables.proofs.Meant.{one-means}
 use Rattle.refusal_rows.specs.Tests.{linesFit, startsRise, idsBelow, numbersFinite, AllGood, Good, wordsIn}
 use Rattle.refusal_rows.proofs.Means.{two-means, good-parts, fitting}
 use Rattle.refusal_rows.proofs.Groups.{Group, single, tested, given-first, given-after, accepted-when, given-only}
+use Rattle.refusal_rows.proofs.TableGroups.{pair}
 use Rattle.lines.specs.Sound.{SoundWords}
 use Rattle.feature_gen.specs.Rows.{startTests, idTests}
 use Rattle.feature_gen.proofs.Sound.{rising, below, all-finite, sound-words, sound}
@@ -19,7 +20,7 @@ use Rattle.line_check.specs.Rows.{valueTests}
 use Rattle.training.specs.Data.{Data, firstWord, wordsOf}
 use Rattle.parameters.specs.Parameters.{Parameter}
 use Rattle.parameters.proofs.Means.{fitness}
-use Rattle.training_check.specs.Rows.{Input, inputLimits, inputStarts, lengthTests, inputIds, inputNumbers, trainingChecked}
+use Rattle.training_check.specs.Rows.{Input, inputCounts, inputRooms, inputStarts, lengthTests, inputIds, inputNumbers, trainingChecked}
 use Rattle.training_check.specs.Sound.{DataSized, SoundData, SoundInput}
 use Rattle.training_check.specs.Meaning.{Before7, Meaning, TrainingMeans}
 use Rattle.training_check.proofs.Laws.{input-within}
@@ -70,7 +71,7 @@ module _ (g : Input) (parameters : List Parameter) where
   ones = single (one-means (g .model .labels))
 
   abbrev twos : Group
-  twos = single (two-means (inputLimits g))
+  twos = pair (two-means (inputCounts g)) (two-means (inputRooms g))
 
   abbrev threes : Group
   threes = tested 3 (inputStarts g) (refl, (refl, (refl, (refl, tt))))

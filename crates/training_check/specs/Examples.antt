@@ -7,12 +7,13 @@ use lib.IntN.{pos}
 use lib.Ieee.{Float, nan, inf, fin, ofInt, lt}
 use Rattle.refusals.specs.declared.Checked.the-variants.{Accepted}
 use Rattle.refusals.specs.Refusals.{refusedAt, refuse, orNext, lowest}
+use Rattle.refusal_rows.specs.Limits.{inOrder}
 use Rattle.lines.specs.Passes.{nought}
 use Rattle.lines.specs.Counted.{one}
 use Rattle.parameters.specs.declared.Perceptron.{Perceptron}
 use Rattle.parameters.specs.declared.Passive.{Passive}
 use Rattle.parameters.specs.declared.Arow.{Arow}
-use Rattle.training_check.specs.Rows.{Input, trainingChecked, perceptronChecked, passiveChecked, arowChecked}
+use Rattle.training_check.specs.Rows.{Input, inputCounts, trainingChecked, perceptronChecked, passiveChecked, arowChecked}
 
 -- "L=2, one word, attribute 0 of value 1 listing State features to labels 0 and 1, instance weight 1, .. reference 0"; so many instances that begin so
 abbrev p9 : ℕ → List ℕ → Float → Input
@@ -77,3 +78,7 @@ scales = (refl, refl, refl)
 gammas : arowChecked (p9 1 (0 ∷ 1 ∷ []) one) (record { epochs = 1; epsilon = nought; seed = 0; variance = one; gamma = inf true }) ≡ refusedAt 7 4
 unfolding trainingChecked lowest orNext refuse ofInt lt
 gammas = refl
+
+-- the counts are tested in the order of "Tables and bounds"
+counts-in-order : (g : Input) → inOrder (inputCounts g) ≡ true
+counts-in-order g = refl

@@ -4,12 +4,13 @@ use Prim.Native.Nat.{ℕ, _+_}
 use lib.ListN.{length}
 use Rattle.refusals.specs.declared.Checked.{Checked}
 use Rattle.refusals.specs.Refusals.{first}
+use Rattle.refusals.specs.Bounds.{theInstances, theWords, theAttributes}
 use Rattle.score_tables.specs.Rows.{one}
-use Rattle.refusal_rows.specs.Limits.{Limit, atMost, between, room, two}
+use Rattle.refusal_rows.specs.Limits.{Limit, count, room, two}
 use Rattle.refusal_rows.specs.Tests.{Test, startsRise, linesFit, idsBelow, numbersFinite, checks}
 use Rattle.lines.specs.Tables.{Model}
-use Rattle.feature_gen.specs.Rows.{modelLimits, startTests, idTests}
-use Rattle.line_check.specs.Rows.{lineLimits, valueTests}
+use Rattle.feature_gen.specs.Rows.{modelCounts, modelRooms, startTests, idTests}
+use Rattle.line_check.specs.Rows.{lineRooms, valueTests}
 use Rattle.training.specs.Data.{Data}
 use Rattle.parameters.specs.declared.Perceptron.{Perceptron}
 use Rattle.parameters.specs.declared.Passive.{Passive}
@@ -23,31 +24,36 @@ pub record Input : Type 0 where
   pub corpus : Data
   pub lent : Lent
 
--- "Instances N: 1 to 16,384."
-abbrev pub mostInstances : ℕ
-mostInstances = 16384
+-- ---- 2 | "a count other than L, T and epochs outside its bound" | 0
 
--- "Words in all: at most 1,048,576"
-abbrev pub mostWordsInAll : ℕ
-mostWordsInAll = 1048576
+-- "Instances N", "words in all", "attributes in all"
+abbrev pub totalLimits : (instances words attributes : ℕ) → List Limit
+totalLimits instances words attributes =
+    count theInstances instances
+    ∷ count theWords words
+    ∷ count theAttributes attributes
+    ∷ []
 
--- ---- 2 | "a count other than L, T and epochs outside its bound, or a lent buffer too short" | 0
+abbrev pub dataCounts : Data → List Limit
+dataCounts d = totalLimits (d .instances) (d .count) (d .words .size)
 
--- the instances; their words and attributes have the limits of a line of so many words
-abbrev pub dataLimits : Data → List Limit
-dataLimits d =
-    (between 1 mostInstances (d .instances)
-    ∷ atMost mostWordsInAll (d .count)
-    ∷ [])
-    ++ lineLimits (d .count) (d .words)
-    ++ (room (length (d .starts)) (d .instances + 1)
-    ∷ room (length (d .references)) (d .count)
+abbrev pub inputCounts : Input → List Limit
+inputCounts g = modelCounts (g .model) ++ dataCounts (g .corpus)
+
+-- ---- 2 | "a lent buffer too short" | 0, in the order of the call's slices
+
+-- the instances; their words and attributes have the rooms of a line of so many words
+abbrev pub dataRooms : Data → List Limit
+dataRooms d =
+    (room (length (d .starts)) (d .instances + 1) ∷ [])
+    ++ lineRooms (d .count) (d .words)
+    ++ (room (length (d .references)) (d .count)
     ∷ room (length (d .weights)) (d .instances)
     ∷ [])
 
 -- the result and work buffers
-abbrev pub lentLimits : ℕ → ℕ → Lent → List Limit
-lentLimits features instances lent =
+abbrev pub lentRooms : ℕ → ℕ → Lent → List Limit
+lentRooms features instances lent =
     room (lent .weights) features
     ∷ room (lent .beside) features
     ∷ room (lent .truly) features
@@ -55,11 +61,11 @@ lentLimits features instances lent =
     ∷ room (lent .order) instances
     ∷ []
 
-abbrev pub inputLimits : Input → List Limit
-inputLimits g =
-    modelLimits (g .model)
-    ++ dataLimits (g .corpus)
-    ++ lentLimits (g .model .features .count) (g .corpus .instances) (g .lent)
+abbrev pub inputRooms : Input → List Limit
+inputRooms g =
+    modelRooms (g .model)
+    ++ dataRooms (g .corpus)
+    ++ lentRooms (g .model .features .count) (g .corpus .instances) (g .lent)
 
 -- ---- 3 | "a rule of starts is broken" | "index of the first bad start": "attribute lists; label lists; words; attributes"
 
@@ -92,7 +98,8 @@ unfoldable pub trainingChecked : Input → List Parameter → Checked
 trainingChecked g parameters =
     first
     (one (g .model .labels)
-    ∷ two (inputLimits g)
+    ∷ two (inputCounts g)
+    ∷ two (inputRooms g)
     ∷ checks (inputStarts g)
     ++ checks (lengthTests (g .corpus))
     ++ checks (inputIds g)
@@ -113,12 +120,13 @@ unfoldable pub inputChecked : Input → Checked
 inputChecked g =
     first
     (one (g .model .labels)
-    ∷ two (inputLimits g)
+    ∷ two (inputCounts g)
+    ∷ two (inputRooms g)
     ∷ checks (inputStarts g)
     ++ checks (lengthTests (g .corpus))
     ++ checks (inputIds g)
     ++ checks (inputNumbers (g .corpus)))
 
--- the first two: what can be said before any table is read
+-- the first three: what can be said before any table is read
 unfoldable pub inputSized : Input → Checked
-inputSized g = first (one (g .model .labels) ∷ two (inputLimits g) ∷ [])
+inputSized g = first (one (g .model .labels) ∷ two (inputCounts g) ∷ two (inputRooms g) ∷ [])

@@ -2,20 +2,21 @@
 use mathlib.Core.List.{List}
 use Prim.Native.Nat.{ℕ, _+_, _<_, _≤_}
 use lib.ListN.{length, getD}
+use Rattle.refusals.specs.Bounds.{theInstances, theWords, most}
 use Rattle.score_tables.specs.Sound.{WordsIn}
-use Rattle.score_tables.specs.Meaning.{FiniteTo}
+use Rattle.fronts.specs.Finite.{FiniteTo}
 use Rattle.lines.specs.Sound.{SoundWords}
 use Rattle.feature_gen.specs.Sound.{Sized, Sound}
 use Rattle.line_check.specs.Sound.{LineSized}
 use Rattle.training.specs.Data.{Data, firstWord, wordsOf}
 use Rattle.training_check.specs.declared.Lent.{Lent}
-use Rattle.training_check.specs.Rows.{Input, mostInstances, mostWordsInAll}
+use Rattle.training_check.specs.Rows.{Input}
 
 -- 2 does not apply to the instances: the totals are within their bounds, and each table has room for its count
 pub record DataSized (d : Data) : Type 0 where
   pub some : 1 ≤ d .instances
-  pub few-instances : d .instances ≤ mostInstances
-  pub few-words : d .count ≤ mostWordsInAll
+  pub few-instances : d .instances ≤ most theInstances
+  pub few-words : d .count ≤ most theWords
   pub words : LineSized (d .count) (d .words)
   pub starts : d .instances < length (d .starts)
   pub references : d .count ≤ length (d .references)
@@ -37,7 +38,7 @@ pub record InputFits (g : Input) : Type 0 where
 -- nor do 3, 4, 5 and 6 to the instances, for so many labels: each is a line of 1 to 128 of the words
 pub record SoundData (labels : ℕ) (d : Data) : Type 0 where
   pub some : 1 ≤ d .instances
-  pub few : d .instances ≤ mostInstances
+  pub few : d .instances ≤ most theInstances
   pub starting : d .instances < length (d .starts)
   pub sized : (i : ℕ) → i < d .instances → WordsIn (wordsOf d i)
   pub within : (i : ℕ) → i < d .instances → firstWord d i + wordsOf d i ≤ d .count

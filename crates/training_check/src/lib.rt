@@ -5,13 +5,12 @@ ghost use mathlib.Core.List.{[], _∷_};
 ghost use Prim.Native.Nat.{_-_, _<_};
 ghost use lib.ListN.{length};
 ghost use Rattle.refusals.specs.Refusals.{orNext, firstFrom};
-ghost use Rattle.refusals.specs.Tables.{outside};
-ghost use Rattle.score_tables.specs.Rows.{mostWords};
+ghost use Rattle.refusals.specs.Bounds.{theLineWords, outsideIts};
 ghost use Rattle.refusal_rows.specs.Limits.{anyBroken};
 ghost use Rattle.refusal_rows.specs.Tests.{startsRise, linesFit, lengthsChecked, checks};
-ghost use Rattle.feature_gen.specs.Lent.{modelOf};
-ghost use Rattle.training_check.specs.Lent.{dataOf};
-ghost use Rattle.training_check.specs.Rows.{dataLimits, lentLimits, inputSized, inputChecked};
+ghost use Rattle.feature_gen.specs.Lent.{modelWas};
+ghost use Rattle.training_check.specs.Lent.{dataWas};
+ghost use Rattle.training_check.specs.Rows.{totalLimits, dataRooms, lentRooms, inputSized, inputChecked};
 use feature_gen::Counts;
 use refusals::Checked;
 
@@ -37,8 +36,17 @@ pub struct Lent {
     pub order: usize,
 }
 
-// 2: whether a total is outside its bound, or a table of the instances too short.
-fn exceeds(
+// 2: whether a total is outside its bound.
+fn exceeds_totals(totals: Totals) -> bool
+    ensures { λ r. ⌜ r ≡ anyBroken (totalLimits (totals .instances) (totals .words) (totals .attributes)) ⌝ }
+{
+    refusals::is_outside(1, MOST_INSTANCES, totals.instances)
+        | (MOST_WORDS_IN_ALL < totals.words)
+        | (line_check::MOST_ATTRIBUTES < totals.attributes)
+}
+
+// 2: whether a table of the instances is too short.
+fn lacks_data(
     totals: Totals,
     lines: &[u32],
     begins: &[u32],
@@ -47,20 +55,18 @@ fn exceeds(
     references: &[u32],
     shares: &[f64],
 ) -> bool
-    ensures { λ r. ⌜ r ≡ anyBroken (dataLimits (dataOf totals (now (lines .entry)) (now (begins .entry)) (now (ids .entry)) (now (values .entry)) (now (references .entry)) (now (shares .entry)))) ⌝ }
+    ensures { λ r. ⌜ r ≡ anyBroken (dataRooms (dataWas totals lines begins ids values references shares)) ⌝ }
 {
-    let many = refusals::is_outside(1, MOST_INSTANCES, totals.instances)
-        | (MOST_WORDS_IN_ALL < totals.words);
-    let words = line_check::exceeds(totals.words, totals.attributes, begins, ids, values);
-    let short = (lines.len() < totals.instances as usize + 1)
-        | (references.len() < totals.words as usize)
+    let opened = lines.len() < totals.instances as usize + 1;
+    let words = line_check::lacks_line(totals.words, totals.attributes, begins, ids, values);
+    let beside = (references.len() < totals.words as usize)
         | (shares.len() < totals.instances as usize);
-    many | words | short
+    opened | words | beside
 }
 
 // 2: whether a result or work buffer is too short.
-fn exceeds_lent(features: u32, instances: u32, lent: Lent) -> bool
-    ensures { λ r. ⌜ r ≡ anyBroken (lentLimits features instances lent) ⌝ }
+fn lacks_lent(features: u32, instances: u32, lent: Lent) -> bool
+    ensures { λ r. ⌜ r ≡ anyBroken (lentRooms features instances lent) ⌝ }
 {
     (lent.weights < features as usize)
         | (lent.beside < features as usize)
@@ -69,7 +75,7 @@ fn exceeds_lent(features: u32, instances: u32, lent: Lent) -> bool
         | (lent.order < instances as usize)
 }
 
-// 1 and 2: what can be said before any table is read.
+// 1, then 2 of the counts, then 2 of the rooms: what can be said before any table is read.
 fn input_sizes(
     labels: u32,
     counts: Counts,
@@ -89,11 +95,15 @@ fn input_sizes(
     shares: &[f64],
     lent: Lent,
 ) -> Checked
-    ensures { λ r. ⌜ r ≡ inputSized (record { model = modelOf labels counts (now (kinds .entry)) (now (destinations .entry)) (now (sources .entry)) (now («attribute_starts» .entry)) (now («attribute_entries» .entry)) (now («label_starts» .entry)) (now («label_entries» .entry)); corpus = dataOf totals (now (lines .entry)) (now (begins .entry)) (now (ids .entry)) (now (values .entry)) (now (references .entry)) (now (shares .entry)); lent = lent }) ⌝ }
+    ensures { λ r.
+        let m = modelWas labels counts kinds destinations sources «attribute_starts» «attribute_entries» «label_starts» «label_entries» in
+        ⌜ r ≡ inputSized (record { model = m; corpus = dataWas totals lines begins ids values references shares; lent = lent }) ⌝ }
 {
     let outside = refusals::is_outside(1, score_tables::MOST_LABELS, labels);
     let one = refusals::refuse_if(Checked::Accepted, 1, 0, outside);
-    let model = feature_gen::exceeds(
+    let many = feature_gen::exceeds(counts) | exceeds_totals(totals);
+    let two = refusals::refuse_if(one, 2, 0, many);
+    let model = feature_gen::lacks_tables(
         counts,
         kinds,
         destinations,
@@ -103,14 +113,14 @@ fn input_sizes(
         label_starts,
         label_entries,
     );
-    let data = exceeds(totals, lines, begins, ids, values, references, shares);
-    let room = exceeds_lent(counts.features, totals.instances, lent);
-    refusals::refuse_if(one, 2, 0, model | data | room)
+    let data = lacks_data(totals, lines, begins, ids, values, references, shares);
+    let room = lacks_lent(counts.features, totals.instances, lent);
+    refusals::refuse_if(two, 2, 0, model | data | room)
 }
 
 // Whether so many words, from one start to the next, are none or too many for a line.
 fn is_bad_length(start: u32, next: u32) -> bool
-    ensures { λ r. ⌜ r ≡ outside 1 mostWords (next - start) ⌝ }
+    ensures { λ r. ⌜ r ≡ outsideIts theLineWords (next - start) ⌝ }
 {
     if start < next {
         refusals::is_outside(1, score_tables::MOST_WORDS, next - start)
@@ -150,7 +160,9 @@ fn check_starts(
     requires { ⌜ counts .«label_lists» < length (now «label_starts») ⌝ }
     requires { ⌜ totals .instances < length (now lines) ⌝ }
     requires { ⌜ totals .words < length (now begins) ⌝ }
-    ensures { λ r. ⌜ r ≡ firstFrom answer (checks (startsRise (now («attribute_starts» .entry)) (counts .«attribute_lists») (counts .«attribute_entries») ∷ startsRise (now («label_starts» .entry)) (counts .«label_lists») (counts .«label_entries») ∷ startsRise (now (lines .entry)) (totals .instances) (totals .words) ∷ startsRise (now (begins .entry)) (totals .words) (totals .attributes) ∷ linesFit (now (lines .entry)) (totals .instances) ∷ [])) ⌝ }
+    ensures { λ r. ⌜ r ≡ firstFrom answer (checks (startsRise (now («attribute_starts» .entry)) (counts .«attribute_lists») (counts .«attribute_entries»)
+        ∷ startsRise (now («label_starts» .entry)) (counts .«label_lists») (counts .«label_entries»)
+        ∷ startsRise (now (lines .entry)) (totals .instances) (totals .words) ∷ startsRise (now (begins .entry)) (totals .words) (totals .attributes) ∷ linesFit (now (lines .entry)) (totals .instances) ∷ [])) ⌝ }
 {
     let n = totals.instances as usize;
     let words = totals.words as usize;
@@ -180,7 +192,9 @@ pub fn check_input(
     shares: &[f64],
     lent: Lent,
 ) -> Checked
-    ensures { λ r. ⌜ r ≡ inputChecked (record { model = modelOf labels counts (now (kinds .entry)) (now (destinations .entry)) (now (sources .entry)) (now («attribute_starts» .entry)) (now («attribute_entries» .entry)) (now («label_starts» .entry)) (now («label_entries» .entry)); corpus = dataOf totals (now (lines .entry)) (now (begins .entry)) (now (ids .entry)) (now (values .entry)) (now (references .entry)) (now (shares .entry)); lent = lent }) ⌝ }
+    ensures { λ r.
+        let m = modelWas labels counts kinds destinations sources «attribute_starts» «attribute_entries» «label_starts» «label_entries» in
+        ⌜ r ≡ inputChecked (record { model = m; corpus = dataWas totals lines begins ids values references shares; lent = lent }) ⌝ }
 {
     let sizes = input_sizes(
         labels,

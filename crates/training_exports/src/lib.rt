@@ -1,7 +1,7 @@
 // The three trainers, for programs in C and Rust. Each is thin: one call of the crate trainers, and its answer as numbers.
-ghost use Rattle.feature_gen.specs.Lent.{modelOf};
-ghost use Rattle.training_check.specs.Lent.{dataOf};
-ghost use Rattle.trainers.specs.Promise.{averagedPerceptron, passiveAggressive, adaptive};
+ghost use Rattle.feature_gen.specs.Lent.{modelWas};
+ghost use Rattle.training_check.specs.Lent.{dataWas};
+ghost use Rattle.trainers.specs.Promise.{averagedPerceptron, passiveAggressive, adaptive, Given, Buffers};
 ghost use Rattle.training_exports.specs.Trains.{Trains};
 use answers::trainings::Trained;
 use feature_gen::Counts;
@@ -36,7 +36,11 @@ pub extern "C" fn bodkinbloom_averaged_perceptron(
     predicted_counts: &mut [f64],
     order: &mut [u32],
 ) -> Trained
-    ensures { λ r. ⌜ Trains (averagedPerceptron parameters) (record { model = modelOf labels counts (now (kinds .entry)) (now (destinations .entry)) (now (sources .entry)) (now («attribute_starts» .entry)) (now («attribute_entries» .entry)) (now («label_starts» .entry)) (now («label_entries» .entry)); corpus = dataOf totals (now («line_starts» .entry)) (now («word_starts» .entry)) (now (ids .entry)) (now (values .entry)) (now (references .entry)) (now («instance_weights» .entry)) }) (record { weights = now (weights .entry); beside = now («running_sums» .entry); truly = now («true_counts» .entry); predicted = now («predicted_counts» .entry); order = now (order .entry) }) (record { answer = r; after = record { weights = now (weights .exit); beside = now («running_sums» .exit); truly = now («true_counts» .exit); predicted = now («predicted_counts» .exit); order = now (order .exit) } }) ⌝ }
+    ensures { λ r.
+        let given : Given = record { model = modelWas labels counts kinds destinations sources «attribute_starts» «attribute_entries» «label_starts» «label_entries»; corpus = dataWas totals «line_starts» «word_starts» ids values references «instance_weights» } in
+        let before : Buffers = record { weights = now (weights .entry); beside = now («running_sums» .entry); truly = now («true_counts» .entry); predicted = now («predicted_counts» .entry); order = now (order .entry) } in
+        let after : Buffers = record { weights = now (weights .exit); beside = now («running_sums» .exit); truly = now («true_counts» .exit); predicted = now («predicted_counts» .exit); order = now (order .exit) } in
+        ⌜ Trains (averagedPerceptron parameters) given before (record { answer = r; after = after }) ⌝ }
 {
     let answer = trainers::averaged_perceptron(
         parameters,
@@ -91,7 +95,11 @@ pub extern "C" fn bodkinbloom_passive_aggressive(
     predicted_counts: &mut [f64],
     order: &mut [u32],
 ) -> Trained
-    ensures { λ r. ⌜ Trains (passiveAggressive parameters) (record { model = modelOf labels counts (now (kinds .entry)) (now (destinations .entry)) (now (sources .entry)) (now («attribute_starts» .entry)) (now («attribute_entries» .entry)) (now («label_starts» .entry)) (now («label_entries» .entry)); corpus = dataOf totals (now («line_starts» .entry)) (now («word_starts» .entry)) (now (ids .entry)) (now (values .entry)) (now (references .entry)) (now («instance_weights» .entry)) }) (record { weights = now (weights .entry); beside = now («running_sums» .entry); truly = now («true_counts» .entry); predicted = now («predicted_counts» .entry); order = now (order .entry) }) (record { answer = r; after = record { weights = now (weights .exit); beside = now («running_sums» .exit); truly = now («true_counts» .exit); predicted = now («predicted_counts» .exit); order = now (order .exit) } }) ⌝ }
+    ensures { λ r.
+        let given : Given = record { model = modelWas labels counts kinds destinations sources «attribute_starts» «attribute_entries» «label_starts» «label_entries»; corpus = dataWas totals «line_starts» «word_starts» ids values references «instance_weights» } in
+        let before : Buffers = record { weights = now (weights .entry); beside = now («running_sums» .entry); truly = now («true_counts» .entry); predicted = now («predicted_counts» .entry); order = now (order .entry) } in
+        let after : Buffers = record { weights = now (weights .exit); beside = now («running_sums» .exit); truly = now («true_counts» .exit); predicted = now («predicted_counts» .exit); order = now (order .exit) } in
+        ⌜ Trains (passiveAggressive parameters) given before (record { answer = r; after = after }) ⌝ }
 {
     let answer = trainers::passive_aggressive(
         parameters,
@@ -146,7 +154,11 @@ pub extern "C" fn bodkinbloom_arow(
     predicted_counts: &mut [f64],
     order: &mut [u32],
 ) -> Trained
-    ensures { λ r. ⌜ Trains (adaptive parameters) (record { model = modelOf labels counts (now (kinds .entry)) (now (destinations .entry)) (now (sources .entry)) (now («attribute_starts» .entry)) (now («attribute_entries» .entry)) (now («label_starts» .entry)) (now («label_entries» .entry)); corpus = dataOf totals (now («line_starts» .entry)) (now («word_starts» .entry)) (now (ids .entry)) (now (values .entry)) (now (references .entry)) (now («instance_weights» .entry)) }) (record { weights = now (weights .entry); beside = now (covariance .entry); truly = now («true_counts» .entry); predicted = now («predicted_counts» .entry); order = now (order .entry) }) (record { answer = r; after = record { weights = now (weights .exit); beside = now (covariance .exit); truly = now («true_counts» .exit); predicted = now («predicted_counts» .exit); order = now (order .exit) } }) ⌝ }
+    ensures { λ r.
+        let given : Given = record { model = modelWas labels counts kinds destinations sources «attribute_starts» «attribute_entries» «label_starts» «label_entries»; corpus = dataWas totals «line_starts» «word_starts» ids values references «instance_weights» } in
+        let before : Buffers = record { weights = now (weights .entry); beside = now (covariance .entry); truly = now («true_counts» .entry); predicted = now («predicted_counts» .entry); order = now (order .entry) } in
+        let after : Buffers = record { weights = now (weights .exit); beside = now (covariance .exit); truly = now («true_counts» .exit); predicted = now («predicted_counts» .exit); order = now (order .exit) } in
+        ⌜ Trains (adaptive parameters) given before (record { answer = r; after = after }) ⌝ }
 {
     let trained = trainers::arow(
         parameters,

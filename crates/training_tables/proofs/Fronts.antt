@@ -1,4 +1,4 @@
--- Updates, the final averaging and the finite test in longer tables are those of the fronts. Assumes nothing.
+-- Updates and the final averaging in longer tables are those of the fronts. Assumes nothing.
 use mathlib.Core.Path.{_≡_, refl, ap, _∙_}
 use mathlib.Core.Bool.{Bool, true, false}
 use mathlib.Core.List.{List, _++_}
@@ -9,10 +9,9 @@ use lib.ListN.{length, length-set, List·getD-append}
 use lib.Seq.{set-append-left}
 use lib.Ieee.{Float, nan}
 use Rattle.lines.specs.Passes.{through, raised, nought}
-use Rattle.training.specs.Data.{allFinite}
 use Rattle.training.specs.Rules.{perceptron, passive, arow, Learned, Mistake, difference, pushed, squared, pulled, spread, narrowed, byPerceptron, byPassive, byArow, updatedBy, averagedAt, averagedBy}
 use Rattle.training_tables.specs.Tables.{Both, Held}
-use Rattle.training_tables.specs.Fronts.{longer, SameLengths, UpdatesFront, UpdatesKeepLengths, AveragesFront, TestsFront}
+use Rattle.training_tables.specs.Fronts.{longer, SameLengths, UpdatesFront, UpdatesKeepLengths, AveragesFront}
 
 -- ---- a pass: what holds of two states and is kept by two steps holds after two passes of them
 through-both : {S U : Type 0} (Alike : S → U → Type 0) (step : ℕ → S → S) (other : ℕ → U → U) (n : ℕ) (s : S) (u : U)
@@ -165,8 +164,3 @@ averages-front perceptron features counter s rest has = averages features counte
 averages-front (passive variant c sensitive true) features counter s rest has = averages features counter s rest has
 averages-front (passive variant c sensitive false) features counter s rest has = refl
 averages-front (arow variance gamma) features counter s rest has = refl
-
-pub tests-front : TestsFront
-unfolding allFinite
-tests-front front rest zero h = refl
-tests-front front rest (suc n) h = rw (tests-front front rest n (omega arith), List·getD-append front rest nan n h)

@@ -1,5 +1,4 @@
-pub mod Finite
 pub mod Moves
-pub mod Filled
+pub mod Counted
 pub mod Fronts
 pub mod Rounded

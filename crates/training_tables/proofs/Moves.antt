@@ -3,11 +3,11 @@ use mathlib.Core.Path.{_≡_}
 use mathlib.Core.Bool.{Bool, true, _&&_}
 use Prim.Native.Nat.{ℕ, _+_, _≤_}
 use native.Mathlib.Nat.{le-antisymm}
-use Rattle.training.specs.Data.{allFinite}
+use Rattle.fronts.specs.Finite.{allFinite}
 use Rattle.training.specs.Rules.{Learned}
 use Rattle.training_tables.specs.Tables.{Moved}
 use Rattle.lines.proofs.Laws.{through-none, through-next}
-use Rattle.training_tables.proofs.Finite.{finite-none-both, flag-next-both}
+use Rattle.fronts.proofs.Finite.{finite-none-both, flag-next-both}
 
 module _ (step : ℕ → Learned → Learned) (s : Learned) where
   pub moved-none : Moved 0 step s s true

@@ -1,10 +1,9 @@
 -- "A lent buffer may be longer than needed; only the needed front is touched": what the trainers' definitions make of longer tables. The proofs are in proofs/Fronts.
 use mathlib.Core.Path.{_≡_}
 use mathlib.Core.List.{List, _++_}
-use Prim.Native.Nat.{ℕ, _≤_}
+use Prim.Native.Nat.{ℕ}
 use lib.ListN.{length}
 use lib.Ieee.{Float}
-use Rattle.training.specs.Data.{allFinite}
 use Rattle.training.specs.Rules.{Rule, Learned, Mistake, updatedBy, averagedBy}
 use Rattle.training_tables.specs.Tables.{Both, Held}
 
@@ -39,10 +38,6 @@ AveragesFront =
     (rule : Rule) (features : ℕ) (counter : Float) (s rest : Learned)
     → Both features (length (s .weights)) (length (s .beside))
     → averagedBy rule features counter (longer s rest) ≡ averagedBy rule features counter s ++ rest .weights
-
--- and the finite test looks at no more than the front
-abbrev pub TestsFront : Type 0
-TestsFront = (front rest : List Float) (n : ℕ) → n ≤ length front → allFinite (front ++ rest) n ≡ allFinite front n
 
 -- an update keeps the tables' lengths
 pub record SameLengths (before after : Learned) : Type 0 where

@@ -5,7 +5,7 @@ use mathlib.Core.List.{List}
 use Prim.Native.Nat.{ℕ, _≤_}
 use lib.Ieee.{Float}
 use Rattle.lines.specs.Passes.{through}
-use Rattle.training.specs.Data.{allFinite}
+use Rattle.fronts.specs.Finite.{allFinite}
 use Rattle.training.specs.Rules.{Rule, Learned, Mistake, Update, updatedBy, averagedAt}
 use Rattle.training_tables.specs.declared.Outcome.{Outcome}
 

@@ -7,7 +7,8 @@ use native.Mathlib.Omega.{arith}
 use lib.Ieee.Scale.{finite}
 use Rattle.training.specs.declared.Step.{Step}
 use Rattle.training.specs.declared.Visit.the-variants.{Updated as Changed}
-use Rattle.training.specs.Data.{whole, allFinite}
+use Rattle.training.specs.Data.{whole}
+use Rattle.fronts.specs.Finite.{allFinite}
 use Rattle.training.specs.Rules.{Rule, Learned, Mistake, updatedBy, _⊕_}
 use Rattle.training.specs.Visits.{State, refusedAs, unchanged, changedTo, finiteState, heldTo}
 use Rattle.training.specs.Epochs.{isRefused}

@@ -6,7 +6,7 @@ use Prim.Native.Nat.{ℕ, _+_, _≤_}
 use lib.ListN.{length}
 use lib.Ieee.{Float}
 use Rattle.training.specs.declared.Step.{Step}
-use Rattle.training.specs.Data.{allFinite}
+use Rattle.fronts.specs.Finite.{allFinite}
 use Rattle.training.specs.Rules.{Rule, Learned, Mistake, updatedBy}
 use Rattle.training.specs.Visits.{State, refusedAs, changedTo, heldTo}
 use Rattle.training.specs.Epochs.{isRefused}

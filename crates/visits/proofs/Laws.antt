@@ -26,9 +26,9 @@ use Rattle.judging.specs.declared.Prediction.{Prediction}
 use Rattle.training_check.specs.Sound.{SoundData}
 use Rattle.prediction.specs.Tables.{SoundLine}
 use Rattle.judging.specs.Judged.{Judged}
-use Rattle.steps.specs.declared.Found.the-variants.{Ended, Differ}
-use Rattle.steps.specs.Looked.{looked}
-use Rattle.steps.proofs.Laws.{never, same-step, ended, differs}
+use Rattle.updates.specs.declared.Found.the-variants.{Ended, Differ}
+use Rattle.updates.specs.Looked.{looked}
+use Rattle.updates.proofs.Looked.{never, same-step, ended, differs}
 use Rattle.updates.specs.Updating.{Agreed, Counted, settled}
 use Rattle.updates.proofs.Laws.{exactly, refused, refused-counted, unchanged-counted}
 

@@ -15,8 +15,8 @@ ghost use Rattle.updates.specs.Updating.{stateOf, Agreed, Counted, settled, Exa
 use judging::Prediction;
 use parameters::Trainer;
 use prediction::Sizes;
-use steps::Found;
 use training::Step;
+use updates::Found;
 
 // The labels differ: the true counts, the predicted counts, then the update.
 fn correct(
@@ -159,7 +159,7 @@ pub fn visit(
         reference,
         &mut path[..words],
     );
-    let found = steps::look(p.finite, p.wrong, s);
+    let found = updates::look(p.finite, p.wrong, s);
     if let Found::Ended(step) = found {
         return step;
     }

@@ -9,7 +9,7 @@ use Rattle.best_path.specs.Scores.{AllFinite}
 use Rattle.score_tables.specs.Sound.{Sound}
 use Rattle.viterbi_end.specs.declared.Found.{Found}
 use Rattle.viterbi.specs.declared.Decoding.{Decoding}
-use Rattle.decode_check.proofs.Meant.{decoding-means}
+use Rattle.viterbi.proofs.Meant.{decoding-means}
 use Rattle.viterbi.specs.Answered.{Ready, Answered}
 use Rattle.viterbi.specs.Promise.{Given, scoresOf, checkedOf, answerTo, pathAfter, Promised}
 

@@ -17,12 +17,12 @@ use Rattle.best_path.proofs.Laws.{best-first, last-label-within, row-last, row-
 use Rattle.viterbi_steps.specs.declared.Row.{Row}
 use Rattle.viterbi_steps.specs.Rows.{Holds, StepsTo, Before, After, firstRow}
 use Rattle.viterbi_steps.proofs.Written.{written-length, front-inside}
-use Rattle.best_step.proofs.Laws.{row-after}
+use Rattle.viterbi_steps.proofs.Choices.{row-after}
 use Rattle.viterbi_steps.proofs.Laws.{after-wide, after-holds, after-leads}
 use Rattle.viterbi_end.specs.declared.Found.{Found}
-use Rattle.rival.specs.Rival.{scoreAt, rivalOf}
-use Rattle.walk_back.specs.Walked.{Walk}
-use Rattle.walk_back.proofs.Laws.{walked-path, steps-within}
+use Rattle.viterbi_end.specs.Rival.{scoreAt, rivalOf}
+use Rattle.viterbi_end.specs.Walked.{Walk}
+use Rattle.viterbi_end.proofs.Laws.{walked-path, steps-within}
 use Rattle.viterbi_end.specs.Ends.{lastOf, leadOf, Ended}
 use Rattle.viterbi.specs.Answered.{Ready, Answered}
 

@@ -1,5 +1,5 @@
+mod Room
 pub mod Laws
-pub mod Said
 pub mod Kept
 pub mod Unique
 pub mod Meant

@@ -1,3 +1,4 @@
+pub mod Rows
 pub mod Answered
 pub mod Promise
 pub mod Meaning

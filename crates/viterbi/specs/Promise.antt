@@ -5,12 +5,13 @@ use Prim.Native.Nat.{ℕ}
 use lib.ListN.{drop}
 use lib.Ieee.{Float}
 use Rattle.refusals.specs.declared.Checked.{Checked}
+use Rattle.refusals.specs.Said.{Said, accepted, refused, orRefused}
 use Rattle.best_path.specs.Scores.{Scores, tabled}
 use Rattle.best_path.specs.Decoded.{decodedPath, decodedSum}
 use Rattle.best_path.specs.Lead.{Lead, lead}
 use Rattle.viterbi_end.specs.Ends.{leadSaid}
 use Rattle.viterbi.specs.declared.Decoding.{Decoding}
-use Rattle.decode_check.specs.Rows.{decodeChecked}
+use Rattle.viterbi.specs.Rows.{decodeChecked}
 
 -- what the call is given: the numbers and tables that it reads
 pub record Given : Type 0 where
@@ -24,14 +25,18 @@ pub record Outcome : Type 0 where
   pub answer : Decoding
   pub path : List ℕ
 
--- document 01's number and values for each case of the answer
-pub data Said : Type 0 where
-  decoded : (sum : Float) (lead : Lead) → Said
-  refused : (number place : ℕ) → Said
+-- what an accepted call gives beside the path
+pub record SumAndLead : Type 0 where
+  pub sum : Float
+  pub lead : Lead
 
-abbrev pub said : Decoding → Said
+-- document 01's number and values for each case of the answer
+abbrev pub decoded : Float → Lead → Said SumAndLead
+decoded sum lead = accepted (record { sum = sum; lead = lead })
+
+abbrev pub said : Decoding → Said SumAndLead
 said (Decoding.Decoded found) = decoded (found .sum) (leadSaid (found .lead))
-said (Decoding.Refused why) = refused (why .number) (why .place)
+said (Decoding.Refused why) = refused why
 
 -- the scores of the line
 abbrev pub scoresOf : Given → Scores
@@ -41,12 +46,8 @@ scoresOf given = tabled (given .labels) (given .transitions) (given .states)
 abbrev pub checkedOf : Given → List ℕ → Checked
 checkedOf given before = decodeChecked (given .labels) (given .words) (given .transitions) (given .states) before
 
-abbrev pub orRefused : Checked → Said → Said
-orRefused Checked.Accepted next = next
-orRefused (Checked.Refused why) next = refused (why .number) (why .place)
-
 -- "The answer is the path and its rounded sum", with the lead
-unfoldable pub answerTo : Given → List ℕ → Said
+unfoldable pub answerTo : Given → List ℕ → Said SumAndLead
 answerTo given before =
     orRefused (checkedOf given before) (decoded (decodedSum (scoresOf given) (given .words)) (lead (scoresOf given) (given .words)))
 

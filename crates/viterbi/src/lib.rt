@@ -1,4 +1,6 @@
 // Decoding a line: `viterbi_decode` of crf_context.rs over the score tables of the line, with the path's sum and lead.
+ghost use mathlib.Core.Path.{_≡_};
+ghost use Rattle.viterbi.specs.Rows.{decodeChecked};
 ghost use Prim.Native.Nat.{_*_, _≤_};
 ghost use lib.ListN.{length};
 ghost use Rattle.viterbi.specs.Answered.{Ready, Answered};
@@ -7,6 +9,22 @@ use refusals::Checked;
 use refusals::Refusal;
 use viterbi_end::Found;
 use viterbi_steps::Row;
+
+// Every refusal of the call.
+pub fn check_decode(
+    labels: u32,
+    words: u32,
+    transitions: &[f64],
+    states: &[f64],
+    path: &[u32],
+) -> Checked
+    ensures { λ r. ⌜ r ≡ decodeChecked labels words (now (transitions .entry)) (now (states .entry)) (now (path .entry)) ⌝ }
+{
+    let bounds = score_tables::check_bounds(labels, words);
+    let tables = score_tables::check_room(bounds, labels, words, transitions, states);
+    let room = refusals::refuse_if(tables, 2, 0, refusals::is_short(path.len(), words as usize));
+    score_tables::check_finite(room, labels, words, transitions, states)
+}
 
 pub enum Decoding {
     Decoded(Found),
@@ -129,7 +147,7 @@ pub fn viterbi_decode(
 ) -> Decoding
     ensures { λ r. ⌜ Promised (record { labels = labels; words = words; transitions = now (transitions .entry); states = now (states .entry) }) (now (path .entry)) (record { answer = r; path = now (path .exit) }) ⌝ }
 {
-    let checked = decode_check::check_decode(labels, words, transitions, states, path);
+    let checked = check_decode(labels, words, transitions, states, path);
     if let Checked::Refused(why) = checked {
         return Decoding::Refused(why);
     }

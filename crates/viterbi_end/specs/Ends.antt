@@ -8,8 +8,8 @@ use lib.ListN.{drop}
 use lib.Ieee.{Float}
 use Rattle.best_path.specs.Decoded.{lastLargest}
 use Rattle.best_path.specs.Lead.{Lead, none, by, difference}
-use Rattle.rival.specs.Rival.{scoreAt, rivalOf}
-use Rattle.walk_back.specs.Walked.{walked}
+use Rattle.viterbi_end.specs.Rival.{scoreAt, rivalOf}
+use Rattle.viterbi_end.specs.Walked.{walked}
 use Rattle.viterbi_end.specs.declared.Lead as code
 use Rattle.viterbi_end.specs.declared.Found.{Found}
 

@@ -1,1 +1,3 @@
+pub mod Walked
+pub mod Rival
 pub mod Ends

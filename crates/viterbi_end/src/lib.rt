@@ -1,8 +1,11 @@
 // The end of decoding: the last label of the line, its sum and lead, and the path walked back from it.
 ghost use mathlib.Core.Path.{_≡_};
-ghost use Prim.Native.Nat.{_≤_, _<_};
-ghost use Rattle.best_path.specs.Lead.{difference};
-ghost use Rattle.walk_back.specs.Walked.{Walk};
+ghost use mathlib.Core.List.{_++_};
+ghost use Prim.Native.Nat.{_-_, _<_, _≤_};
+ghost use lib.ListN.{length, getD, drop};
+ghost use Rattle.viterbi_end.specs.Walked.{walked, Walk};
+ghost use Rattle.best_path.specs.Lead.{other, positiveZero, difference};
+ghost use Rattle.viterbi_end.specs.Rival.{rivalOf};
 ghost use Rattle.viterbi_end.specs.Ends.{leadSaid, lastOf, leadOf, Ended};
 
 // By how much the best final score is above that of every other last label.
@@ -27,11 +30,42 @@ fn last_largest(row: &[f64; 32], n: usize) -> usize
     let mut label: usize = 1;
     while label < n {
         let next = row[label];
-        last = best_step::whence(score, next, last, label as u64);
-        score = best_step::better(score, next);
+        last = viterbi_steps::whence(score, next, last, label as u64);
+        score = viterbi_steps::better(score, next);
         label += 1;
     }
     last as usize
+}
+
+// The labels other than `last`, in order.
+fn other_label(last: usize, k: usize) -> usize
+    requires { ⌜ k < 32 ⌝ }
+    ensures { λ r. ⌜ r ≡ other last k ⌝ }
+{
+    if k < last { k } else { k + 1 }
+}
+
+// The largest score of the labels other than `last`, of which there is at least one.
+pub fn rival(row: &[f64; 32], n: usize, last: usize) -> f64
+    requires { ⌜ (1 < n) × (n ≤ 32) ⌝ }
+    ensures { λ r. ⌜ r ≡ rivalOf (now (row .entry)) n last ⌝ }
+{
+    let first = other_label(last, 0);
+    let mut score = row[first];
+    let mut k: usize = 1;
+    while k + 1 < n {
+        let label = other_label(last, k);
+        score = viterbi_steps::better(score, row[label]);
+        k += 1;
+    }
+    score
+}
+
+// "A zero lead is +0."
+pub fn positive_zero(x: f64) -> f64
+    ensures { λ r. ⌜ r ≡ positiveZero x ⌝ }
+{
+    if x == 0.0 { 0.0 } else { x }
 }
 
 // "no lead .. when either score is not finite".
@@ -39,7 +73,7 @@ fn lead_by(best: f64, rival: f64) -> Lead
     ensures { λ r. ⌜ leadSaid r ≡ difference best rival ⌝ }
 {
     if binary64::is_finite(best) & binary64::is_finite(rival) {
-        Lead::By(rival::positive_zero(best - rival))
+        Lead::By(positive_zero(best - rival))
     } else {
         Lead::NoLead
     }
@@ -51,10 +85,34 @@ fn lead_of(row: &[f64; 32], n: usize, last: usize) -> Lead
     ensures { λ r. ⌜ leadSaid r ≡ leadOf (now (row .entry)) n last ⌝ }
 {
     if 1 < n {
-        lead_by(row[last], rival::rival(row, n, last))
+        lead_by(row[last], rival(row, n, last))
     } else {
         Lead::NoLead
     }
+}
+
+// The step back that stands at a place.
+fn step(steps: &[u8], place: usize) -> usize
+    requires { ⌜ place < length (now steps) ⌝ }
+    ensures { λ r. ⌜ r ≡ getD (now (steps .entry)) place 0 ⌝ }
+{
+    steps[place] as usize
+}
+
+// The path, from its last label back; the rest of the buffer is left alone.
+pub fn walk_back(path: &mut [u32], words: usize, n: usize, last: usize, steps: &[u8])
+    requires { ⌜ Walk n words (now steps) (now path) ⌝ }
+    requires { ⌜ last < n ⌝ }
+    ensures { λ _. ⌜ now (path .exit) ≡ walked (now (steps .entry)) n (words - 1) last ++ drop words (now (path .entry)) ⌝ }
+{
+    let mut label = last;
+    let mut word = words - 1;
+    while 0 < word {
+        path[word] = label as u32;
+        label = step(steps, word * n + label);
+        word -= 1;
+    }
+    path[0] = label as u32;
 }
 
 // The answer of a line, from its last row of best scores and the steps back.
@@ -63,7 +121,7 @@ pub fn finish(row: &[f64; 32], n: usize, words: usize, steps: &[u8], path: &mut 
     ensures { λ r. ⌜ Ended (now (row .entry)) n words (now (steps .entry)) (now (path .entry)) r (now (path .exit)) ⌝ }
 {
     let last = last_largest(row, n);
-    walk_back::walk_back(path, words, n, last, steps);
+    walk_back(path, words, n, last, steps);
     Found {
         sum: row[last],
         lead: lead_of(row, n, last),

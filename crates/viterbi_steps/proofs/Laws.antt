@@ -12,9 +12,9 @@ use lib.Ieee.{Float, nan}
 use Rattle.best_path.specs.Scores.{tabled, extended}
 use Rattle.best_path.specs.Decoded.{lastLargest, best, back}
 use Rattle.best_path.proofs.Laws.{largest-within, largest-first, row-back, row-best}
-use Rattle.best_step.specs.declared.Choice.{Choice}
-use Rattle.best_step.specs.Chosen.{candidate, chosen}
-use Rattle.best_step.proofs.Laws.{row-after, score-more, from-more}
+use Rattle.viterbi_steps.specs.declared.Choice.{Choice}
+use Rattle.viterbi_steps.specs.Chosen.{candidate, chosen}
+use Rattle.viterbi_steps.proofs.Choices.{row-after, score-more, from-more}
 use Rattle.viterbi_steps.specs.Written.{written}
 use Rattle.viterbi_steps.specs.Rows.{Holds, StepsTo, Before, After, onward, scoreTried, markTried}
 use Rattle.viterbi_steps.proofs.Written.{written-length, written-outside, written-inside, front-inside, written-same, written-over}

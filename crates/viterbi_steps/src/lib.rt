@@ -1,10 +1,55 @@
 // The decoder's inner loops: from the best scores of one word to those of the next, with the steps back. The crate
 // viterbi calls `first_row`, then `next_row` once a word.
 ghost use mathlib.Core.Path.{_≡_};
-ghost use Prim.Native.Nat.{ℕ, _+_, _≤_, _<_};
+ghost use mathlib.Core.Bool.{cond};
+ghost use Prim.Native.Nat.{_*_, _≤_, _<_, ℕ, _+_};
 ghost use lib.ListN.{length, getD};
+ghost use lib.Ieee.{le};
+ghost use Rattle.viterbi_steps.specs.Chosen.{candidate, chosen};
 ghost use Rattle.viterbi_steps.specs.Written.{written};
 ghost use Rattle.viterbi_steps.specs.Rows.{firstRow, Before, After, onward, scoreTried, markTried};
+
+// The largest candidate for a label, and the label of the word before that it comes from.
+pub struct Choice {
+    pub score: f64,
+    pub previous: u64,
+}
+
+// The tie rule, for the score and for where it comes from: the later of two that are equal wins. As functions of their
+// own they leave no branch in the loops, which then compile to several lanes.
+pub fn better(old: f64, new: f64) -> f64
+    ensures { λ r. ⌜ r ≡ cond (le old new) new old ⌝ }
+{
+    if old <= new { new } else { old }
+}
+
+pub fn whence(old: f64, new: f64, was: u64, mark: u64) -> u64
+    ensures { λ r. ⌜ r ≡ cond (le old new) mark was ⌝ }
+{
+    if old <= new { mark } else { was }
+}
+
+// The best candidate for one label of a word with this state score.
+pub fn best_step(row: &[f64; 32], n: usize, transitions: &[f64], label: usize, state: f64) -> Choice
+    requires { ⌜ (label < n) × (n ≤ 32) × (n * n ≤ length (now transitions)) ⌝ }
+    ensures { λ r. ⌜ r ≡ chosen (candidate n (now (transitions .entry)) (now (row .entry)) label state) n ⌝ }
+{
+    let mut score = row[0] + transitions[label] + state;
+    let mut from: u64 = 0;
+    let mut tried: usize = 1;
+    let mut at = n + label;
+    while tried < n {
+        let next = row[tried] + transitions[at] + state;
+        from = whence(score, next, from, tried as u64);
+        score = better(score, next);
+        at += n;
+        tried += 1;
+    }
+    Choice {
+        score: score,
+        previous: from,
+    }
+}
 
 // One row of best scores, with room for the most labels; `width` of them count.
 pub struct Row {
@@ -45,7 +90,7 @@ fn next_by_label(
     let at = (word + 1) * n;
     let mut label: usize = 0;
     while label < n {
-        let choice = best_step::best_step(row, n, transitions, label, states[at + label]);
+        let choice = best_step(row, n, transitions, label, states[at + label]);
         next[label] = choice.score;
         steps[at + label] = choice.previous as u8;
         label += 1;
@@ -91,8 +136,8 @@ fn fold_previous(
     while label < n {
         let sum = score + transitions[base + label] + states[at + label];
         let old = next[label];
-        from[label] = best_step::whence(old, sum, from[label], mark);
-        next[label] = best_step::better(old, sum);
+        from[label] = whence(old, sum, from[label], mark);
+        next[label] = better(old, sum);
         label += 1;
     }
 }

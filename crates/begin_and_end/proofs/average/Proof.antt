@@ -13,7 +13,7 @@ use Rattle.begin_and_end.proofs.average.Tie as tie
 use Rattle.begin_and_end.proofs.average.Reads as reads
 use Rattle.begin_and_end.proofs.average.Lts as lts
 use Rattle.begin_and_end.proofs.is_averaging.Reads as is-averaging-reads
-use Rattle.training_tables.proofs.all_finite.Reads as all-finite-reads
+use Rattle.fronts.proofs.all_finite.Reads as all-finite-reads
 use Rattle.training_tables.proofs.average.Reads as average-reads
 
 -- averaged or not

@@ -5,14 +5,14 @@ use native.Mathlib.Omega.{arith}
 use borrow.Author.Needs.{needs}
 use lib.ListN.{replicate}
 use lib.Ieee.{Float, ofBits}
-use Rattle.training_tables.proofs.Filled.{all-of}
+use Rattle.fronts.proofs.Filled.{all-of}
 use Rattle.begin_and_end.proofs.begin.Statement.{statement}
 use Rattle.begin_and_end.proofs.begin.Tie as tie
 use Rattle.begin_and_end.proofs.begin.Reads as reads
 use Rattle.begin_and_end.proofs.begin.Lts as lts
 use Rattle.begin_and_end.proofs.first_beside.Reads as first-beside-reads
 use Rattle.training_tables.proofs.count_up.Reads as count-up-reads
-use Rattle.training_tables.proofs.fill.Reads as fill-reads
+use Rattle.fronts.proofs.fill.Reads as fill-reads
 
 cast-count-up : tie.Need-cast-count-up
 cast-count-up c = search needs

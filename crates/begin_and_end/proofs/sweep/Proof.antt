@@ -4,13 +4,13 @@ use Prim.Native.Nat.{ℕ, _+_, _-_, _*_, _≤_, _<_}
 use native.Mathlib.Omega.{arith}
 use borrow.Author.Needs.{needs}
 use lib.Ieee.{ofBits}
-use Rattle.training_tables.proofs.Filled.{all-of}
+use Rattle.fronts.proofs.Filled.{all-of}
 use Rattle.begin_and_end.proofs.sweep.Statement.{statement}
 use Rattle.begin_and_end.proofs.sweep.Tie as tie
 use Rattle.begin_and_end.proofs.sweep.Reads as reads
 use Rattle.begin_and_end.proofs.sweep.Lts as lts
-use Rattle.training_tables.proofs.clear.Reads as clear-reads
-use Rattle.training_tables.proofs.fill.Reads as fill-reads
+use Rattle.fronts.proofs.clear.Reads as clear-reads
+use Rattle.fronts.proofs.fill.Reads as fill-reads
 
 clear-requires : tie.Need-clear-requires
 clear-requires c κs = search needs

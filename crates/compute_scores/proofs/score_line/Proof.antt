@@ -3,6 +3,7 @@ use Prim.Native.Nat.{_≤_, _<_, _-_, _+_}
 use mathlib.Core.Path.{_≡_, refl}
 use native.Mathlib.Omega.{arith}
 use borrow.Author.Needs.{needs}
+use lib.Ieee.{ofBits}
 use lib.ListN.{length}
 use Rattle.lines.specs.Passes.{through}
 use Rattle.lines.specs.Scored.{scoredAt, scoredWord}
@@ -25,11 +26,11 @@ abbrev μ-loop : tie.MeasureT-loop
 abbrev start : tie.At-loop Inv-loop μ-loop → tie.Start Inv-loop μ-loop
 start l = l .before .before .before .before .before .before .before .before .before .before .before .before .before .before
 
-mul-clear-front : tie.Need-mul-clear-front Inv-loop μ-loop
-mul-clear-front c = search needs
+mul-fill : tie.Need-mul-fill Inv-loop μ-loop
+mul-fill c = search needs
 
-clear-front-requires : tie.Need-clear-front-requires Inv-loop μ-loop
-clear-front-requires c κs = search needs
+fill-requires : tie.Need-fill-requires Inv-loop μ-loop
+fill-requires c κs = search needs
 
 loop-holds : tie.Need-loop-holds Inv-loop μ-loop
 loop-holds c = (omega arith, refl, through-none _ _ _)
@@ -62,7 +63,7 @@ score-word-requires c κs =
         s .pre .1 .0,
         (
           omega (arith, w .at2 .ensures, s .pre .1 .1 .0 .within _ i),
-          (omega (arith, w .at2 .ensures, s .pre .1 .1 .0 .valued _ i), row-room _ _ _ _ h (omega (arith, s .pre .1 .1 .1, l .loop .inv, l .before .before .before .clear-front .kept))),
+          (omega (arith, w .at2 .ensures, s .pre .1 .1 .0 .valued _ i), row-room _ _ _ _ h (omega (arith, s .pre .1 .1 .1, l .loop .inv, l .before .before .before .fill .kept))),
         ),
       ),
     )
@@ -86,11 +87,12 @@ same-length : tie.Need-same-length Inv-loop μ-loop
 same-length c = search needs
 
 returns : tie.Need-returns Inv-loop μ-loop
+unfolding ofBits
 returns c =
     λ rest size.
     let l = c .before in
     let s = start l in
-    line-end _ _ _ _ _ _ _ (s .pre .0) (s .pre .1 .0) (l .loop .inv .0) (c .loop-test .left) (l .before .before .before .clear-front .ensures) (l .loop .inv .2)
+    line-end _ _ _ _ _ _ _ (s .pre .0) (s .pre .1 .0) (l .loop .inv .0) (c .loop-test .left) (l .before .before .before .fill .ensures) (l .loop .inv .2)
 
 pub score-line-spec : {M : Type 1} → statement M
 score-line-spec =
@@ -98,8 +100,8 @@ score-line-spec =
     (tie.spec
     Inv-loop
     μ-loop
-    mul-clear-front
-    clear-front-requires
+    mul-fill
+    fill-requires
     loop-holds
     add-at
     at-requires

@@ -3,6 +3,7 @@ use Prim.Native.Nat.{_≤_, _<_, _-_}
 use mathlib.Core.Path.{_≡_, refl}
 use native.Mathlib.Omega.{arith}
 use borrow.Author.Needs.{needs}
+use lib.Ieee.{ofBits}
 use lib.ListN.{length}
 use Rattle.lines.specs.Passes.{through, throughList}
 use Rattle.lines.specs.Scored.{transitionEntry}
@@ -29,11 +30,11 @@ start l = l .before .before .before .before .before .before .before .before .bef
 listed : (t : tie.In-loop Inv-loop μ-loop) → t .before .loop .label < start (t .before) .args .lists
 listed t = omega (arith, t .loop-test .taken, t .before .before .smaller .ensures)
 
-mul-clear-front : tie.Need-mul-clear-front Inv-loop μ-loop
-mul-clear-front c = search needs
+mul-fill : tie.Need-mul-fill Inv-loop μ-loop
+mul-fill c = search needs
 
-clear-front-requires : tie.Need-clear-front-requires Inv-loop μ-loop
-clear-front-requires c κs = search needs
+fill-requires : tie.Need-fill-requires Inv-loop μ-loop
+fill-requires c κs = search needs
 
 smaller-requires : tie.Need-smaller-requires Inv-loop μ-loop
 smaller-requires c κs = search needs
@@ -48,7 +49,7 @@ score-label-requires : tie.Need-score-label-requires Inv-loop μ-loop
 score-label-requires c κs =
     let l = c .before .before .before in
     let s = start l in
-    (s .pre .0, (rw (c .before .list-span .ensures) (span-sound (s .pre .1 .0) _), omega (arith, s .pre .1 .1, l .loop .inv, l .before .before .before .before .clear-front .kept)))
+    (s .pre .0, (rw (c .before .list-span .ensures) (span-sound (s .pre .1 .0) _), omega (arith, s .pre .1 .1, l .loop .inv, l .before .before .before .before .fill .kept)))
 
 add-label : tie.Need-add-label Inv-loop μ-loop
 add-label c = search needs
@@ -69,11 +70,12 @@ same-length : tie.Need-same-length Inv-loop μ-loop
 same-length c = search needs
 
 returns : tie.Need-returns Inv-loop μ-loop
+unfolding ofBits
 returns c =
     λ rest.
     let l = c .before in
     let s = start l in
-    labels-end _ _ _ _ _ (s .pre .0) (s .pre .1 .0) (l .before .smaller .ensures) (l .loop .inv .0) (c .loop-test .left) (l .before .before .before .before .clear-front .ensures) (l .loop .inv .2)
+    labels-end _ _ _ _ _ (s .pre .0) (s .pre .1 .0) (l .before .smaller .ensures) (l .loop .inv .0) (c .loop-test .left) (l .before .before .before .before .fill .ensures) (l .loop .inv .2)
 
 pub score-transitions-spec : {M : Type 1} → statement M
 score-transitions-spec =
@@ -81,8 +83,8 @@ score-transitions-spec =
     (tie.spec
     Inv-loop
     μ-loop
-    mul-clear-front
-    clear-front-requires
+    mul-fill
+    fill-requires
     smaller-requires
     loop-holds
     list-span-requires

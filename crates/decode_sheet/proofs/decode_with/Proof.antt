@@ -5,7 +5,7 @@ use mathlib.Core.Path.{_≡_, sym}
 use mathlib.Core.Logic.{⊎-elim}
 use native.Mathlib.Omega.{arith}
 use lib.Seq.{length-take-le}
-use Rattle.sheet_bytes.specs.Fields.{labelsIn, wordsIn}
+use Rattle.sheet.specs.Fields.{labelsIn, wordsIn}
 use Rattle.decode_sheet.specs.Answer.{pathLineOf}
 use Rattle.decode_sheet.proofs.Rows.{transitions-size, states-size}
 use Rattle.decode_sheet.proofs.Join.{Chosen, Tables, read-refused, read-tables, promised-path}

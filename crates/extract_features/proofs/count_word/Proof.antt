@@ -9,8 +9,8 @@ use Rattle.lines.specs.Counted.{stateCount, countedAt}
 use Rattle.lines.specs.Lent.{bare, withCounts}
 use Rattle.lines.proofs.Laws.{between-nothing, Passed, passed-none, passed-next, passed-end}
 use Rattle.lines.proofs.Spans.{span-sound}
-use Rattle.count_attribute.specs.Noted.{settled}
-use Rattle.count_attribute.proofs.Notes.{Going}
+use Rattle.extract_features.specs.Noted.{settled}
+use Rattle.extract_features.proofs.Notes.{Going}
 use Rattle.extract_features.proofs.Turns.{counted-turn}
 use Rattle.extract_features.proofs.count_word.Statement.{statement}
 use Rattle.extract_features.proofs.count_word.Tie as tie

@@ -9,8 +9,8 @@ use Rattle.lines.specs.Passes.{through}
 use Rattle.lines.specs.Counted.{countedAt, countedWord}
 use Rattle.lines.specs.Lent.{bare, withCounts}
 use Rattle.lines.proofs.Laws.{through-none, through-next, through-end}
-use Rattle.count_attribute.specs.Noted.{settled}
-use Rattle.count_attribute.proofs.Notes.{settled-none, Going}
+use Rattle.extract_features.specs.Noted.{settled}
+use Rattle.extract_features.proofs.Notes.{settled-none, Going}
 use Rattle.extract_features.proofs.Turns.{word-turn}
 use Rattle.extract_features.proofs.count_words.Statement.{statement}
 use Rattle.extract_features.proofs.count_words.Tie as tie

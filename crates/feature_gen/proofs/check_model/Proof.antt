@@ -1,7 +1,7 @@
 -- `feature_gen::check_model` meets its contract: where the sizes are accepted, every table has room for its test. Assumes nothing.
 use mathlib.Core.Path.{_≡_, sym, _∙_, ap}
 use borrow.Author.Needs.{needs}
-use Rattle.refusal_rows.specs.Said.{saidOf}
+use Rattle.refusals.specs.Said.{saidOf}
 use Rattle.feature_gen.specs.CheckModel.{answerTo}
 use Rattle.feature_gen.proofs.Laws.{stopped, roomy, answered}
 use Rattle.feature_gen.proofs.check_model.Statement.{statement}

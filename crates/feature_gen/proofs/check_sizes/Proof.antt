@@ -13,17 +13,21 @@ refuse-if-requires c κs = search needs
 exceeds-requires : tie.Need-exceeds-requires
 exceeds-requires c κs = search needs
 
-cast-short : tie.Need-cast-short
-cast-short c = search needs
-
 refuse-if-requires-2 : tie.Need-refuse-if-requires-2
 refuse-if-requires-2 c κs = search needs
+
+lacks-weighted-requires : tie.Need-lacks-weighted-requires
+lacks-weighted-requires c κs = search needs
+
+refuse-if-requires-3 : tie.Need-refuse-if-requires-3
+refuse-if-requires-3 c κs = search needs
 
 returns : tie.Need-returns
 unfolding modelSized
 returns c =
-    let x = c .before .before in
-    rw (c .refuse-if2 .ensures, x .exceeds .ensures, x .before .refuse-if .ensures, x .before .before .is-outside .ensures)
+    let two = c .before .before in
+    let one = two .before .before in
+    rw (c .refuse-if3 .ensures, c .before .lacks-weighted .ensures, two .refuse-if2 .ensures, two .before .exceeds .ensures, one .refuse-if .ensures, one .before .is-outside .ensures)
 
 pub check-sizes-spec : {M : Type 1} → statement M
 check-sizes-spec =
@@ -32,6 +36,7 @@ check-sizes-spec =
     is-outside-requires
     refuse-if-requires
     exceeds-requires
-    cast-short
     refuse-if-requires-2
+    lacks-weighted-requires
+    refuse-if-requires-3
     returns)

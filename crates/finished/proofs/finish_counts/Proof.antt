@@ -2,6 +2,7 @@
 use mathlib.Core.Path.{refl, sym, _∙_}
 use native.Mathlib.Omega.{arith}
 use borrow.Author.Needs.{needs}
+use lib.Ieee.{ofBits}
 use Rattle.finished.proofs.Laws.{placed-first}
 use Rattle.finished.proofs.finish_counts.Statement.{statement}
 use Rattle.finished.proofs.finish_counts.Tie as tie
@@ -12,16 +13,17 @@ check-finished-requires c κs = (c .before .before .pre, omega arith)
 enum-known-finished : tie.Need-enum-known-finished
 enum-known-finished c = search needs
 
-clear-front-requires : tie.Need-clear-front-requires
-clear-front-requires c κs = search needs
+fill-requires : tie.Need-fill-requires
+fill-requires c κs = search needs
 
 same-length : tie.Need-same-length
 same-length c = search needs
 
 returns : tie.Need-returns
+unfolding ofBits
 returns c =
     let f = c .before .before .before .before .before in
-    (sym (f .finished .given .1) ∙ f .before .before .check-finished .ensures ∙ placed-first _, c .before .before .clear-front .ensures)
+    (sym (f .finished .given .1) ∙ f .before .before .check-finished .ensures ∙ placed-first _, c .before .before .fill .ensures)
 
 enum-told : tie.Need-enum-told
 enum-told c = search needs
@@ -38,7 +40,7 @@ finish-counts-spec =
     (tie.spec
     check-finished-requires
     enum-known-finished
-    clear-front-requires
+    fill-requires
     same-length
     returns
     enum-told

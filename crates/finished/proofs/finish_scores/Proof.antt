@@ -2,6 +2,7 @@
 use mathlib.Core.Path.{refl, sym, _∙_}
 use native.Mathlib.Omega.{arith}
 use borrow.Author.Needs.{needs}
+use lib.Ieee.{ofBits}
 use Rattle.finished.proofs.Laws.{cleared-to}
 use Rattle.finished.proofs.finish_scores.Statement.{statement}
 use Rattle.finished.proofs.finish_scores.Tie as tie
@@ -15,15 +16,15 @@ enum-known-finished c = search needs
 entries-requires : tie.Need-entries-requires
 entries-requires c κs = search needs
 
-clear-front-requires : tie.Need-clear-front-requires
-clear-front-requires c κs =
+fill-requires : tie.Need-fill-requires
+fill-requires c κs =
     omega (arith, c .entries .ensures, c .before .before .before .before .before .before .before .before .before .before .pre .room .long-states)
 
 entries-requires-2 : tie.Need-entries-requires-2
 entries-requires-2 c κs = search needs
 
-clear-front-requires-2 : tie.Need-clear-front-requires-2
-clear-front-requires-2 c κs =
+fill-requires-2 : tie.Need-fill-requires-2
+fill-requires-2 c κs =
     let s = c .before .before .before .before .before in
     omega (arith, c .entries2 .ensures, s .before .before .before .before .before .before .before .before .before .before .pre .room .long-transitions)
 
@@ -34,12 +35,13 @@ same-length-2 : tie.Need-same-length-2
 same-length-2 c = search needs
 
 returns : tie.Need-returns
+unfolding ofBits
 returns c =
     let t = c .before .before in
     let s = t .before .before .before .before .before in
     let f = s .before .before .before .before in (
       sym (f .finished .given .1) ∙ f .before .before .check-scores .ensures,
-      (cleared-to _ _ (t .before .entries2 .ensures) (t .clear-front2 .ensures), cleared-to _ _ (s .before .entries .ensures) (s .clear-front .ensures)),
+      (cleared-to _ _ (t .before .entries2 .ensures) (t .fill2 .ensures), cleared-to _ _ (s .before .entries .ensures) (s .fill .ensures)),
     )
 
 enum-told : tie.Need-enum-told
@@ -61,9 +63,9 @@ finish-scores-spec =
     check-scores-requires
     enum-known-finished
     entries-requires
-    clear-front-requires
+    fill-requires
     entries-requires-2
-    clear-front-requires-2
+    fill-requires-2
     same-length
     same-length-2
     returns

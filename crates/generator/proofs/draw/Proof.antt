@@ -39,15 +39,15 @@ use denote.Triple.Call.{calls-at}
 use denote.Triple.Clauses.{ensured, lasts}
 use denote.Triple.Table.{entered, cited}
 use denote.Triple.Walked.{says, Stays, stay-ref, walkOf, goes-ref, Walks, ends-at, walked, walk-meets}
-use Rattle.splitmix.specs.SplitMix64.{advanced, mixed}
-use Rattle.splitmix.proofs.advance as advance
-use Rattle.splitmix.proofs.advance.Symbol as advance-def
-use Rattle.splitmix.proofs.advance.Symbol.{name as #splitmix·advance}
-use Rattle.splitmix.proofs.advance.Met as advance-thm
-use Rattle.splitmix.proofs.mix as mix
-use Rattle.splitmix.proofs.mix.Symbol as mix-def
-use Rattle.splitmix.proofs.mix.Symbol.{name as #splitmix·mix}
-use Rattle.splitmix.proofs.mix.Met as mix-thm
+use Rattle.generator.specs.SplitMix64.{advanced, mixed}
+use Rattle.generator.proofs.advance as advance
+use Rattle.generator.proofs.advance.Symbol as advance-def
+use Rattle.generator.proofs.advance.Symbol.{name as #generator·advance}
+use Rattle.generator.proofs.advance.Met as advance-thm
+use Rattle.generator.proofs.mix as mix
+use Rattle.generator.proofs.mix.Symbol as mix-def
+use Rattle.generator.proofs.mix.Symbol.{name as #generator·mix}
+use Rattle.generator.proofs.mix.Met as mix-thm
 use Rattle.generator.specs.declared.Generator.{Generator}
 use Rattle.generator.proofs.Cell.{Number, at-state, machine, made, fits-in}
 use Rattle.generator.proofs.Generator as T
@@ -65,7 +65,7 @@ stayed = (stay-ref (0 ∷ []) tt (plain (λ _. T.the-row)), tt)
 abbrev stored : (p : Place) × (i : ℕ) × (statements.s-3 ≡ assign p (rvOpd (copy (place i []))))
 stored = (_, _, refl)
 
-abbrev mixes : (p : Place) × (i : ℕ) × (statements.s-4 ≡ call #splitmix·mix (copy (place i []) ∷ []) p)
+abbrev mixes : (p : Place) × (i : ℕ) × (statements.s-4 ≡ call #generator·mix (copy (place i []) ∷ []) p)
 mixes = (_, _, refl)
 
 -- what _2, `before`, and _3, `after`, hold
@@ -111,7 +111,7 @@ module _ {M : Type 1} (𝓤 : URA M) (H : Heap 𝓤) (A : Atoms 𝓤) (W : Given
       suffices ! _ (ends-at 𝓤 H A draw.ended stayed (draw.clauses 𝓤 H A at-mem run) W (((κ, tt), (q, tt), tt, x, at), tt) v r (at-state m, tt) (tt, tt)) $ says ! (e₃ ∙ ap mixed e₂, e₁) $
       nothing ! $ move ! (3 ∷ 0 ∷ []) $ join ! $ frame ! $ feqI ! (List Val) (vptr b o ∷ []) (vptr b o ∷ []) refl $ fjoin3 ! $ nothing ! $ move ! (1 ∷ 0 ∷ []) $ fjoin ! $ done !
 
-  module _ (C : Calls 𝓤 H) (Λ : Loops 𝓤 H) (fm : FmC 𝓤 H (W .laws) C) (known-advance : Triple 𝓤 (C #splitmix·advance) (Advance 𝓤 H A at-mem run)) (known-mix : Triple 𝓤 (C #splitmix·mix) (Mix 𝓤 H A at-mem run)) where
+  module _ (C : Calls 𝓤 H) (Λ : Loops 𝓤 H) (fm : FmC 𝓤 H (W .laws) C) (known-advance : Triple 𝓤 (C #generator·advance) (Advance 𝓤 H A at-mem run)) (known-mix : Triple 𝓤 (C #generator·mix) (Mix 𝓤 H A at-mem run)) where
     walk : ent 𝓤 (onEntry 𝓤 H A draw.signature (κ, tt) (q, tt) x at) (WpFn 𝓤 H C Λ code.function (vptr b o ∷ []) Post)
     walk =
         qed W ((‵ (flft κ q) ⊛ ‵ ftrue) ∷ ‵ (owns (MutRef (named 0) κ T.the-row ∷ []) x at) ∷ []) ∵ enter ! C Λ code.function (vptr b o ∷ []) _ $
@@ -144,13 +144,13 @@ module _ {M : Type 1} (𝓤 : URA M) (H : Heap 𝓤) (A : Atoms 𝓤) (W : Given
         keep ! (0 ∷ 1 ∷ 2 ∷ 3 ∷ []) $ by ! (exits (m .0) (z .0) r′ v′ e₁ e₁ e₂)))))))))))))))
 
 module _ {M : Type 1} (𝓤 : URA M) (H : Heap 𝓤) (A : Atoms 𝓤) (W : Given 𝓤 H A) (at-mem : Memory → SProp 𝓤) (run : Routine → Fun 𝓤) where
-  draw-walks : (C : Calls 𝓤 H) (Λ : Loops 𝓤 H) → FmC 𝓤 H (W .laws) C → Triple 𝓤 (C #splitmix·advance) (Advance 𝓤 H A at-mem run) → Triple 𝓤 (C #splitmix·mix) (Mix 𝓤 H A at-mem run)
+  draw-walks : (C : Calls 𝓤 H) (Λ : Loops 𝓤 H) → FmC 𝓤 H (W .laws) C → Triple 𝓤 (C #generator·advance) (Advance 𝓤 H A at-mem run) → Triple 𝓤 (C #generator·mix) (Mix 𝓤 H A at-mem run)
       → Walks 𝓤 H A draw.ended stayed (WpFn 𝓤 H C Λ code.function) (draw.clauses 𝓤 H A at-mem run)
   draw-walks C Λ fm known-advance known-mix = walked 𝓤 H A draw.ended stayed (draw.clauses 𝓤 H A at-mem run) (WpFn 𝓤 H C Λ code.function) (λ κs. (ptr-vals, tt)) (λ κs. (mut-tells (named 0) (κs .0) T.the-row, tt))
       (λ κs qs bounds a _ _. via 𝓤 _ (fst∗ 𝓤 _ (emp 𝓤)) (walk 𝓤 H A W at-mem run (κs .0) (qs .0) (a .0 .ptr .0) (a .0 .ptr .1) (a .0 .name) (a .0 .now .state) C Λ fm known-advance known-mix))
 
 draw-meets : {M : Type 1} (𝓤 : URA M) (H : Heap 𝓤) (A : Atoms 𝓤) (W : Given 𝓤 H A) (at-mem : Memory → SProp 𝓤) (run : Routine → Fun 𝓤) (𝓣 : Tables 𝓤 H)
-    → Triple 𝓤 (𝓣 .C #splitmix·advance) (Advance 𝓤 H A at-mem run) → Triple 𝓤 (𝓣 .C #splitmix·mix) (Mix 𝓤 H A at-mem run)
+    → Triple 𝓤 (𝓣 .C #generator·advance) (Advance 𝓤 H A at-mem run) → Triple 𝓤 (𝓣 .C #generator·mix) (Mix 𝓤 H A at-mem run)
     → Meets 𝓤 H A draw.signature (WpFn 𝓤 H (𝓣 .C) (𝓣 .Λ) code.function) (draw.spec 𝓤 H A at-mem run)
 draw-meets 𝓤 H A W at-mem run 𝓣 known-advance known-mix = walk-meets 𝓤 H A draw.ended stayed W (goes-ref 𝓤 H A W 1 0 tt (plain (λ _. T.the-row)), tt) (draw.clauses 𝓤 H A at-mem run) (WpFn 𝓤 H (𝓣 .C) (𝓣 .Λ) code.function) (WpFn-mono 𝓤 H (W .laws) 𝓣 code.function)
     (draw-walks 𝓤 H A W at-mem run (𝓣 .C) (𝓣 .Λ) (fmOf 𝓤 H (W .laws) 𝓣) known-advance known-mix)
@@ -161,5 +161,5 @@ draw-spec 𝓤 H 𝓜 𝓖 𝓡 =
     entered 𝓤 H (tripleOf 𝓤 H (𝓖 .A) draw.signature (draw.spec 𝓤 H (𝓖 .A) (𝓜 .mem) (𝓡 .run)))
     (tables 𝓤 H 𝓜 𝓡 code.env .C) (tables 𝓤 H 𝓜 𝓡 code.env .Λ) #generator·draw code.function (code.unfolded 𝓤 H 𝓜 𝓡)
     (draw-meets 𝓤 H (𝓖 .A) (givenOf 𝓤 H 𝓜 𝓖) (𝓜 .mem) (𝓡 .run) (tablesOf 𝓤 H 𝓜 (tables 𝓤 H 𝓜 𝓡 code.env))
-    (cited 𝓤 H (Advance 𝓤 H (𝓖 .A) (𝓜 .mem) (𝓡 .run)) 𝓜 𝓡 code.env #splitmix·advance advance-def.routine code.calls-splitmix·advance (advance-thm.met 𝓤 H 𝓜 𝓖 𝓡))
-    (cited 𝓤 H (Mix 𝓤 H (𝓖 .A) (𝓜 .mem) (𝓡 .run)) 𝓜 𝓡 code.env #splitmix·mix mix-def.routine code.calls-splitmix·mix (mix-thm.met 𝓤 H 𝓜 𝓖 𝓡)))
+    (cited 𝓤 H (Advance 𝓤 H (𝓖 .A) (𝓜 .mem) (𝓡 .run)) 𝓜 𝓡 code.env #generator·advance advance-def.routine code.calls-generator·advance (advance-thm.met 𝓤 H 𝓜 𝓖 𝓡))
+    (cited 𝓤 H (Mix 𝓤 H (𝓖 .A) (𝓜 .mem) (𝓡 .run)) 𝓜 𝓡 code.env #generator·mix mix-def.routine code.calls-generator·mix (mix-thm.met 𝓤 H 𝓜 𝓖 𝓡)))

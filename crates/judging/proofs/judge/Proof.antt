@@ -2,7 +2,7 @@ use mathlib.Core.Path.{_≡_, refl, sym, ap, _∙_}
 use mathlib.Core.Bool.{true, false, _&&_}
 use native.Mathlib.Omega.{arith}
 use borrow.Author.Needs.{needs}
-use Rattle.training_tables.proofs.Filled.{all-of}
+use Rattle.fronts.proofs.Filled.{all-of}
 use Rattle.judging.proofs.Laws.{ready, predicted-met, unscored, agreed, differed}
 use Rattle.judging.specs.Judged.{finiteScores}
 use Rattle.best_path.specs.Scores.{tabled}
@@ -14,7 +14,7 @@ use Rattle.judging.proofs.judge.Reads as reads
 use Rattle.judging.proofs.judge.Lts as lts
 use Rattle.judging.proofs.count_wrong.Reads as count-wrong-reads
 use Rattle.sequence_score.proofs.score_path.Reads as score-path-reads
-use Rattle.training_tables.proofs.all_finite.Reads as all-finite-reads
+use Rattle.fronts.proofs.all_finite.Reads as all-finite-reads
 use Rattle.viterbi.proofs.decode_tables.Reads as decode-tables-reads
 
 -- the flag, by what each test of a table ensures

@@ -2,8 +2,8 @@
 use borrow.Author.Needs.{needs}
 use Rattle.score_tables.specs.Sound.{Sized}
 use Rattle.feature_gen.specs.Lent.{modelOf}
-use Rattle.scoring.specs.Promise.{Given, Buffers}
-use Rattle.scoring.proofs.Kept.{sized}
+use Rattle.compute_scores.specs.Promise.{Given, Buffers}
+use Rattle.compute_scores.proofs.Kept.{sized}
 use Rattle.label_line.proofs.Kept.{finished-labelled}
 use Rattle.label_line.proofs.label_accepted.Statement.{statement}
 use Rattle.label_line.proofs.label_accepted.Tie as tie

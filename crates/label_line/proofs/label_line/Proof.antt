@@ -5,9 +5,9 @@ use lib.ListN.{length}
 use Rattle.refusals.specs.declared.Checked.the-variants.{Accepted}
 use Rattle.feature_gen.specs.Lent.{modelOf}
 use Rattle.line_check.proofs.Meant.{scoring-sound}
-use Rattle.scoring.specs.Promise.{Given}
+use Rattle.compute_scores.specs.Promise.{Given}
 use Rattle.label_line.specs.Promise.{checkedOf}
-use Rattle.label_check.proofs.Parted.{own, accepts}
+use Rattle.label_line.proofs.Parted.{own, accepts}
 use Rattle.label_line.proofs.Kept.{refused-kept, labelled-kept}
 use Rattle.label_line.proofs.label_line.Statement.{statement}
 use Rattle.label_line.proofs.label_line.Tie as tie

@@ -13,9 +13,14 @@ refuse-if-requires c κs = search needs
 or-next-requires : tie.Need-or-next-requires
 or-next-requires c κs = search needs
 
+refuse-if-requires-2 : tie.Need-refuse-if-requires-2
+refuse-if-requires-2 c κs = search needs
+
 returns : tie.Need-returns
 unfolding orNext
-returns c = rw (c .or-next .ensures, c .before .refuse-if .ensures, c .before .before .check-bounds .ensures)
+returns c =
+    let n = c .before in
+    rw (c .refuse-if2 .ensures, n .or-next .ensures, n .before .refuse-if .ensures, n .before .before .check-bounds .ensures)
 
 pub check-sizes-spec : {M : Type 1} → statement M
-check-sizes-spec = tie.close (tie.spec check-bounds-requires refuse-if-requires or-next-requires returns)
+check-sizes-spec = tie.close (tie.spec check-bounds-requires refuse-if-requires or-next-requires refuse-if-requires-2 returns)

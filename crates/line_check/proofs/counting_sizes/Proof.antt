@@ -8,8 +8,11 @@ use Rattle.line_check.proofs.counting_sizes.Tie as tie
 exceeds-requires : tie.Need-exceeds-requires
 exceeds-requires c κs = search needs
 
-exceeds-requires-2 : tie.Need-exceeds-requires-2
-exceeds-requires-2 c κs = search needs
+lacks-tables-requires : tie.Need-lacks-tables-requires
+lacks-tables-requires c κs = search needs
+
+lacks-line-requires : tie.Need-lacks-line-requires
+lacks-line-requires c κs = search needs
 
 cast-short : tie.Need-cast-short
 cast-short c = search needs
@@ -19,15 +22,17 @@ check-sizes-requires c κs = search needs
 
 returns : tie.Need-returns
 returns c =
-    let l = c .before .before in
-    c .check-sizes .ensures ∙ rw (l .exceeds2 .ensures, l .before .exceeds .ensures) (counting-sized _)
+    let l : tie.After-lacks-line = search in
+    let o : tie.After-exceeds = search in
+    c .check-sizes .ensures ∙ rw (l .lacks-line .ensures, l .before .lacks-tables .ensures, o .exceeds .ensures) (counting-sized _)
 
 pub counting-sizes-spec : {M : Type 1} → statement M
 counting-sizes-spec =
     tie.close
     (tie.spec
     exceeds-requires
-    exceeds-requires-2
+    lacks-tables-requires
+    lacks-line-requires
     cast-short
     check-sizes-requires
     returns)

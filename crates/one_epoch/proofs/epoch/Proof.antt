@@ -1,7 +1,7 @@
-use mathlib.Core.Path.{_≡_, refl, sym, ap, _∙_}
-use mathlib.Core.Bool.{true, false}
-use Prim.Native.Nat.{ℕ, _+_, _-_, _*_, _≤_, _<_}
-use native.Mathlib.Nat.{le-trans}
+-- `one_epoch::epoch` meets its contract: after j visits the state is the definition's, and a refused visit ends both. Assumes nothing.
+use mathlib.Core.Path.{_≡_, refl, sym, _∙_}
+use mathlib.Core.Bool.{false}
+use Prim.Native.Nat.{_+_, _-_, _≤_, _<_}
 use native.Mathlib.Omega.{arith}
 use borrow.Author.Needs.{needs}
 use lib.Ieee.{ofBits}
@@ -17,11 +17,6 @@ use Rattle.updates.proofs.Laws.{exactly}
 use Rattle.one_epoch.proofs.Laws.{visited-next, visited-cut}
 use Rattle.one_epoch.proofs.epoch.Statement.{statement}
 use Rattle.one_epoch.proofs.epoch.Tie as tie
-use Rattle.one_epoch.proofs.epoch.Reads as reads
-use Rattle.one_epoch.proofs.epoch.Lts as lts
-use Rattle.steps.proofs.is_refused.Reads as is-refused-reads
-use Rattle.lines.proofs.at.Reads as at-reads
-use Rattle.visits.proofs.visit.Reads as visit-reads
 
 abbrev Inv-loop : tie.InvT-loop
 Inv-loop trainer sizes kinds destinations sources starts entries label-starts label-entries lines begins ids values references shares order weights₀ beside₀ truly₀ predicted₀ n step₀ j₀ weights beside truly predicted step j =
@@ -39,89 +34,137 @@ abbrev μ-loop : tie.MeasureT-loop
 abbrev given : tie.Start Inv-loop μ-loop → State
 given s = stateOf (s .args .s) (s .args .weights .now) (s .args .beside .now)
 
+-- the places that facts are taken from, each found from the one after it
+abbrev entry : tie.At-loop Inv-loop μ-loop → tie.Start Inv-loop μ-loop
+entry c = search
+
+abbrev turn : tie.After-at Inv-loop μ-loop → tie.At-loop Inv-loop μ-loop
+turn c = search
+
+abbrev called : tie.After-visit Inv-loop μ-loop → tie.After-at Inv-loop μ-loop
+called c = search
+
+-- the turn has a visit to make
+under : (a : tie.After-at Inv-loop μ-loop) → let l = turn a in l .loop .j < entry l .args .sizes .instances
+under a = let t : tie.In-loop Inv-loop μ-loop = search in t .loop-test .taken
+
 loop-holds : tie.Need-loop-holds Inv-loop μ-loop
-loop-holds c = let s = c .before .before .before .before .before .before .before .before .before .before .before .before .before .before .before .before .before .before in (omega arith, s .pre .1 .1 .0, omega arith, s .pre .1 .1 .1 .1 .1, refl, through-none _ _ _)
+loop-holds c =
+    let s : tie.Start Inv-loop μ-loop = search in
+    (omega arith, s .pre .1 .1 .0, omega arith, s .pre .1 .1 .1 .updates, refl, through-none _ _ _)
 
 at-requires : tie.Need-at-requires Inv-loop μ-loop
-at-requires c κs = omega (arith, c .loop-test .taken, c .before .before .before .before .before .before .before .before .before .before .before .before .before .before .before .before .before .before .before .before .pre .1 .1 .1 .0 .0)
+at-requires c κs =
+    let l : tie.At-loop Inv-loop μ-loop = search in
+    omega (arith, c .loop-test .taken, entry l .pre .1 .1 .1 .long)
 
 visit-requires : tie.Need-visit-requires Inv-loop μ-loop
 visit-requires c κs =
-    let l = c .before .before .before .before .before .before in
-    let s = c .before .before .before .before .before .before .before .before .before .before .before .before .before .before .before .before .before .before .before .before .before .before .before .before .before in
-    let h = s .pre .1 .1 .1 .0 .1 (l .loop .j) (c .before .before .before .before .before .loop-test .taken) in (
-      s .pre .0,
-      (
-        s .pre .1 .0,
-        (
-          l .loop .inv .1,
-          (omega (arith, h, c .before .before .before .before .at .ensures), omega (arith, l .loop .inv .2, c .before .before .before .before .before .loop-test .taken, s .pre .1 .1 .1 .1 .0), l .loop .inv .3),
-        ),
-      ),
-    )
+    let a : tie.After-at Inv-loop μ-loop = search in
+    let l = turn a in
+    let s = entry l in
+    let i = l .loop .inv in
+    let h = s .pre .1 .1 .1 .among (l .loop .j) (under a) in
+    (s .pre .0, (s .pre .1 .0, (i .1, (omega (arith, h, a .at .ensures), omega (arith, i .2, under a, s .pre .1 .1 .1 .room), i .3))))
 
 is-refused-requires : tie.Need-is-refused-requires Inv-loop μ-loop
 is-refused-requires c κs = search needs
 
+-- the tables keep their lengths
 same-length : tie.Need-same-length Inv-loop μ-loop
-same-length c = c .before .before .before .before .before .before .before .before .before .before .visit .kept .1 .1 .1 .1 .1 .1 .1 .1 .1 .1 .1 .1 .1 .1 .1 .1 .1 .0 ∙ c .before .before .before .before .before .before .before .before .before .before .before .before .before .before .before .before .before .loop .inv .1 .weights-long ∙ sym (c .before .before .before .before .before .before .before .before .before .before .before .before .before .before .before .before .before .before .before .before .before .before .before .before .before .before .before .before .before .before .before .before .before .before .before .before .pre .1 .1 .0 .weights-long)
+same-length c =
+    let v : tie.After-visit Inv-loop μ-loop = search in
+    let l = turn (called v) in
+    omega (arith, v .visit .kept, l .loop .inv .1, entry l .pre .1 .1 .0)
 
 same-length-2 : tie.Need-same-length-2 Inv-loop μ-loop
-same-length-2 c = c .before .before .before .before .before .before .before .before .before .before .visit .kept .1 .1 .1 .1 .1 .1 .1 .1 .1 .1 .1 .1 .1 .1 .1 .1 .1 .1 .0 ∙ c .before .before .before .before .before .before .before .before .before .before .before .before .before .before .before .before .before .loop .inv .1 .beside-long ∙ sym (c .before .before .before .before .before .before .before .before .before .before .before .before .before .before .before .before .before .before .before .before .before .before .before .before .before .before .before .before .before .before .before .before .before .before .before .before .pre .1 .1 .0 .beside-long)
+same-length-2 c =
+    let v : tie.After-visit Inv-loop μ-loop = search in
+    let l = turn (called v) in
+    omega (arith, v .visit .kept, l .loop .inv .1, entry l .pre .1 .1 .0)
 
 same-length-3 : tie.Need-same-length-3 Inv-loop μ-loop
-same-length-3 c = c .before .before .before .before .before .before .before .before .before .before .visit .kept .1 .1 .1 .1 .1 .1 .1 .1 .1 .1 .1 .1 .1 .1 .1 .1 .1 .1 .1 .0 ∙ c .before .before .before .before .before .before .before .before .before .before .before .before .before .before .before .before .before .loop .inv .1 .truly-long ∙ sym (c .before .before .before .before .before .before .before .before .before .before .before .before .before .before .before .before .before .before .before .before .before .before .before .before .before .before .before .before .before .before .before .before .before .before .before .before .pre .1 .1 .0 .truly-long)
+same-length-3 c =
+    let v : tie.After-visit Inv-loop μ-loop = search in
+    let l = turn (called v) in
+    omega (arith, v .visit .kept, l .loop .inv .1, entry l .pre .1 .1 .0)
 
 same-length-4 : tie.Need-same-length-4 Inv-loop μ-loop
-same-length-4 c = c .before .before .before .before .before .before .before .before .before .before .visit .kept .1 .1 .1 .1 .1 .1 .1 .1 .1 .1 .1 .1 .1 .1 .1 .1 .1 .1 .1 .1 .0 ∙ c .before .before .before .before .before .before .before .before .before .before .before .before .before .before .before .before .before .loop .inv .1 .predicted-long ∙ sym (c .before .before .before .before .before .before .before .before .before .before .before .before .before .before .before .before .before .before .before .before .before .before .before .before .before .before .before .before .before .before .before .before .before .before .before .before .pre .1 .1 .0 .predicted-long)
+same-length-4 c =
+    let v : tie.After-visit Inv-loop μ-loop = search in
+    let l = turn (called v) in
+    omega (arith, v .visit .kept, l .loop .inv .1, entry l .pre .1 .1 .0)
 
 returns : tie.Need-returns Inv-loop μ-loop
 unfolding opened ofBits
 returns c =
-    let v = c .before .before .before .before .before .before .before .before .before .before in
-    let l = c .before .before .before .before .before .before .before .before .before .before .before .before .before .before .before .before .before in (
-      visited-cut _ _ (l .loop .j) _ _ (given (c .before .before .before .before .before .before .before .before .before .before .before .before .before .before .before .before .before .before .before .before .before .before .before .before .before .before .before .before .before .before .before .before .before .before .before .before)) (c .before .before .before .before .before .before .before .before .before .before .before .before .before .before .before .before .loop-test .taken) (c .before .before .before .before .before .before .before .before .before .before .before .before .before .before .before .at .ensures) (l .loop .inv .4) (l .loop .inv .5) (v .visit .ensures .0) (sym (c .before .is-refused .ensures) ∙ c .if1 .taken),
-      record { visits = omega (arith, l .loop .inv .2, v .visit .ensures .1 .visits, c .before .before .before .before .before .before .before .before .before .before .before .before .before .before .before .before .loop-test .taken); updates = v .visit .ensures .1 .updates },
+    let r : tie.After-is-refused Inv-loop μ-loop = search in
+    let v : tie.After-visit Inv-loop μ-loop = search in
+    let a = called v in
+    let l = turn a in
+    let i = l .loop .inv in
+    let made = v .visit .ensures in (
+      visited-cut _ _ (l .loop .j) _ _ (given (entry l)) (under a) (a .at .ensures) (i .4) (i .5) (made .0) (sym (r .is-refused .ensures) ∙ c .if1 .taken),
+      record { visits = omega (arith, i .2, made .1 .visits, under a); updates = made .1 .updates },
     )
 
 add-j : tie.Need-add-j Inv-loop μ-loop
-add-j c = omega (arith, c .before .before .before .before .before .before .before .before .before .before .before .before .before .before .before .before .loop-test .taken, c .before .before .before .before .before .before .before .before .before .before .before .before .before .before .before .before .before .before .before .before .before .before .before .before .before .before .before .before .before .before .before .before .before .before .before .before .pre .1 .0 .few)
+add-j c =
+    let v : tie.After-visit Inv-loop μ-loop = search in
+    let a = called v in
+    omega (arith, under a, entry (turn a) .pre .1 .0 .few)
 
 loop-less : tie.Need-loop-less Inv-loop μ-loop
-loop-less c = omega (arith, c .before .before .before .before .before .before .before .before .before .before .before .before .before .before .before .before .loop-test .taken)
+loop-less c =
+    let v : tie.After-visit Inv-loop μ-loop = search in
+    omega (arith, under (called v))
 
 loop-again : tie.Need-loop-again Inv-loop μ-loop
 loop-again c =
-    let v = c .before .before .before .before .before .before .before .before .before .before in
-    let l = c .before .before .before .before .before .before .before .before .before .before .before .before .before .before .before .before .before in
-    let f = sym (c .before .is-refused .ensures) ∙ c .if1 .left in (
-      omega (arith, c .before .before .before .before .before .before .before .before .before .before .before .before .before .before .before .before .loop-test .taken),
-      record { weights-long = v .visit .kept .1 .1 .1 .1 .1 .1 .1 .1 .1 .1 .1 .1 .1 .1 .1 .1 .1 .0 ∙ l .loop .inv .1 .weights-long; beside-long = v .visit .kept .1 .1 .1 .1 .1 .1 .1 .1 .1 .1 .1 .1 .1 .1 .1 .1 .1 .1 .0 ∙ l .loop .inv .1 .beside-long; truly-long = v .visit .kept .1 .1 .1 .1 .1 .1 .1 .1 .1 .1 .1 .1 .1 .1 .1 .1 .1 .1 .1 .0 ∙ l .loop .inv .1 .truly-long; predicted-long = v .visit .kept .1 .1 .1 .1 .1 .1 .1 .1 .1 .1 .1 .1 .1 .1 .1 .1 .1 .1 .1 .1 .0 ∙ l .loop .inv .1 .predicted-long },
-      omega (arith, l .loop .inv .2, v .visit .ensures .1 .visits),
-      v .visit .ensures .1 .updates,
+    let r : tie.After-is-refused Inv-loop μ-loop = search in
+    let v : tie.After-visit Inv-loop μ-loop = search in
+    let a = called v in
+    let l = turn a in
+    let i = l .loop .inv in
+    let k = v .visit .kept in
+    let e = i .1 in
+    let made = v .visit .ensures in
+    let f = sym (r .is-refused .ensures) ∙ c .if1 .left in (
+      omega (arith, under a),
+      record { weights-long = omega (arith, k, e); beside-long = omega (arith, k, e); truly-long = omega (arith, k, e); predicted-long = omega (arith, k, e) },
+      omega (arith, i .2, made .1 .visits),
+      made .1 .updates,
       f,
-      visited-next _ _ (l .loop .j) _ _ (c .before .before .before .before .before .before .before .before .before .before .before .before .before .before .before .at .ensures) (l .loop .inv .4) (l .loop .inv .5) (v .visit .ensures .0) f,
+      visited-next _ _ (l .loop .j) _ _ (a .at .ensures) (i .4) (i .5) (made .0) f,
     )
 
 same-length-5 : tie.Need-same-length-5 Inv-loop μ-loop
-same-length-5 c = c .before .loop .inv .1 .weights-long ∙ sym (c .before .before .before .before .before .before .before .before .before .before .before .before .before .before .before .before .before .before .before .before .pre .1 .1 .0 .weights-long)
+same-length-5 c =
+    let l : tie.At-loop Inv-loop μ-loop = search in
+    omega (arith, l .loop .inv .1, entry l .pre .1 .1 .0)
 
 same-length-6 : tie.Need-same-length-6 Inv-loop μ-loop
-same-length-6 c = c .before .loop .inv .1 .beside-long ∙ sym (c .before .before .before .before .before .before .before .before .before .before .before .before .before .before .before .before .before .before .before .before .pre .1 .1 .0 .beside-long)
+same-length-6 c =
+    let l : tie.At-loop Inv-loop μ-loop = search in
+    omega (arith, l .loop .inv .1, entry l .pre .1 .1 .0)
 
 same-length-7 : tie.Need-same-length-7 Inv-loop μ-loop
-same-length-7 c = c .before .loop .inv .1 .truly-long ∙ sym (c .before .before .before .before .before .before .before .before .before .before .before .before .before .before .before .before .before .before .before .before .pre .1 .1 .0 .truly-long)
+same-length-7 c =
+    let l : tie.At-loop Inv-loop μ-loop = search in
+    omega (arith, l .loop .inv .1, entry l .pre .1 .1 .0)
 
 same-length-8 : tie.Need-same-length-8 Inv-loop μ-loop
-same-length-8 c = c .before .loop .inv .1 .predicted-long ∙ sym (c .before .before .before .before .before .before .before .before .before .before .before .before .before .before .before .before .before .before .before .before .pre .1 .1 .0 .predicted-long)
+same-length-8 c =
+    let l : tie.At-loop Inv-loop μ-loop = search in
+    omega (arith, l .loop .inv .1, entry l .pre .1 .1 .0)
 
 returns-2 : tie.Need-returns-2 Inv-loop μ-loop
 unfolding opened ofBits
 returns-2 c =
-    let l = c .before in
-    let s = c .before .before .before .before .before .before .before .before .before .before .before .before .before .before .before .before .before .before .before .before in (
-      exactly (epoch-end _ _ (l .loop .j) _ (given s) (l .loop .inv .0) (c .loop-test .left) (l .loop .inv .5)),
-      record { visits = omega (arith, l .loop .inv .0, l .loop .inv .2); updates = l .loop .inv .3 },
+    let l : tie.At-loop Inv-loop μ-loop = search in
+    let i = l .loop .inv in (
+      exactly (epoch-end _ _ (l .loop .j) _ (given (entry l)) (i .0) (c .loop-test .left) (i .5)),
+      record { visits = omega (arith, i .0, i .2); updates = i .3 },
     )
 
 pub epoch-spec : {M : Type 1} → statement M

@@ -7,7 +7,7 @@ use lib.ListN.{length}
 use Rattle.lines.specs.Passes.{raised}
 use Rattle.training.specs.Rules.{pushed}
 use Rattle.training_tables.specs.Tables.{Moved}
-use Rattle.training_tables.proofs.Finite.{finite-stored}
+use Rattle.fronts.proofs.Finite.{finite-stored}
 use Rattle.training_tables.proofs.Moves.{moved-none, moved-next, moved-end}
 use Rattle.perceptron_update.proofs.push.Statement.{statement}
 use Rattle.perceptron_update.proofs.push.Tie as tie

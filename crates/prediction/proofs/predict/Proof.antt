@@ -7,20 +7,16 @@ use Rattle.prediction.proofs.Laws.{square-small, rows-small}
 use borrow.Author.Tests.{leb-true}
 use Rattle.prediction.proofs.predict.Statement.{statement}
 use Rattle.prediction.proofs.predict.Tie as tie
-use Rattle.prediction.proofs.predict.Reads as reads
-use Rattle.prediction.proofs.predict.Lts as lts
-use Rattle.prediction.proofs.predict_long.Reads as predict-long-reads
-use Rattle.prediction.proofs.predict_short.Reads as predict-short-reads
 
 mul-if1 : tie.Need-mul-if1
-mul-if1 c = let s = c .before .before .before .before .before .before .before .before .before .before .before .before .before in omega (arith, square-small (s .pre .0))
+mul-if1 c = let s : tie.Start = search in omega (arith, square-small (s .pre .0))
 
 mul-if1-2 : tie.Need-mul-if1-2
-mul-if1-2 c = let s = c .before .before .before .before .before .before .before .before .before .before .before .before .before in omega (arith, rows-small (s .pre .0) (s .pre .1 .0 .sized))
+mul-if1-2 c = let s : tie.Start = search in omega (arith, rows-small (s .pre .0) (s .pre .1 .0 .sized))
 
 predict-short-requires : tie.Need-predict-short-requires
 predict-short-requires c κs =
-    let s = c .before .before .before .before .before .before .before .before .before .before .before .before .before .before .before in
+    let s : tie.Start = search in
     let small = both _ _ (c .before .if1 .taken) in
     (s .pre .0, (s .pre .1 .0, (s .pre .1 .1, (leb-true _ _ (small .0), leb-true _ _ (small .1)))))
 

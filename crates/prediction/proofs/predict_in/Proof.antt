@@ -1,19 +1,13 @@
-use mathlib.Core.Path.{_≡_, refl, sym, ap, _∙_}
-use Prim.Native.Nat.{_*_, _≤_}
+-- `prediction::predict_in` meets its contract: the two passes score the line, and what is judged is their scores. Assumes nothing.
+use mathlib.Core.Path.{_∙_}
 use native.Mathlib.Omega.{arith}
 use borrow.Author.Needs.{needs}
-use Rattle.lines.specs.Tables.{Model}
-use Rattle.lines.specs.Scored.{transitionsOf, statesOf}
+use Rattle.lines.specs.Tables.{Model, Words}
 use Rattle.prediction.specs.Tables.{modelOf, wordsIn}
-use Rattle.training_tables.proofs.Filled.{all-of}
-use Rattle.prediction.proofs.Laws.{transitions-sound}
+use Rattle.fronts.proofs.Filled.{all-of}
+use Rattle.prediction.proofs.Laws.{transitions-sound, judged-as}
 use Rattle.prediction.proofs.predict_in.Statement.{statement}
 use Rattle.prediction.proofs.predict_in.Tie as tie
-use Rattle.prediction.proofs.predict_in.Reads as reads
-use Rattle.prediction.proofs.predict_in.Lts as lts
-use Rattle.compute_scores.proofs.score_line.Reads as score-line-reads
-use Rattle.compute_scores.proofs.score_transitions.Reads as score-transitions-reads
-use Rattle.judging.proofs.judge.Reads as judge-reads
 
 -- the model and the words that the arguments make
 abbrev model : tie.Start → Model
@@ -21,33 +15,39 @@ model s =
     let a = s .args in
     modelOf (a .sizes) (a .kinds .now) (a .destinations .now) (a .sources .now) (a .starts .now) (a .entries .now) (a .label-starts .now) (a .label-entries .now)
 
--- what the two passes left in the tables
-transitions-are : (d : tie.After-score-transitions) → d .score-transitions .last .1 .1 .1 .1 .1 .1 .1 .1 .1 .0 ≡ transitionsOf (model (d .before .before .before .before .before .before .before .before .before .before .before .before .before .before .before .before .before)) (d .before .before .before .before .before .before .before .before .before .before .before .before .before .before .before .before .before .args .weights .now)
-transitions-are d = let s = d .before .before .before .before .before .before .before .before .before .before .before .before .before .before .before .before .before in d .score-transitions .ensures (model s) ∙ all-of _ _ _ (s .pre .1 .1 .1 .0)
+abbrev line : tie.Start → Words
+line s = wordsIn (s .args .sizes) (s .args .begins .now) (s .args .ids .now) (s .args .values .now)
 
-states-are : (d : tie.After-score-line) → d .score-line .last .1 .1 .1 .1 .1 .1 .1 .1 .1 .1 .1 .1 .1 .0 ≡ statesOf (model (d .before .before .before .before .before .before .before .before .before .before .before .before .before .before .before .before .before .before .before .before .before)) (d .before .before .before .before .before .before .before .before .before .before .before .before .before .before .before .before .before .before .before .before .before .args .weights .now) (wordsIn (d .before .before .before .before .before .before .before .before .before .before .before .before .before .before .before .before .before .before .before .before .before .args .sizes) (d .before .before .before .before .before .before .before .before .before .before .before .before .before .before .before .before .before .before .before .before .before .args .begins .now) (d .before .before .before .before .before .before .before .before .before .before .before .before .before .before .before .before .before .before .before .before .before .args .ids .now) (d .before .before .before .before .before .before .before .before .before .before .before .before .before .before .before .before .before .before .before .before .before .args .values .now)) (d .before .before .before .before .before .before .before .before .before .before .before .before .before .before .before .before .before .before .before .before .before .args .first) (d .before .before .before .before .before .before .before .before .before .before .before .before .before .before .before .before .before .before .before .before .before .args .words)
-states-are d = let s = d .before .before .before .before .before .before .before .before .before .before .before .before .before .before .before .before .before .before .before .before .before in d .score-line .ensures (model s) (s .args .sizes .attributes) ∙ all-of _ _ _ (s .pre .1 .1 .1 .1)
+-- the places that facts are taken from, each found from the one after it
+abbrev entry : tie.After-score-transitions → tie.Start
+entry c = search
+
+abbrev linked : tie.After-score-line → tie.After-score-transitions
+linked c = search
 
 score-transitions-requires : tie.Need-score-transitions-requires
 score-transitions-requires c κs =
-    let s = c .before .before .before .before .before .before .before .before .before .before .before .before .before .before .before .before in
+    let s : tie.Start = search in
     let m = s .pre .0 in
-    (transitions-sound m _ (omega (arith, s .pre .1 .1 .0)), (m .label-lists, omega (arith, s .pre .1 .1 .1 .0)))
+    (transitions-sound m _ (omega (arith, s .pre .1 .1)), (m .label-lists, omega (arith, s .pre .1 .1)))
 
 score-line-requires : tie.Need-score-line-requires
 score-line-requires c κs =
-    let s = c .before .before .before .before .before .before .before .before .before .before .before .before .before .before .before .before .before .before .before .before in
+    let d : tie.After-score-transitions = search in
+    let s = entry d in
     let m = s .pre .0 in
-    (transitions-sound m (s .args .weights .now) (omega (arith, s .pre .1 .1 .0)) .states, (m .attribute-lists, (s .pre .1 .0 .worded, omega (arith, s .pre .1 .1 .1 .1))))
+    (transitions-sound m (s .args .weights .now) (omega (arith, s .pre .1 .1)) .states, (m .attribute-lists, (s .pre .1 .0 .worded, omega (arith, s .pre .1 .1))))
 
 judge-requires : tie.Need-judge-requires
 judge-requires c κs =
-    let s = c .before .before .before .before .before .before .before .before .before .before .before .before .before .before .before .before .before .before .before .before .before .before .before .before .before .before in
+    let l : tie.After-score-line = search in
+    let d = linked l in
+    let s = entry d in
     record {
       labelled = s .pre .0 .labels-in;
       sized = s .pre .1 .0 .sized;
-      long-transitions = c .before .before .before .before .before .before .before .before .before .score-transitions .kept .1 .1 .1 .1 .1 .1 .1 .1 .1 .0 ∙ s .pre .1 .1 .1 .0;
-      long-states = c .before .before .before .before .before .score-line .kept .1 .1 .1 .1 .1 .1 .1 .1 .1 .1 .1 .1 .1 .0 ∙ s .pre .1 .1 .1 .1;
+      long-transitions = omega (arith, d .score-transitions .kept, s .pre .1 .1);
+      long-states = omega (arith, l .score-line .kept, s .pre .1 .1);
       referenced = s .pre .1 .0 .referenced;
       below = s .pre .1 .0 .below;
       long-path = s .pre .1 .1 .0 .1;
@@ -64,8 +64,12 @@ same-length-3 c = search needs
 
 returns : tie.Need-returns
 returns c =
-    let l = c .before .before .before .before .before .before .before .before in
-    rw (transitions-are (l .before .before .before .before), states-are l) at (c .before .before .judge .ensures)
+    let j : tie.After-judge = search in
+    let l : tie.After-score-line = search in
+    let d = linked l in
+    let s = entry d in
+    let long = s .pre .1 .1 .1 in
+    judged-as (model s) (s .args .weights .now) (line s) (s .args .first) (d .score-transitions .ensures (model s) ∙ all-of _ _ _ (long .0)) (l .score-line .ensures (model s) (s .args .sizes .attributes) ∙ all-of _ _ _ (long .1)) (j .judge .ensures)
 
 pub predict-in-spec : {M : Type 1} → statement M
 predict-in-spec =

@@ -6,9 +6,6 @@ use lib.Seq.{length-take-le}
 use Rattle.prediction.proofs.Laws.{square-small, rows-small}
 use Rattle.prediction.proofs.predict_short.Statement.{statement}
 use Rattle.prediction.proofs.predict_short.Tie as tie
-use Rattle.prediction.proofs.predict_short.Reads as reads
-use Rattle.prediction.proofs.predict_short.Lts as lts
-use Rattle.prediction.proofs.predict_in.Reads as predict-in-reads
 
 mul-square : tie.Need-mul-square
 mul-square c = search needs
@@ -20,17 +17,17 @@ array-borrow-prefix-transitions : tie.Need-array-borrow-prefix-transitions
 array-borrow-prefix-transitions c = search needs
 
 slice-aggregate-predict-in : tie.Need-slice-aggregate-predict-in
-slice-aggregate-predict-in c = sym (length-take-le _ _ (c .before .before .before .before .before .before .before .before .before .before .before .before .before .before .before .before .pre .1 .1 .1 .0))
+slice-aggregate-predict-in c = let s : tie.Start = search in sym (length-take-le _ _ (s .pre .1 .1 .1 .0))
 
 array-borrow-prefix-states : tie.Need-array-borrow-prefix-states
-array-borrow-prefix-states c = omega (arith, c .before .before .before .before .before .before .before .before .before .before .before .before .before .before .before .before .pre .1 .1 .1 .1)
+array-borrow-prefix-states c = let s : tie.Start = search in omega (arith, s .pre)
 
 slice-aggregate-predict-in-2 : tie.Need-slice-aggregate-predict-in-2
-slice-aggregate-predict-in-2 c = sym (length-take-le _ _ (c .before .before .before .before .before .before .before .before .before .before .before .before .before .before .before .before .before .pre .1 .1 .1 .1))
+slice-aggregate-predict-in-2 c = let s : tie.Start = search in sym (length-take-le _ _ (s .pre .1 .1 .1 .1))
 
 predict-in-requires : tie.Need-predict-in-requires
 predict-in-requires c κs =
-    let s = c .before .before .before .before .before .before .before .before .before .before .before .before .before .before .before .before .before .before in
+    let s : tie.Start = search in
     (s .pre .0, (s .pre .1 .0, ((s .pre .1 .1 .0 .0, s .pre .1 .1 .0 .1), (length-take-le _ _ (s .pre .1 .1 .1 .0), length-take-le _ _ (s .pre .1 .1 .1 .1)))))
 
 same-length : tie.Need-same-length

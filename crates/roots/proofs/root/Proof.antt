@@ -5,7 +5,7 @@ use Prim.Native.Nat.{ℕ, suc-le-suc}
 use borrow.Author.Needs.{needs}
 use borrow.Fn.Function.{resV}
 use lib.Ieee.{Float, ofBits, fits, size}
-use Rattle.roots.proofs.Units.{one}
+use Rattle.binary64.specs.Units.{one}
 use Rattle.roots.proofs.Nearest.{passes, passes-nearest}
 use Rattle.roots.proofs.Each.{each-at}
 use Rattle.roots.proofs.root.Statement.{statement}

@@ -3,8 +3,8 @@ use Prim.Native.Nat.{ℕ, _*_}
 use mathlib.Core.Path.{_≡_, sym, _∙_}
 use native.Mathlib.Omega.{arith}
 use borrow.Author.Needs.{needs}
-use Rattle.sheet_bytes.specs.Fields.{transitionsIn, statesIn}
-use Rattle.sheet_check.proofs.Rows.{Accepts, accepts}
+use Rattle.sheet.specs.Fields.{transitionsIn, statesIn}
+use Rattle.sheet.proofs.Rows.{Accepts, accepts}
 use Rattle.sheet.specs.Promise.{read}
 use Rattle.sheet.proofs.Kept.{promised-refused, promised-read}
 use Rattle.sheet.proofs.read_sheet.Statement.{statement}

@@ -1,5 +1,6 @@
 -- `trainers::passive_aggressive` keeps its promise. Assumes nothing.
 use mathlib.Core.Path.{_≡_}
+use native.Mathlib.Omega.{arith}
 use borrow.Author.Needs.{needs}
 use Rattle.feature_gen.specs.Lent.{modelOf}
 use Rattle.training_check.specs.Lent.{dataOf}
@@ -22,12 +23,21 @@ lent s =
     let a = s .args in
     record { weights = a .weights .now; beside = a .beside .now; truly = a .truly .now; predicted = a .predicted .now; order = a .order .now }
 
+-- the places that facts are taken from, each found from the one after it
 abbrev start : tie.After-check-passive → tie.Start
-start k = k .before .before .before .before .before .before .before .before .before .before .before .before .before .before .before .before .before .before .before .before
+start k = search
+
+abbrev made : tie.After-train-checked → tie.After-passive-trainer
+made t = search
+
+abbrev checked : tie.After-passive-trainer → tie.After-check-passive
+checked m = search
 
 -- the answer of the checks is the promise's
 checked-so : (k : tie.After-check-passive) → k .check-passive .result ≡ checkedOf (passiveAggressive (start k .args .parameters)) (given (start k)) (lent (start k))
-checked-so k = checked-is (passiveAggressive (start k .args .parameters)) (given (start k)) (lent (start k)) (k .before .check-input .ensures) (k .check-passive .ensures)
+checked-so k =
+    let i : tie.After-check-input = search in
+    checked-is (passiveAggressive (start k .args .parameters)) (given (start k)) (lent (start k)) (i .check-input .ensures) (k .check-passive .ensures)
 
 check-input-requires : tie.Need-check-input-requires
 check-input-requires c κs = search needs
@@ -40,28 +50,41 @@ passive-trainer-requires c κs = search needs
 
 train-checked-requires : tie.Need-train-checked-requires
 train-checked-requires c κs = λ h.
-    let k = c .before .before .before .before .before .before in
+    let m : tie.After-passive-trainer = search in
+    let k = checked m in
     ready (passiveAggressive (start k .args .parameters)) (given (start k)) (lent (start k)) (checked-so k) h
 
 same-length : tie.Need-same-length
-same-length c = c .before .before .before .before .before .before .before .before .before .before .train-checked .kept .1 .1 .1 .1 .1 .1 .1 .1 .1 .1 .1 .1 .1 .1 .1 .1 .1 .1 .1 .1 .1 .0
+same-length c =
+    let t : tie.After-train-checked = search in
+    omega (arith, t .train-checked .kept)
 
 same-length-2 : tie.Need-same-length-2
-same-length-2 c = c .before .before .before .before .before .before .before .before .before .before .train-checked .kept .1 .1 .1 .1 .1 .1 .1 .1 .1 .1 .1 .1 .1 .1 .1 .1 .1 .1 .1 .1 .1 .1 .0
+same-length-2 c =
+    let t : tie.After-train-checked = search in
+    omega (arith, t .train-checked .kept)
 
 same-length-3 : tie.Need-same-length-3
-same-length-3 c = c .before .before .before .before .before .before .before .before .before .before .train-checked .kept .1 .1 .1 .1 .1 .1 .1 .1 .1 .1 .1 .1 .1 .1 .1 .1 .1 .1 .1 .1 .1 .1 .1 .0
+same-length-3 c =
+    let t : tie.After-train-checked = search in
+    omega (arith, t .train-checked .kept)
 
 same-length-4 : tie.Need-same-length-4
-same-length-4 c = c .before .before .before .before .before .before .before .before .before .before .train-checked .kept .1 .1 .1 .1 .1 .1 .1 .1 .1 .1 .1 .1 .1 .1 .1 .1 .1 .1 .1 .1 .1 .1 .1 .1 .0
+same-length-4 c =
+    let t : tie.After-train-checked = search in
+    omega (arith, t .train-checked .kept)
 
 same-length-5 : tie.Need-same-length-5
-same-length-5 c = c .before .before .before .before .before .before .before .before .before .before .train-checked .kept .1 .1 .1 .1 .1 .1 .1 .1 .1 .1 .1 .1 .1 .1 .1 .1 .1 .1 .1 .1 .1 .1 .1 .1 .1 .0
+same-length-5 c =
+    let t : tie.After-train-checked = search in
+    omega (arith, t .train-checked .kept)
 
 returns : tie.Need-returns
 returns c =
-    let k = c .before .before .before .before .before .before .before .before .before .before .before .before .before .before .before .before .before in
-    kept-promised (passiveAggressive (start k .args .parameters)) (given (start k)) (lent (start k)) (checked-so k) (c .before .before .before .before .before .before .before .before .before .before .before .before .before .before .before .before .passive-trainer .ensures) (c .before .before .before .before .before .before .before .before .before .before .train-checked .ensures)
+    let t : tie.After-train-checked = search in
+    let m = made t in
+    let k = checked m in
+    kept-promised (passiveAggressive (start k .args .parameters)) (given (start k)) (lent (start k)) (checked-so k) (m .passive-trainer .ensures) (t .train-checked .ensures)
 
 pub passive-aggressive-spec : {M : Type 1} → statement M
 passive-aggressive-spec =

@@ -1,10 +1,8 @@
 -- `trainers::train_checked` meets its contract: a refusal leaves all as it was; what was accepted is what learning relies on, and the parts lent are the needed fronts. Assumes nothing.
-use mathlib.Core.Path.{_≡_}
 use native.Mathlib.Omega.{arith}
 use borrow.Author.Needs.{needs}
 use lib.Seq.{length-front}
 use mir.Facts.{fits-32-64}
-use Rattle.refusals.specs.declared.Checked.the-variants.{Accepted}
 use Rattle.training_check.specs.Sound.{LentSized}
 use Rattle.trainers.specs.Promise.{Given, Buffers, inputOf}
 use Rattle.trainers.specs.Inside.{Ready}
@@ -28,25 +26,28 @@ lent s =
     let a = s .args in
     record { weights = a .weights .now; beside = a .beside .now; truly = a .truly .now; predicted = a .predicted .now; order = a .order .now }
 
-abbrev start : tie.After-struct-known8 → tie.Start
-start c = c .before .before .before .before .before .before .before .before .before .before .before .before .before .before .before .before .before .before .before .before .before .before .before .before .before .before .before .before
+-- the places that facts are taken from, each found from the one after it
+abbrev start : tie.After-enum-told → tie.Start
+start e = search
+
+abbrev accepted : tie.After-train → tie.After-enum-told
+accepted t = search
 
 -- nothing was refused, so all is as training relies on
-told : (c : tie.After-struct-known8) → start c .args .checked ≡ Accepted
-told c = c .before .before .before .before .before .before .before .before .enum-told .given .1
-
-relied : (c : tie.After-struct-known8) → Ready (given (start c)) (lent (start c)) (start c .args .allowed)
-relied c = start c .pre (told c)
+relied : (e : tie.After-enum-told) → Ready (given (start e)) (lent (start e)) (start e .args .allowed)
+relied e = start e .pre (e .enum-told .given .1)
 
 -- the buffers have room
-room : (c : tie.After-struct-known8) → LentSized (start c .args .counts .features) (start c .args .totals .instances) (inputOf (given (start c)) (lent (start c)) .lent)
-room c = relied c .sound .fits .lent
+room : (e : tie.After-enum-told) → LentSized (start e .args .counts .features) (start e .args .totals .instances) (inputOf (given (start e)) (lent (start e)) .lent)
+room e = relied e .sound .fits .lent
 
 enum-known-checked : tie.Need-enum-known-checked
 enum-known-checked c = search needs
 
 returns : tie.Need-returns
-returns c = refused-kept _ _ _ _ _ (c .before .checked .given .1)
+returns c =
+    let k : tie.After-checked = search in
+    refused-kept _ _ _ _ _ (k .checked .given .1)
 
 enum-told : tie.Need-enum-told
 enum-told c = search needs
@@ -76,59 +77,72 @@ cast-t37 : tie.Need-cast-t37
 cast-t37 c = fits-32-64 (c .struct-known8 .given .1 .1 .0)
 
 slice-relend-prefix-train : tie.Need-slice-relend-prefix-train
-slice-relend-prefix-train c = room c .order
+slice-relend-prefix-train c =
+    let e : tie.After-enum-told = search in
+    room e .order
 
 slice-aggregate-train : tie.Need-slice-aggregate-train
-slice-aggregate-train c = front-count _ _ (room (c .before) .order)
+slice-aggregate-train c =
+    let e : tie.After-enum-told = search in
+    front-count _ _ (room e .order)
 
 slice-relend-prefix-train-2 : tie.Need-slice-relend-prefix-train-2
-slice-relend-prefix-train-2 c = search (room (c .before))
+slice-relend-prefix-train-2 c =
+    let e : tie.After-enum-told = search in
+    search (room e)
 
 slice-aggregate-train-2 : tie.Need-slice-aggregate-train-2
-slice-aggregate-train-2 c = search (front-count, room (c .before .before))
+slice-aggregate-train-2 c =
+    let e : tie.After-enum-told = search in
+    search (front-count, room e)
 
 slice-relend-prefix-train-3 : tie.Need-slice-relend-prefix-train-3
-slice-relend-prefix-train-3 c = search (room (c .before .before))
+slice-relend-prefix-train-3 c =
+    let e : tie.After-enum-told = search in
+    search (room e)
 
 slice-aggregate-train-3 : tie.Need-slice-aggregate-train-3
-slice-aggregate-train-3 c = search (front-count, room (c .before .before .before))
+slice-aggregate-train-3 c =
+    let e : tie.After-enum-told = search in
+    search (front-count, room e)
 
 slice-relend-prefix-train-4 : tie.Need-slice-relend-prefix-train-4
-slice-relend-prefix-train-4 c = room (c .before .before .before) .truly
+slice-relend-prefix-train-4 c =
+    let e : tie.After-enum-told = search in
+    room e .truly
 
 slice-aggregate-train-4 : tie.Need-slice-aggregate-train-4
-slice-aggregate-train-4 c = front-count _ _ (room (c .before .before .before .before) .truly)
+slice-aggregate-train-4 c =
+    let e : tie.After-enum-told = search in
+    front-count _ _ (room e .truly)
 
 slice-relend-prefix-train-5 : tie.Need-slice-relend-prefix-train-5
-slice-relend-prefix-train-5 c = room (c .before .before .before .before) .predicted
+slice-relend-prefix-train-5 c =
+    let e : tie.After-enum-told = search in
+    room e .predicted
 
 slice-aggregate-train-5 : tie.Need-slice-aggregate-train-5
-slice-aggregate-train-5 c = front-count _ _ (room (c .before .before .before .before .before) .predicted)
+slice-aggregate-train-5 c =
+    let e : tie.After-enum-told = search in
+    front-count _ _ (room e .predicted)
 
 train-requires : tie.Need-train-requires
 train-requires c κs =
-    let k = c .before .before .before .before .before in (
-      relied k .sound .model,
+    let e : tie.After-enum-told = search in (
+      relied e .sound .model,
       (
-        relied k .sound .corpus,
+        relied e .sound .corpus,
         (
           record {
-            weights-long = search (front-long, room k);
-            beside-long = search (front-long, room k);
-            truly-long = front-long _ _ (room k .truly);
-            predicted-long = front-long _ _ (room k .predicted);
+            weights-long = search (front-long, room e);
+            beside-long = search (front-long, room e);
+            truly-long = front-long _ _ (room e .truly);
+            predicted-long = front-long _ _ (room e .predicted);
           },
-          (omega (arith, relied k .few), front-long _ _ (room k .order)),
+          (omega (arith, relied e .few), front-long _ _ (room e .order)),
         ),
       ),
     )
-
--- the call, from where it returns, and the start
-abbrev trained : tie.After-slice-known10 → tie.After-train
-trained c = c .before .before .before .before .before .before .before .before .before .before
-
-abbrev entry : tie.After-train → tie.Start
-entry t = start (t .before .before .before .before .before .before)
 
 same-length : tie.Need-same-length
 same-length c = search length-front
@@ -137,19 +151,26 @@ same-length-2 : tie.Need-same-length-2
 same-length-2 c = search length-front
 
 same-length-3 : tie.Need-same-length-3
-same-length-3 c = let t = trained c in length-front (entry t .args .truly .now) (t .train .last .1 .1 .1 .1 .1 .1 .1 .1 .1 .1 .1 .1 .1 .1 .1 .1 .1 .1 .1 .1 .1 .0) (entry t .args .counts .features) (t .train .kept .1 .1 .1 .1 .1 .1 .1 .1 .1 .1 .1 .1 .1 .1 .1 .1 .1 .1 .1 .1 .1 .0)
+same-length-3 c =
+    let t : tie.After-train = search in
+    search (length-front, t .train .kept)
 
 same-length-4 : tie.Need-same-length-4
-same-length-4 c = let t = trained c in length-front (entry t .args .predicted .now) (t .train .last .1 .1 .1 .1 .1 .1 .1 .1 .1 .1 .1 .1 .1 .1 .1 .1 .1 .1 .1 .1 .1 .1 .0) (entry t .args .counts .features) (t .train .kept .1 .1 .1 .1 .1 .1 .1 .1 .1 .1 .1 .1 .1 .1 .1 .1 .1 .1 .1 .1 .1 .1 .0)
+same-length-4 c =
+    let t : tie.After-train = search in
+    search (length-front, t .train .kept)
 
 same-length-5 : tie.Need-same-length-5
-same-length-5 c = let t = trained c in length-front (entry t .args .order .now) (t .train .last .1 .1 .1 .1 .1 .1 .1 .1 .1 .1 .1 .1 .1 .1 .1 .1 .1 .1 .0) (entry t .args .totals .instances) (t .train .kept .1 .1 .1 .1 .1 .1 .1 .1 .1 .1 .1 .1 .1 .1 .1 .1 .1 .1 .0)
+same-length-5 c =
+    let t : tie.After-train = search in
+    search (length-front, t .train .kept)
 
 returns-2 : tie.Need-returns-2
 returns-2 c =
-    let t = trained c in
-    let s = entry t in
-    accepted-kept (told (t .before .before .before .before .before .before)) (fronts-kept _ _ (given s) (lent s) (t .train .ensures .0) (t .train .ensures .1))
+    let t : tie.After-train = search in
+    let e = accepted t in
+    let s = start e in
+    accepted-kept (e .enum-told .given .1) (fronts-kept _ _ (given s) (lent s) (t .train .ensures .0) (t .train .ensures .1))
 
 pub train-checked-spec : {M : Type 1} → statement M
 train-checked-spec =

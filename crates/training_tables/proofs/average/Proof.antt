@@ -5,10 +5,10 @@ use native.Mathlib.Omega.{arith}
 use borrow.Author.Needs.{needs}
 use lib.ListN.{length}
 use Rattle.lines.specs.Passes.{through}
-use Rattle.training.specs.Data.{allFinite}
+use Rattle.fronts.specs.Finite.{allFinite}
 use Rattle.training.specs.Rules.{averagedAt}
 use Rattle.lines.proofs.Laws.{through-none, through-next, through-end}
-use Rattle.training_tables.proofs.Finite.{finite-none, finite-stored, flag-next, finite-end}
+use Rattle.fronts.proofs.Finite.{finite-none, finite-stored, flag-next, finite-end}
 use Rattle.training_tables.proofs.average.Statement.{statement}
 use Rattle.training_tables.proofs.average.Tie as tie
 

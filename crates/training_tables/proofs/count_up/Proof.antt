@@ -6,7 +6,8 @@ use borrow.Author.Needs.{needs}
 use lib.ListN.{length}
 use native.Mathlib.Nat.{zero-add}
 use Rattle.training.specs.Epochs.{upTo}
-use Rattle.training_tables.proofs.Filled.{filled, filled-none, filled-next, filled-end, length-counted, getD-counted}
+use Rattle.training_tables.proofs.Counted.{length-counted, getD-counted}
+use Rattle.fronts.proofs.Filled.{filled, filled-none, filled-next, filled-end}
 use Rattle.training_tables.proofs.count_up.Statement.{statement}
 use Rattle.training_tables.proofs.count_up.Tie as tie
 

@@ -5,14 +5,15 @@ use native.Mathlib.Omega.{arith}
 use borrow.Author.Needs.{needs}
 use lib.Dec.{le→leb}
 use lib.Ieee.{inFloat}
+use Rattle.fronts.proofs.Finite.{flag-next}
 use Rattle.updates.proofs.Laws.{held, not-held, not-counted, refused-counted}
 use Rattle.updates.proofs.learn.Statement.{statement}
 use Rattle.updates.proofs.learn.Tie as tie
 use Rattle.updates.proofs.learn.Reads as reads
 use Rattle.updates.proofs.learn.Lts as lts
-use Rattle.steps.proofs.holds.Reads as holds-reads
-use Rattle.training_tables.proofs.both_finite.Reads as both-finite-reads
-use Rattle.steps.proofs.refuse.Reads as refuse-reads
+use Rattle.updates.proofs.holds.Reads as holds-reads
+use Rattle.fronts.proofs.all_finite.Reads as all-finite-reads
+use Rattle.updates.proofs.refuse.Reads as refuse-reads
 use Rattle.updates.proofs.update.Reads as update-reads
 
 -- the start, found from the update
@@ -52,8 +53,11 @@ returns c =
       record { visits = omega arith; updates = omega (arith, entry u .pre .1) },
     )
 
-both-finite-requires : tie.Need-both-finite-requires
-both-finite-requires c κs = search needs
+all-finite-requires : tie.Need-all-finite-requires
+all-finite-requires c κs = search needs
+
+all-finite-requires-2 : tie.Need-all-finite-requires-2
+all-finite-requires-2 c κs = search needs
 
 refuse-requires : tie.Need-refuse-requires
 refuse-requires c κs = search needs
@@ -72,10 +76,10 @@ returns-2 c =
     let u : tie.After-update = search in
     let h : tie.After-holds = search in
     let e : tie.Else1 = search in
-    let b : tie.After-both-finite = search in
+    let b : tie.After-all-finite2 = search in
     let t : tie.Then2 = search in
     let made = c .refuse .ensures in (
-      not-held _ _ _ _ (u .update .ensures) (sym (h .holds .ensures) ∙ e .if1 .left) (sym (b .both-finite .ensures) ∙ t .if2 .taken) (made _),
+      not-held _ _ _ _ (u .update .ensures) (sym (h .holds .ensures) ∙ e .if1 .left) (sym (flag-next (b .before .all-finite .ensures) (b .all-finite2 .ensures) refl) ∙ t .if2 .taken) (made _),
       refused-counted 9 _ _ made (entry u .pre .1 .1),
     )
 
@@ -88,10 +92,10 @@ same-length-6 c = search needs
 returns-3 : tie.Need-returns-3
 returns-3 c =
     let u : tie.After-update = search in
-    let b : tie.After-both-finite = search in
+    let b : tie.After-all-finite2 = search in
     let e : tie.Else2 = search in
     let made = c .refuse2 .ensures in (
-      not-counted _ _ _ _ (sym (b .both-finite .ensures) ∙ e .if2 .left) (made _),
+      not-counted _ _ _ _ (sym (flag-next (b .before .all-finite .ensures) (b .all-finite2 .ensures) refl) ∙ e .if2 .left) (made _),
       refused-counted 8 _ _ made (entry u .pre .1 .1),
     )
 
@@ -107,7 +111,8 @@ learn-spec =
     same-length
     same-length-2
     returns
-    both-finite-requires
+    all-finite-requires
+    all-finite-requires-2
     refuse-requires
     refuse-requires-2
     same-length-3

@@ -7,8 +7,8 @@ use Rattle.updates.proofs.update.Statement.{statement}
 use Rattle.updates.proofs.update.Tie as tie
 use Rattle.updates.proofs.update.Reads as reads
 use Rattle.updates.proofs.update.Lts as lts
-use Rattle.arow_update.proofs.update.Reads as update-reads
-use Rattle.passive_update.proofs.update.Reads as update-reads′
+use Rattle.arow.proofs.update.Reads as update-reads
+use Rattle.passive_aggressive.proofs.update.Reads as update-reads′
 use Rattle.perceptron_update.proofs.update.Reads as update-reads′′
 
 enum-told : tie.Need-enum-told

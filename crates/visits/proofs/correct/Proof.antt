@@ -7,7 +7,7 @@ use borrow.Author.Needs.{needs}
 use Rattle.lines.specs.Tables.{Model, Words}
 use Rattle.lines.specs.Counted.{countsOf}
 use Rattle.prediction.specs.Tables.{modelOf, wordsIn}
-use Rattle.training_tables.proofs.Filled.{all-of}
+use Rattle.fronts.proofs.Filled.{all-of}
 use Rattle.visits.proofs.correct.Statement.{statement}
 use Rattle.visits.proofs.correct.Tie as tie
 use Rattle.visits.proofs.correct.Reads as reads

@@ -5,8 +5,8 @@ use native.Mathlib.Nat.{le-antisymm}
 use native.Mathlib.Numerals.{add-one-le}
 use native.Mathlib.Omega.{arith}
 use Rattle.best_path.proofs.Laws.{largest-first, largest-within}
-use Rattle.best_step.proofs.Laws.{score-more, from-more}
-use Rattle.rival.specs.Rival.{scoreAt}
+use Rattle.viterbi_steps.proofs.Choices.{score-more, from-more}
+use Rattle.viterbi_end.specs.Rival.{scoreAt}
 use Rattle.viterbi_end.specs.Ends.{lastOf}
 use borrow.Author.Needs.{needs}
 use Rattle.viterbi_end.proofs.last_largest.Statement.{statement}

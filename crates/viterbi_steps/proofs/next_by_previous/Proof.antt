@@ -7,7 +7,7 @@ use native.Mathlib.Omega.{arith}
 use borrow.Author.Needs.{needs}
 use lib.ListN.{length, getD-replicate}
 use Rattle.viterbi_steps.proofs.Written.{written-length}
-use Rattle.best_step.proofs.Laws.{square-small, row-after}
+use Rattle.viterbi_steps.proofs.Choices.{square-small, row-after}
 use Rattle.viterbi_steps.proofs.Laws.{row-inside, Tried, tried-first, tried-more, tried-after, marks-within}
 use Rattle.viterbi_steps.proofs.next_by_previous.Statement.{statement}
 use Rattle.viterbi_steps.proofs.next_by_previous.Tie as tie

@@ -1,4 +1,0 @@
-pub mod Unique
-pub mod Meant
-pub mod Kept
-mod Independent
