@@ -1,4 +1,4 @@
--- What the rows of a sheet mean in plain terms: each number exactly when document 01 gives it, both ways. The proofs are in proofs/Meant.
+-- What the rows of a sheet mean in plain terms: each number exactly when document 01 gives it, both ways. The proofs are in proofs/RowsMeant.
 use mathlib.Core.Path.{_≡_}
 use mathlib.Core.List.{List, [], _∷_}
 use mathlib.Core.Logic.{_↔_, _⊎_}
