@@ -9,7 +9,7 @@ use borrow.Author.Tests.{lt-ltb, le-ltb}
 use lib.ListN.{length, getD, set, drop, length-set, length-append, drop-of-length-le}
 use lib.Seq.{sets, sets-eq, set-comm, drop-cons}
 use Rattle.answer_line.specs.Digits.{digit, digits, placesWithin, places, decimal}
-use Rattle.answer_line.specs.Line.{comma, furtherLabels, joinedLabels, stored, Put, Room, Written}
+use Rattle.answer_line.specs.Line.{comma, furtherLabels, joinedLabels, stored, Put, RoomFor, Written}
 
 -- ---- stored bytes
 
@@ -60,10 +60,10 @@ pub put-length : {p l k : List ℕ} {at end : ℕ} → Put p l at end k → leng
 put-length {p} {l} {k} {at} a = ap length (a .line) ∙ length-stored l at p
 
 -- the room of a part, and what it leaves to the next
-pub room-first : {l : List ℕ} {at : ℕ} (p q : List ℕ) → Room (p ++ q) l at → Room p l at
+pub room-first : {l : List ℕ} {at : ℕ} (p q : List ℕ) → RoomFor (p ++ q) l at → RoomFor p l at
 room-first p q h = let r = rw (length-append p q) at (h .room) in record { room = omega arith }
 
-pub room-next : {p l k : List ℕ} {at mid : ℕ} (q : List ℕ) → Put p l at mid k → Room (p ++ q) l at → Room q k mid
+pub room-next : {p l k : List ℕ} {at mid : ℕ} (q : List ℕ) → Put p l at mid k → RoomFor (p ++ q) l at → RoomFor q k mid
 room-next {p} {l} {k} {at} q a h =
     let e = put-length a in
     let r = rw (length-append p q) at (h .room) in
@@ -75,7 +75,7 @@ unfolding stored
 put-nothing h = record { next = rw (h, add-zero); line = rw h }
 
 -- a whole line
-pub put-line : {text l k : List ℕ} {end : ℕ} → Room text l 0 → Put text l 0 end k → Written text l end k
+pub put-line : {text l k : List ℕ} {end : ℕ} → RoomFor text l 0 → Put text l 0 end k → Written text l end k
 put-line {text} {l} {k} {end} h a = record { counted = omega (arith, a .next); written = a .line ∙ stored-front l text (omega (arith, h .room)) }
 
 -- ---- a text that is stored byte by byte

@@ -55,7 +55,7 @@ stored line at [] = line
 stored line at (byte ∷ part) = stored (set line at byte) (at + 1) part
 
 -- there is room for a part of a line from a place on
-pub record Room (part line : List ℕ) (at : ℕ) : Type 0 where
+pub record RoomFor (part line : List ℕ) (at : ℕ) : Type 0 where
   pub room : at + length part ≤ length line
 
 -- a part of a line that was written from a place on: the place after it, and the buffer

@@ -7,7 +7,7 @@ ghost use lib.Dec.{T};
 ghost use lib.ListN.{length};
 ghost use lib.Ieee.{isNan};
 ghost use Rattle.answer_line.specs.Digits.{digit as Digits·digit, digits, places as Digits·places, decimal};
-ghost use Rattle.answer_line.specs.Line.{joinedLabels, pathLine, refusedLine, Written, Room, Put};
+ghost use Rattle.answer_line.specs.Line.{joinedLabels, pathLine, refusedLine, Written, RoomFor, Put};
 
 // Room for every line of a path of at most 128 labels below 100.
 pub const PATH_ROOM: usize = 406;
@@ -41,7 +41,7 @@ fn places(n: u64) -> usize
 
 // Each of these writes from `at` on and answers the place after what it wrote.
 fn put(line: &mut [u8], at: usize, character: u8) -> usize
-    requires { ⌜ Room (character ∷ []) (now line) at ⌝ }
+    requires { ⌜ RoomFor (character ∷ []) (now line) at ⌝ }
     ensures { λ r. ⌜ Put (character ∷ []) (now (line .entry)) at r (now (line .exit)) ⌝ }
 {
     line[at] = character;
@@ -49,7 +49,7 @@ fn put(line: &mut [u8], at: usize, character: u8) -> usize
 }
 
 fn put_text(line: &mut [u8], at: usize, text: &[u8]) -> usize
-    requires { ⌜ Room (now text) (now line) at ⌝ }
+    requires { ⌜ RoomFor (now text) (now line) at ⌝ }
     ensures { λ r. ⌜ Put (now (text .entry)) (now (line .entry)) at r (now (line .exit)) ⌝ }
 {
     let mut i = 0usize;
@@ -77,7 +77,7 @@ fn put_digits(line: &mut [u8], at: usize, n: u64, base: u64, k: usize) -> usize
 }
 
 fn put_decimal(line: &mut [u8], at: usize, n: u64) -> usize
-    requires { ⌜ Room (decimal n) (now line) at ⌝ }
+    requires { ⌜ RoomFor (decimal n) (now line) at ⌝ }
     ensures { λ r. ⌜ Put (decimal n) (now (line .entry)) at r (now (line .exit)) ⌝ }
 {
     put_digits(line, at, n, 10, places(n))
@@ -85,7 +85,7 @@ fn put_decimal(line: &mut [u8], at: usize, n: u64) -> usize
 
 fn put_labels(line: &mut [u8], start: usize, labels: &[u32]) -> usize
     requires { ⌜ 0 < length (now labels) ⌝ }
-    requires { ⌜ Room (joinedLabels (now labels)) (now line) start ⌝ }
+    requires { ⌜ RoomFor (joinedLabels (now labels)) (now line) start ⌝ }
     ensures { λ r. ⌜ Put (joinedLabels (now (labels .entry))) (now (line .entry)) start r (now (line .exit)) ⌝ }
 {
     let mut at = put_decimal(line, start, wide(labels[0]));
@@ -102,7 +102,7 @@ fn put_labels(line: &mut [u8], start: usize, labels: &[u32]) -> usize
 pub fn path_line(sum: f64, labels: &[u32], line: &mut [u8]) -> usize
     requires { ⌜ T (not (isNan sum)) ⌝ }
     requires { ⌜ 0 < length (now labels) ⌝ }
-    requires { ⌜ Room (pathLine sum (now labels)) (now line) 0 ⌝ }
+    requires { ⌜ RoomFor (pathLine sum (now labels)) (now line) 0 ⌝ }
     ensures { λ r. ⌜ Written (pathLine sum (now (labels .entry))) (now (line .entry)) r (now (line .exit)) ⌝ }
 {
     let word = put_text(line, 0, b"PATH ");
@@ -114,7 +114,7 @@ pub fn path_line(sum: f64, labels: &[u32], line: &mut [u8]) -> usize
 
 // `REFUSED`, a number and a place.
 pub fn refused_line(number: u32, place: u64, line: &mut [u8]) -> usize
-    requires { ⌜ Room (refusedLine number place) (now line) 0 ⌝ }
+    requires { ⌜ RoomFor (refusedLine number place) (now line) 0 ⌝ }
     ensures { λ r. ⌜ Written (refusedLine number place) (now (line .entry)) r (now (line .exit)) ⌝ }
 {
     let word = put_text(line, 0, b"REFUSED ");

@@ -2,7 +2,7 @@
 use mathlib.Core.List.{List}
 use Prim.Native.Nat.{ℕ}
 use lib.Ieee.{Float}
-use Rattle.lines.specs.Passes.{nought}
+use Rattle.binary64.specs.Numbers.{nought}
 use Rattle.refusals.specs.Said.{Said, accepted, refused}
 use Rattle.best_path.specs.Lead.{Lead, none, by}
 use Rattle.viterbi.specs.Promise.{SumAndLead}

@@ -6,7 +6,7 @@ ghost use Rattle.training_tables.specs.Tables.{Held, Moved, Both, Updated};
 ghost use Prim.Native.Nat.{_≤_, ℕ};
 ghost use Rattle.lines.specs.Passes.{through};
 ghost use lib.Ieee.{Float};
-ghost use Rattle.training.specs.Data.{whole};
+ghost use Rattle.binary64.specs.Numbers.{whole};
 use training_tables::Outcome;
 
 // A square over gamma. A division by 1 changes nothing, and the loop below takes no longer than its divisions do: the compiler

@@ -7,16 +7,16 @@ use denote.Enum.Declared.{tagOf}
 use types.Run.{OneOf, miss}
 use lib.ListN.{replicate}
 use lib.Ieee.{Float}
-use Rattle.lines.specs.Passes.{nought}
+use Rattle.binary64.specs.Numbers.{nought, whole}
 use Rattle.lines.specs.Tables.{Model}
 use Rattle.refusals.specs.declared.Refusal.{Refusal}
 use Rattle.refusals.specs.Refusals.{numbered}
-use Rattle.training.specs.declared.Step.{Step}
+use Rattle.training.specs.declared.Progress.{Progress}
 use Rattle.training.specs.declared.Visit.{Visit}
 use Rattle.training.specs.declared.Visit.the-variants.{Unchanged, Updated, Refused}
 use Rattle.training.specs.declared.Training.the-variants.{Accepted, Refused as NotTrained}
 use Rattle.training.proofs.Visit.{the-type}
-use Rattle.training.specs.Data.{Data, whole}
+use Rattle.lines.specs.Data.{Data}
 use Rattle.fronts.specs.Finite.{allFinite}
 use Rattle.training.specs.Rules.{Rule, Learned, averagedBy}
 use Rattle.training.specs.Epochs.{Settings, Run, Result, isRefused, refusedWith, averaged, finished}
@@ -37,28 +37,28 @@ module _ (rule : Rule) (set : Settings) (m : Model) (d : Data) where
   averaged-end (Refused why) r e = absurd (true≢false e)
 
   module _ {features : ℕ} (e : m .features .count ≡ features) {ran : Ran} {weights beside : List Float} {r : Run} (f : Finished ran weights beside r) where
-    same-end : {b : Bool} → isRefused (ran .step .visit) ≡ b → isRefused (r .state .step .visit) ≡ b
-    same-end h = ap (λ (s : Step). isRefused (s .visit)) (sym (f .step)) ∙ h
+    same-end : {b : Bool} → isRefused (ran .progress .visit) ≡ b → isRefused (r .state .progress .visit) ≡ b
+    same-end h = ap (λ (s : Progress). isRefused (s .visit)) (sym (f .progress)) ∙ h
 
     -- a visit was refused
-    pub visit-refused : {why : Refusal} {z : List Float} → ran .step .visit ≡ Refused why → z ≡ replicate features nought → _≡_ {A = Result} (record { answer = NotTrained why; weights = z }) (finished rule set m d (r .state .step .visit) r)
+    pub visit-refused : {why : Refusal} {z : List Float} → ran .progress .visit ≡ Refused why → z ≡ replicate features nought → _≡_ {A = Result} (record { answer = NotTrained why; weights = z }) (finished rule set m d (r .state .progress .visit) r)
     unfolding finished refusedWith
     visit-refused {why} h q =
-        let v : r .state .step .visit ≡ Refused why = ap (λ (s : Step). s .visit) (sym (f .step)) ∙ h in
+        let v : r .state .progress .visit ≡ Refused why = ap (λ (s : Progress). s .visit) (sym (f .progress)) ∙ h in
         rw (v, q, e)
 
-    module _ (h : isRefused (ran .step .visit) ≡ false) {w : List Float} {all : Bool} (a : AveragedAs rule features (whole (ran .step .visits + 1)) (record { weights = weights; beside = beside }) w all) where
-      averaged-are : averagedBy rule (m .features .count) (whole (r .state .step .visits + 1)) (r .state .learned) ≡ w
-      averaged-are = rw (e, ← f .step, ← f .learned (same-end h)) (sym (a .weights))
+    module _ (h : isRefused (ran .progress .visit) ≡ false) {w : List Float} {all : Bool} (a : AveragedAs rule features (whole (ran .progress .visits + 1)) (record { weights = weights; beside = beside }) w all) where
+      averaged-are : averagedBy rule (m .features .count) (whole (r .state .progress .visits + 1)) (r .state .learned) ≡ w
+      averaged-are = rw (e, ← f .progress, ← f .learned (same-end h)) (sym (a .weights))
 
-      finite-are : {b : Bool} → all ≡ b → allFinite (averagedBy rule (m .features .count) (whole (r .state .step .visits + 1)) (r .state .learned)) (m .features .count) ≡ b
+      finite-are : {b : Bool} → all ≡ b → allFinite (averagedBy rule (m .features .count) (whole (r .state .progress .visits + 1)) (r .state .learned)) (m .features .count) ≡ b
       finite-are t = rw (averaged-are, e) (sym (a .finite) ∙ t)
 
-      pub accepted : all ≡ true → _≡_ {A = Result} (record { answer = Accepted (record { epochs = ran .epochs; visits = ran .step .visits; updates = ran .step .updates }); weights = w }) (finished rule set m d (r .state .step .visit) r)
+      pub accepted : all ≡ true → _≡_ {A = Result} (record { answer = Accepted (record { epochs = ran .epochs; visits = ran .progress .visits; updates = ran .progress .updates }); weights = w }) (finished rule set m d (r .state .progress .visit) r)
       unfolding averaged
-      accepted t = rw (averaged-end (r .state .step .visit) r (same-end h), finite-are t, averaged-are, f .epochs (same-end h), f .step)
+      accepted t = rw (averaged-end (r .state .progress .visit) r (same-end h), finite-are t, averaged-are, f .epochs (same-end h), f .progress)
 
       -- 9 for the averaging
-      pub averaging-refused : all ≡ false → {why : Refusal} {z : List Float} → why ≡ numbered 9 (ran .step .visits) → z ≡ replicate features nought → _≡_ {A = Result} (record { answer = NotTrained why; weights = z }) (finished rule set m d (r .state .step .visit) r)
+      pub averaging-refused : all ≡ false → {why : Refusal} {z : List Float} → why ≡ numbered 9 (ran .progress .visits) → z ≡ replicate features nought → _≡_ {A = Result} (record { answer = NotTrained why; weights = z }) (finished rule set m d (r .state .progress .visit) r)
       unfolding averaged refusedWith
-      averaging-refused t p q = rw (p, averaged-end (r .state .step .visit) r (same-end h), finite-are t, q, f .step, e)
+      averaging-refused t p q = rw (p, averaged-end (r .state .progress .visit) r (same-end h), finite-are t, q, f .progress, e)

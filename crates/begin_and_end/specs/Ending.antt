@@ -5,7 +5,7 @@ use mathlib.Core.List.{List}
 use Prim.Native.Nat.{ℕ, _≤_}
 use lib.ListN.{replicate}
 use lib.Ieee.{Float}
-use Rattle.lines.specs.Passes.{nought}
+use Rattle.binary64.specs.Numbers.{nought}
 use Rattle.fronts.specs.Finite.{allFinite}
 use Rattle.training.specs.Rules.{Rule, Learned, besideAtFirst, averagedBy}
 use Rattle.training.specs.Epochs.{Run, isRefused, upTo}
@@ -29,9 +29,9 @@ pub record Swept (features instances : ℕ) (order : List ℕ) (beside truly pre
   pub truly-is : truly ≡ replicate features nought
   pub predicted-is : predicted ≡ replicate features nought
 
--- the last step is the definition's; the epochs run and the tables are too, unless a visit was refused
+-- the last progress is the definition's; the epochs run and the tables are too, unless a visit was refused
 pub record Finished (made : Ran) (weights beside : List Float) (meant : Run) : Type 0 where
-  pub step : made .step ≡ meant .state .step
-  pub epochs : isRefused (meant .state .step .visit) ≡ false → made .epochs ≡ meant .epochs
-  pub learned : isRefused (meant .state .step .visit) ≡ false → _≡_ {A = Learned} (record { weights = weights; beside = beside }) (meant .state .learned)
-  pub visits : made .step .visits ≤ 16384000
+  pub progress : made .progress ≡ meant .state .progress
+  pub epochs : isRefused (meant .state .progress .visit) ≡ false → made .epochs ≡ meant .epochs
+  pub learned : isRefused (meant .state .progress .visit) ≡ false → _≡_ {A = Learned} (record { weights = weights; beside = beside }) (meant .state .learned)
+  pub visits : made .progress .visits ≤ 16384000

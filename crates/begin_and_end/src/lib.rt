@@ -8,20 +8,20 @@ ghost use lib.Ieee.{Float};
 ghost use Rattle.shuffle.specs.Shuffle.{Deal, shuffled};
 ghost use Rattle.lines.specs.Passes.{through};
 ghost use Rattle.lines.specs.Tables.{Model};
-ghost use Rattle.training.specs.Data.{Data};
+ghost use Rattle.lines.specs.Data.{Data};
 ghost use Rattle.training.specs.Rules.{Learned, besideAtFirst, averagedAt, averagedBy};
 ghost use Rattle.training.specs.Epochs.{Settings, Run, Result, finished};
 ghost use Rattle.parameters.specs.Trainers.{ruleOf};
 ghost use Rattle.begin_and_end.specs.Ending.{Begun, Swept, AveragedAs, Finished};
 use parameters::Trainer;
-use training::Step;
+use training::Progress;
 use training::Trained;
 use training::Training;
 use training::Visit;
 
-// What a run of epochs comes to: the last step, and how many epochs were run.
+// What a run of epochs comes to: the last progress, and how many epochs were run.
 pub struct Ran {
-    pub step: Step,
+    pub progress: Progress,
     pub epochs: u64,
 }
 
@@ -102,12 +102,12 @@ pub fn conclude(
     beside: &[f64],
     weights: &mut [f64],
 ) -> Training
-    requires { ⌜ (length (now weights) ≡ features) × (length (now beside) ≡ features) × (ran .step .visits ≤ 16384000) ⌝ }
-    ensures { λ r. ⌜ ((set : Settings) (m : Model) (d : Data) (meant : Run) → m .features .count ≡ features → Finished ran (now (weights .entry)) (now (beside .entry)) meant → _≡_ {A = Result} (record { answer = r; weights = now (weights .exit) }) (finished (ruleOf trainer) set m d (meant .state .step .visit) meant)) ⌝ }
+    requires { ⌜ (length (now weights) ≡ features) × (length (now beside) ≡ features) × (ran .progress .visits ≤ 16384000) ⌝ }
+    ensures { λ r. ⌜ ((set : Settings) (m : Model) (d : Data) (meant : Run) → m .features .count ≡ features → Finished ran (now (weights .entry)) (now (beside .entry)) meant → _≡_ {A = Result} (record { answer = r; weights = now (weights .exit) }) (finished (ruleOf trainer) set m d (meant .state .progress .visit) meant)) ⌝ }
 {
-    let step = ran.step;
-    let visit = step.visit;
-    let visits = step.visits;
+    let progress = ran.progress;
+    let visit = progress.visit;
+    let visits = progress.visits;
     if let Visit::Refused(why) = visit {
         fronts::fill(weights, features, 0.0);
         return Training::Refused(why);
@@ -117,7 +117,7 @@ pub fn conclude(
         return Training::Accepted(Trained {
             epochs: ran.epochs,
             visits: visits,
-            updates: step.updates,
+            updates: progress.updates,
         });
     }
     fronts::fill(weights, features, 0.0);

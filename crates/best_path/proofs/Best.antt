@@ -8,7 +8,7 @@ use lib.Ieee.Scale.{finite}
 use Rattle.binary64.specs.Order.{number}
 use Rattle.binary64.proofs.Order.{le-refl, le-trans}
 use Rattle.binary64.proofs.Sums.{add-number, add-mono}
-use Rattle.best_path.specs.Scores.{Scores, AllFinite, at, extended, sumThrough}
+use Rattle.best_path.specs.Scores.{Scores, AllFinite, labelAt, extended, sumThrough}
 use Rattle.best_path.specs.Decoded.{highest, best, back}
 use Rattle.best_path.proofs.Largest.{largest-none-above, largest-none-after}
 use Rattle.best_path.proofs.Paths.{back-within}
@@ -26,7 +26,7 @@ from s word label previous = extended s (best s word previous) previous (suc wor
 module _ (s : Scores) (words : ℕ) (some : 0 < s .labels) (fine : AllFinite s words) where
   -- the labels of the first so many words are below L
   abbrev pub Below : List ℕ → ℕ → Type 0
-  Below path count = (t : ℕ) → t < count → at path t < s .labels
+  Below path count = (t : ℕ) → t < count → labelAt path t < s .labels
 
   -- ---- one word more makes a number of a number, and keeps the order
   extended-number : (v : Float) (k t l : ℕ) → t < words → k < s .labels → l < s .labels → T (number v) → T (number (extended s v k t l))
@@ -57,13 +57,13 @@ module _ (s : Scores) (words : ℕ) (some : 0 < s .labels) (fine : AllFinite s w
   best-over t l k a b c = largest-none-above (from s t l) (highest s) (λ j h. extended-number (best s t j) j (suc t) l a (omega arith) b (best-number t j (omega arith) (omega arith))) k (omega arith)
 
   -- ---- no path that ends in a label has a sum above the best for it
-  pub last-move : (q : List ℕ) (t : ℕ) → suc t < words → Below q (suc (suc t)) → T (le (sumThrough s q t) (best s t (at q t))) → T (le (sumThrough s q (suc t)) (from s t (at q (suc t)) (at q t)))
+  pub last-move : (q : List ℕ) (t : ℕ) → suc t < words → Below q (suc (suc t)) → T (le (sumThrough s q t) (best s t (labelAt q t))) → T (le (sumThrough s q (suc t)) (from s t (labelAt q (suc t)) (labelAt q t)))
   unfolding sumThrough
-  last-move q t a l = extended-mono (sumThrough s q t) (best s t (at q t)) (at q t) (suc t) (at q (suc t)) a (l t (omega arith)) (l (suc t) (omega arith))
+  last-move q t a l = extended-mono (sumThrough s q t) (best s t (labelAt q t)) (labelAt q t) (suc t) (labelAt q (suc t)) a (l t (omega arith)) (l (suc t) (omega arith))
 
-  pub below-best : (q : List ℕ) (t : ℕ) → t < words → Below q (suc t) → T (le (sumThrough s q t) (best s t (at q t)))
-  below-best q zero a l = unfold sumThrough best in le-refl (s .state 0 (at q 0)) (best-number 0 (at q 0) a (l 0 (omega arith)))
+  pub below-best : (q : List ℕ) (t : ℕ) → t < words → Below q (suc t) → T (le (sumThrough s q t) (best s t (labelAt q t)))
+  below-best q zero a l = unfold sumThrough best in le-refl (s .state 0 (labelAt q 0)) (best-number 0 (labelAt q 0) a (l 0 (omega arith)))
   below-best q (suc t) a l =
-      le-trans (sumThrough s q (suc t)) (from s t (at q (suc t)) (at q t)) (best s (suc t) (at q (suc t)))
+      le-trans (sumThrough s q (suc t)) (from s t (labelAt q (suc t)) (labelAt q t)) (best s (suc t) (labelAt q (suc t)))
       (last-move q t a l (below-best q t (omega arith) (λ u h. l u (omega arith))))
-      (best-over t (at q (suc t)) (at q t) a (l (suc t) (omega arith)) (l t (omega arith)))
+      (best-over t (labelAt q (suc t)) (labelAt q t) a (l (suc t) (omega arith)) (l t (omega arith)))

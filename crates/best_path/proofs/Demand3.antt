@@ -9,7 +9,7 @@ use native.Mathlib.Omega.{arith}
 use lib.Dec.{T}
 use lib.Ieee.{le}
 use Rattle.binary64.proofs.Order.{le-trans}
-use Rattle.best_path.specs.Scores.{Scores, AllFinite, Allowed, at, sumThrough, sumOf}
+use Rattle.best_path.specs.Scores.{Scores, AllFinite, Allowed, labelAt, sumThrough, sumOf}
 use Rattle.best_path.specs.Decoded.{highest, best, pathTo, lastLabel, decodedPath}
 use Rattle.best_path.specs.BestPath.{NoneLarger, PrefixesBest, NotLater}
 use Rattle.best_path.specs.Demand3.{DecodedIsBest}
@@ -23,20 +23,20 @@ module _ (s : Scores) (words : ℕ) (some : 0 < s .labels) (any : 0 < words) (fi
 
   -- ---- sums against the best for a label
   -- the decoded path has it at every word
-  has-best : (t : ℕ) → t < words → sumThrough s path t ≡ best s t (at path t)
+  has-best : (t : ℕ) → t < words → sumThrough s path t ≡ best s t (labelAt path t)
   has-best t h = sum-follows s path t (λ u k. decoded-follows s words u (omega arith))
 
   -- no path is above it
-  at-most : (first : ℕ) → 0 < first → first ≤ words → (q : List ℕ) → Allowed s first q → T (le (sumOf s first q) (best s (first - 1) (at q (first - 1))))
+  at-most : (first : ℕ) → 0 < first → first ≤ words → (q : List ℕ) → Allowed s first q → T (le (sumOf s first q) (best s (first - 1) (labelAt q (first - 1))))
   at-most first more fits q allowed = below-best s words some fine q (first - 1) (omega arith) (λ t h. allowed .labels t (omega arith))
 
   -- a path whose prefixes are best reaches it at every word: the path that the steps back give for its label there is among those it is compared with
-  reaches : (q : List ℕ) → PrefixesBest s words q → (t : ℕ) → t < words → at q t < s .labels → T (le (best s t (at q t)) (sumThrough s q t))
+  reaches : (q : List ℕ) → PrefixesBest s words q → (t : ℕ) → t < words → labelAt q t < s .labels → T (le (best s t (labelAt q t)) (sumThrough s q t))
   reaches q pre t h l =
-      let p = pathTo s t (at q t) in
+      let p = pathTo s t (labelAt q t) in
       let same : suc t - 1 ≡ t = omega arith in
-      let allowed : Allowed s (suc t) p = record { long = path-length s t (at q t) ∙ add-one t; labels = λ u k. path-labels s some t (at q t) u l (le-of-suc-le-suc k) } in
-      rw (← path-sum s t (at q t)) (rw same at (pre (suc t) (omega arith) h p allowed (rw same (path-end s t (at q t)))))
+      let allowed : Allowed s (suc t) p = record { long = path-length s t (labelAt q t) ∙ add-one t; labels = λ u k. path-labels s some t (labelAt q t) u l (le-of-suc-le-suc k) } in
+      rw (← path-sum s t (labelAt q t)) (rw same at (pre (suc t) (omega arith) h p allowed (rw same (path-end s t (labelAt q t)))))
 
   -- ---- the last label is the last of those with the largest final score
   final-over : (l : ℕ) → l < s .labels → T (le (best s (words - 1) l) (best s (words - 1) (lastLabel s words)))
@@ -51,8 +51,8 @@ module _ (s : Scores) (words : ℕ) (some : 0 < s .labels) (any : 0 < words) (fi
   none-larger : NoneLarger s words path
   none-larger q allowed =
       let e = words - 1 in
-      le-trans (sumThrough s q e) (best s e (at q e)) (sumThrough s path e) (at-most words any (omega arith) q allowed)
-      (rw (has-best e (omega arith), decoded-end s words) (final-over (at q e) (allowed .labels e (omega arith))))
+      le-trans (sumThrough s q e) (best s e (labelAt q e)) (sumThrough s path e) (at-most words any (omega arith) q allowed)
+      (rw (has-best e (omega arith), decoded-end s words) (final-over (labelAt q e) (allowed .labels e (omega arith))))
 
   prefixes : PrefixesBest s words path
   prefixes first more fits q allowed same = rw (has-best (first - 1) (omega arith), ← same) (at-most first more fits q allowed)
@@ -61,21 +61,21 @@ module _ (s : Scores) (words : ℕ) (some : 0 < s .labels) (any : 0 < words) (fi
   last q allowed large pre t h agree = elim (eq-or-lt-of-le h) [ inl c ↦ at-final (omega arith) | inr c ↦ before c ]
     where
       -- at the final word q's sum is as large as the decoded path's, so q's label is as good, and not after the last of the best
-      at-final : t ≡ words - 1 → at q t ≤ at path t
+      at-final : t ≡ words - 1 → labelAt q t ≤ labelAt path t
       at-final c =
           let e = words - 1 in
           let x : T (le (best s e (lastLabel s words)) (sumThrough s q e)) = rw (← decoded-end s words, ← has-best e (omega arith)) (large path (decoded-allowed s some words any)) in
-          rw (c, decoded-end s words) (final-last (at q e) (allowed .labels e (omega arith)) (le-trans _ (sumThrough s q e) _ x (at-most words any (omega arith) q allowed)))
+          rw (c, decoded-end s words) (final-last (labelAt q e) (allowed .labels e (omega arith)) (le-trans _ (sumThrough s q e) _ x (at-most words any (omega arith) q allowed)))
 
       -- before it, q's prefix to the next word reaches the best for the label that the two share there, so q's label is a candidate that has it, and not after the step back
-      before : suc t < words → at q t ≤ at path t
+      before : suc t < words → labelAt q t ≤ labelAt path t
       before c =
-          let l = at path (suc t) in
-          let same : at q (suc t) ≡ l = agree (suc t) (omega arith) c in
-          let labels : (count : ℕ) → count ≤ words → (u : ℕ) → u < count → at q u < s .labels = λ count k u i. allowed .labels u (omega arith) in
+          let l = labelAt path (suc t) in
+          let same : labelAt q (suc t) ≡ l = agree (suc t) (omega arith) c in
+          let labels : (count : ℕ) → count ≤ words → (u : ℕ) → u < count → labelAt q u < s .labels = λ count k u i. allowed .labels u (omega arith) in
           let x : T (le (best s (suc t) l) (sumThrough s q (suc t))) = rw (← same) (reaches q pre (suc t) c (allowed .labels (suc t) c)) in
-          let y : T (le (sumThrough s q (suc t)) (from s t l (at q t))) = rw (← same) (last-move s words some fine q t c (labels (suc (suc t)) c) (below-best s words some fine q t h (labels (suc t) h))) in
-          rw (decoded-follows s words t (omega arith)) (back-last s words some fine t l (at q t) (allowed .labels t h) (le-trans _ (sumThrough s q (suc t)) _ x y))
+          let y : T (le (sumThrough s q (suc t)) (from s t l (labelAt q t))) = rw (← same) (last-move s words some fine q t c (labels (suc (suc t)) c) (below-best s words some fine q t h (labels (suc t) h))) in
+          rw (decoded-follows s words t (omega arith)) (back-last s words some fine t l (labelAt q t) (allowed .labels t h) (le-trans _ (sumThrough s q (suc t)) _ x y))
 
 pub demand-3 : DecodedIsBest
 demand-3 s words some any fine = record {

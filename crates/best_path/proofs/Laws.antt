@@ -12,7 +12,7 @@ use lib.Seq.{append-snoc}
 use lib.IntN.{pos}
 use lib.Ieee.{Float, nan, fin, binary64, add, le}
 use lib.Ieee.Scale.{finite}
-use Rattle.best_path.specs.Scores.{Scores, tabled, AllFinite, at, extended}
+use Rattle.best_path.specs.Scores.{Scores, tabled, AllFinite, labelAt, extended}
 use Rattle.best_path.specs.Decoded.{lastLargest, highest, best, back, pathTo, lastLabel, decodedPath, decodedSum}
 use Rattle.best_path.specs.Lead.{other, rival}
 use Rattle.best_path.specs.PathScore.{pathScore}
@@ -104,7 +104,7 @@ module _ (s : Scores) where
   pub path-back : (word label : ℕ) (rest : List ℕ) → pathTo s (word + 1) label ++ rest ≡ pathTo s word (back s word label) ++ (label ∷ rest)
   path-back word label rest = rw (path-more word label, append-snoc)
 
-  pub decoded-step : (words word : ℕ) → word + 1 < words → at (decodedPath s words) word ≡ back s word (at (decodedPath s words) (word + 1))
+  pub decoded-step : (words word : ℕ) → word + 1 < words → labelAt (decodedPath s words) word ≡ back s word (labelAt (decodedPath s words) (word + 1))
   decoded-step words word h = rw (add-one word) (decoded-follows s words word (omega arith))
 
   -- ---- the score of a path
@@ -113,11 +113,11 @@ module _ (s : Scores) where
     unfolding pathScore
     score-none = refl
 
-    pub score-first : pathScore s path 1 ≡ add binary64 (fin false 0 (pos 0)) (s .state 0 (at path 0))
+    pub score-first : pathScore s path 1 ≡ add binary64 (fin false 0 (pos 0)) (s .state 0 (labelAt path 0))
     unfolding pathScore
     score-first = refl
 
-    pub score-more : (word : ℕ) → 0 < word → pathScore s path (word + 1) ≡ add binary64 (add binary64 (pathScore s path word) (s .state word (at path word))) (s .transition (at path (word - 1)) (at path word))
+    pub score-more : (word : ℕ) → 0 < word → pathScore s path (word + 1) ≡ add binary64 (add binary64 (pathScore s path word) (s .state word (labelAt path word))) (s .transition (labelAt path (word - 1)) (labelAt path word))
     unfolding pathScore
     score-more zero h = absurd (omega arith)
     score-more (suc word) h = let before : suc word - 1 ≡ word = omega arith in rw (add-one (suc word), before)

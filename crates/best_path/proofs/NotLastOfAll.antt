@@ -9,7 +9,7 @@ use lib.ListN.{length, getD}
 use lib.Ieee.{Float, nan, add, le}
 use lib.Ieee.Fits.{and-l, and-r}
 use lib.Ieee.Scale.{finite}
-use Rattle.best_path.specs.Scores.{AllFinite, Allowed, at, extended, sumThrough, sumOf}
+use Rattle.best_path.specs.Scores.{AllFinite, Allowed, labelAt, extended, sumThrough, sumOf}
 use Rattle.best_path.specs.Decoded.{lastLargest, best, back, pathTo, lastLabel, decodedPath}
 use Rattle.best_path.specs.BestPath.{NoneLarger}
 use Rattle.best_path.specs.NotLastOfAll.{LastOfAll, DecodedIsLastOfAll, transitions, states, swallowing}
@@ -44,7 +44,7 @@ fine = tabled-finite 2 3 transitions states (each-finite transitions tt) (each-f
 tie-allowed : Allowed swallowing 3 (1 ∷ 1 ∷ 1 ∷ [])
 tie-allowed = record { long = refl; labels = below }
   where
-    below : (word : ℕ) → word < 3 → at (1 ∷ 1 ∷ 1 ∷ []) word < 2
+    below : (word : ℕ) → word < 3 → labelAt (1 ∷ 1 ∷ 1 ∷ []) word < 2
     below zero h = omega arith
     below (suc zero) h = omega arith
     below (suc (suc zero)) h = omega arith
@@ -56,7 +56,7 @@ tie-best q allowed = rw same-sum (rw decoded at (demand-3 swallowing 3 (omega ar
 later-label : LastOfAll swallowing 3 (0 ∷ 1 ∷ 1 ∷ []) → ⊥
 later-label claim = let h : 1 ≤ 0 = claim (1 ∷ 1 ∷ 1 ∷ []) tie-allowed tie-best 0 (omega arith) agree in omega arith
   where
-    agree : (later : ℕ) → 0 < later → later < 3 → at (1 ∷ 1 ∷ 1 ∷ []) later ≡ at (0 ∷ 1 ∷ 1 ∷ []) later
+    agree : (later : ℕ) → 0 < later → later < 3 → labelAt (1 ∷ 1 ∷ 1 ∷ []) later ≡ labelAt (0 ∷ 1 ∷ 1 ∷ []) later
     agree zero h k = absurd (omega arith)
     agree (suc later) h k = refl
 

@@ -9,7 +9,7 @@ use native.Mathlib.Omega.{arith}
 use lib.ListN.{length, length-append, List·getD-append}
 use lib.Seq.{getD-at}
 use lib.Ieee.{Float}
-use Rattle.best_path.specs.Scores.{Scores, Allowed, at, sumThrough, sumOf}
+use Rattle.best_path.specs.Scores.{Scores, Allowed, labelAt, sumThrough, sumOf}
 use Rattle.best_path.specs.Decoded.{lastLargest, highest, best, back, pathTo, lastLabel, decodedPath, decodedSum}
 use Rattle.best_path.proofs.Largest.{newest, largest-within}
 
@@ -20,12 +20,12 @@ module _ (s : Scores) where
   path-length (suc word) label = rw (length-append, path-length word (back s word label)) (omega arith)
 
   -- ---- its labels
-  pub path-end : (word label : ℕ) → at (pathTo s word label) word ≡ label
+  pub path-end : (word label : ℕ) → labelAt (pathTo s word label) word ≡ label
   unfolding pathTo
   path-end zero label = refl
   path-end (suc word) label = getD-at (pathTo s word (back s word label)) label [] 0 (suc word) (path-length word (back s word label) ∙ add-one word)
 
-  path-before : (word label t : ℕ) → t ≤ word → at (pathTo s (suc word) label) t ≡ at (pathTo s word (back s word label)) t
+  path-before : (word label t : ℕ) → t ≤ word → labelAt (pathTo s (suc word) label) t ≡ labelAt (pathTo s word (back s word label)) t
   unfolding pathTo
   path-before word label t h = List·getD-append (pathTo s word (back s word label)) (label ∷ []) 0 t (rw (path-length word (back s word label)) (omega arith))
 
@@ -37,7 +37,7 @@ module _ (s : Scores) where
   unfolding back
   back-within some word label = largest-label some _
 
-  pub path-labels : 0 < s .labels → (word label t : ℕ) → label < s .labels → t ≤ word → at (pathTo s word label) t < s .labels
+  pub path-labels : 0 < s .labels → (word label t : ℕ) → label < s .labels → t ≤ word → labelAt (pathTo s word label) t < s .labels
   path-labels some zero label t l h = let e : t ≡ 0 = omega arith in rw (e, path-end zero label) l
   path-labels some (suc word) label t l h =
       elim (newest t word h) [
@@ -47,7 +47,7 @@ module _ (s : Scores) where
 
   -- ---- each is the step back from the next, for the words before `word`
   abbrev pub Follows : List ℕ → ℕ → Type 0
-  Follows path word = (t : ℕ) → t < word → at path t ≡ back s t (at path (suc t))
+  Follows path word = (t : ℕ) → t < word → labelAt path t ≡ back s t (labelAt path (suc t))
 
   pub path-follows : (word label : ℕ) → Follows (pathTo s word label) word
   path-follows zero label t h = absurd (N.not-suc-le-zero h)
@@ -60,7 +60,7 @@ module _ (s : Scores) where
       ]
 
   -- ---- a path that follows the steps back has the best sum of its last label, and so has each of its prefixes
-  pub sum-follows : (path : List ℕ) (word : ℕ) → Follows path word → sumThrough s path word ≡ best s word (at path word)
+  pub sum-follows : (path : List ℕ) (word : ℕ) → Follows path word → sumThrough s path word ≡ best s word (labelAt path word)
   unfolding sumThrough best
   sum-follows path zero f = refl
   sum-follows path (suc word) f = rw (sum-follows path word (λ t h. f t (omega arith)), f word (N.le-refl (suc word))) (unfold back in refl)
@@ -84,7 +84,7 @@ module _ (s : Scores) where
     labels = λ t k. path-labels some (words - 1) (lastLabel s words) t (last-label-within some words) (omega arith);
   }
 
-  pub decoded-end : (words : ℕ) → at (decodedPath s words) (words - 1) ≡ lastLabel s words
+  pub decoded-end : (words : ℕ) → labelAt (decodedPath s words) (words - 1) ≡ lastLabel s words
   unfolding decodedPath
   decoded-end words = path-end (words - 1) (lastLabel s words)
 

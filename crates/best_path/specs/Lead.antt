@@ -29,9 +29,9 @@ unfoldable pub positiveZero : Float → Float
 positiveZero x = cond (eq x (fin false 0 (pos 0))) (fin false 0 (pos 0)) x
 
 -- the difference of two scores, "rounded once"; "no lead .. when either score is not finite"
-unfoldable pub difference : Float → Float → Lead
-difference x y = cond (finite x && finite y) (by (positiveZero (sub binary64 x y))) none
+unfoldable pub leadBetween : Float → Float → Lead
+leadBetween x y = cond (finite x && finite y) (by (positiveZero (sub binary64 x y))) none
 
 -- "with L at least 2, the best final score minus the largest final score at any other last label"; "no lead" with L = 1
 unfoldable pub lead : Scores → ℕ → Lead
-lead s words = cond (ltb 1 (s .labels)) (difference (best s (words - 1) (lastLabel s words)) (rival s words)) none
+lead s words = cond (ltb 1 (s .labels)) (leadBetween (best s (words - 1) (lastLabel s words)) (rival s words)) none

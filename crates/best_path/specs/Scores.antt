@@ -27,13 +27,13 @@ pub record AllFinite (s : Scores) (words : ℕ) : Type 0 where
   pub transitions : (previous label : ℕ) → previous < s .labels → label < s .labels → T (finite (s .transition previous label))
 
 -- the label that a path gives to a word
-abbrev pub at : List ℕ → ℕ → ℕ
-at path word = getD path word 0
+abbrev pub labelAt : List ℕ → ℕ → ℕ
+labelAt path word = getD path word 0
 
 -- the paths of so many words that are compared with each other: all those whose labels are below L
 pub record Allowed (s : Scores) (words : ℕ) (path : List ℕ) : Type 0 where
   pub long : length path ≡ words
-  pub labels : (word : ℕ) → word < words → at path word < s .labels
+  pub labels : (word : ℕ) → word < words → labelAt path word < s .labels
 
 -- one word more: "(best of previous + transition) + state", each sum rounded
 unfoldable pub extended : Scores → Float → ℕ → ℕ → ℕ → Float
@@ -41,8 +41,8 @@ extended s before previous word label = add binary64 (add binary64 before (s .tr
 
 -- "sums from the first word, transition before state": the sum of a path over the words 0 to `word`
 unfoldable pub sumThrough : Scores → List ℕ → ℕ → Float
-sumThrough s path zero = s .state 0 (at path 0)
-sumThrough s path (suc word) = extended s (sumThrough s path word) (at path word) (suc word) (at path (suc word))
+sumThrough s path zero = s .state 0 (labelAt path 0)
+sumThrough s path (suc word) = extended s (sumThrough s path word) (labelAt path word) (suc word) (labelAt path (suc word))
 
 -- the rounded sum of a path of so many words
 abbrev pub sumOf : Scores → ℕ → List ℕ → Float

@@ -2,16 +2,13 @@
 use mathlib.Core.Path.{_≡_, refl, sym}
 use mathlib.Core.Bool.{Bool, true, false, not, cond, _&&_}
 use Prim.Native.Nat.{ℕ, _*_, _<_}
-use lib.IntN.{pos}
 use native.Mathlib.Nat.{zero-mul, sub-self, le-refl, mul-pos}
 use native.Mathlib.Omega.{arith}
 use borrow.Author.Tests.{le-ltb}
 use lib.Ieee.{Float, nan, inf, fin, binary64, sub, eq, sum, round, up, down}
 use lib.Ieee.Fits.{down-pos}
 use lib.Ieee.Scale.{finite, round-same}
-
-abbrev nought : Float
-nought = fin false 0 (pos 0)
+use Rattle.binary64.specs.Numbers.{nought}
 
 nothing : (c : ℕ) → 0 < c → round binary64 false 0 c ≡ nought
 unfolding round

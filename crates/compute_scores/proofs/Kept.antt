@@ -8,7 +8,7 @@ use Rattle.refusals.specs.declared.Refusal.{Refusal}
 use Rattle.refusals.specs.declared.Checked.{Checked}
 use Rattle.refusals.specs.declared.Checked.the-variants.{Accepted, Refused}
 use Rattle.refusals.specs.Refusals.{orNext}
-use Rattle.score_tables.specs.Sound.{Sized}
+use Rattle.score_tables.specs.Sound.{ScoresSized}
 use Rattle.lines.proofs.Fronts.{length-states, length-transitions}
 use Rattle.line_check.specs.Sound.{SoundScoring}
 use Rattle.finished.specs.Rows.{scoresFinished}
@@ -17,7 +17,7 @@ use Rattle.finished.proofs.Laws.{scores-front, contents-kept}
 use Rattle.compute_scores.specs.Promise.{Given, Buffers, stateEntries, transitionEntries, statesOfLine, transitionsOfLine, scoringOf, checkedOf, finishedOf, answerTo, statesAfter, transitionsAfter, Promised}
 
 -- tables that are as long as an accepted call's buffers have room
-pub sized : (given : Given) (before : Buffers) → SoundScoring (scoringOf given before) → (states transitions : List Float) → length states ≡ length (before .states) → length transitions ≡ length (before .transitions) → Sized (given .model .labels) (given .words) transitions states
+pub sized : (given : Given) (before : Buffers) → SoundScoring (scoringOf given before) → (states transitions : List Float) → length states ≡ length (before .states) → length transitions ≡ length (before .transitions) → ScoresSized (given .model .labels) (given .words) transitions states
 sized given before s states transitions p q =
     let l = s .model .sound .labels-in in
     let w = s .line .words-in in

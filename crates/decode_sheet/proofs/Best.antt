@@ -11,7 +11,7 @@ use Rattle.best_path.specs.Decoded.{decodedPath, decodedSum}
 use Rattle.best_path.specs.BestPath.{BestPath}
 use Rattle.best_path.proofs.Laws.{tabled-finite}
 use Rattle.best_path.proofs.Demand3.{demand-3}
-use Rattle.sheet.specs.File.{Sheet, encoded, Sound}
+use Rattle.sheet.specs.File.{Sheet, encoded, SoundSheet}
 use Rattle.sheet.proofs.Files.{labels-back, words-back, transitions-back, states-back, right-file, right-files}
 use Rattle.answer_line.specs.Line.{pathLine}
 use Rattle.answer_line.proofs.OneSaying.{one-saying}
@@ -24,7 +24,7 @@ use Rattle.decode_sheet.proofs.Print.{path-by}
 use Rattle.decode_sheet.proofs.Prints.{path-line-back, prints-the-path}
 use Rattle.decode_sheet.proofs.Meant.{sayable, answering-means, printing-means, line-printed}
 
-module _ (s : Sheet) (sound : Sound s) where
+module _ (s : Sheet) (sound : SoundSheet s) where
   decoded-best : BestPath (scoresOf s) (s .words) (decodedPath (scoresOf s) (s .words)) (decodedSum (scoresOf s) (s .words))
   decoded-best =
       demand-3 (scoresOf s) (s .words) (sound .labels-in .low) (sound .words-in .low)
@@ -53,7 +53,7 @@ best-said s line b sum labels says =
 
 pub printed-paths-are-best : PrintedPathsAreBest
 printed-paths-are-best bytes before size after p =
-    let every : (s : Sheet) → Sound s → bytes ≡ encoded s → SaysBest s (take size after) = λ s sound e. says-best s sound _ (line-printed p ∙ ap printedLine e ∙ prints-the-path s sound) in
+    let every : (s : Sheet) → SoundSheet s → bytes ≡ encoded s → SaysBest s (take size after) = λ s sound e. says-best s sound _ (line-printed p ∙ ap printedLine e ∙ prints-the-path s sound) in
     record {
       every = every;
       only = λ all sum labels says.
@@ -73,7 +73,7 @@ pub answered-paths-are-best : AnsweredPathsAreBest
 answered-paths-are-best given before outcome p =
     let m = answering-means given before outcome p .accepted in
     let line = answered-line given before outcome p in
-    let every : (s : Sheet) → Sound s → given .bytes ≡ encoded s → (size : ℕ) → said (outcome .answer) ≡ accepted size → SaysBest s (take size (outcome .line)) = λ s sound e size h. says-best s sound _ (line size h ∙ ap pathLineOf e ∙ path-line-back s sound) in
+    let every : (s : Sheet) → SoundSheet s → given .bytes ≡ encoded s → (size : ℕ) → said (outcome .answer) ≡ accepted size → SaysBest s (take size (outcome .line)) = λ s sound e size h. says-best s sound _ (line size h ∙ ap pathLineOf e ∙ path-line-back s sound) in
     record {
       every = λ s sound e long.
           let a = m .1 (rw e (right-file s sound), long) in

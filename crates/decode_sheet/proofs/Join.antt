@@ -8,7 +8,7 @@ use lib.Seq.{take-at, length-take-le}
 use lib.Ieee.{Float}
 use Rattle.refusals.specs.declared.Refusal.{Refusal}
 use Rattle.refusals.specs.declared.Checked.the-variants.{Accepted, Refused}
-use Rattle.score_tables.specs.Sound.{Sound}
+use Rattle.score_tables.specs.Sound.{SoundScores}
 use Rattle.sheet.specs.declared.Reading.{Reading}
 use Rattle.sheet.specs.Fields.{labelsIn, wordsIn, transitionsIn, statesIn}
 use Rattle.sheet.specs.Rows.{Lent, sheetChecked}
@@ -53,7 +53,7 @@ pub record Tables (bytes before : List ℕ) (transitions states : List Float) (r
   pub line-long : 406 ≤ length before
   pub labels-are : labels ≡ labelsIn bytes
   pub words-are : words ≡ wordsIn bytes
-  pub sound : Sound (labelsIn bytes) (wordsIn bytes) (transitionsIn bytes) (statesIn bytes)
+  pub sound : SoundScores (labelsIn bytes) (wordsIn bytes) (transitionsIn bytes) (statesIn bytes)
   pub transitions-front : take (labelsIn bytes * labelsIn bytes) (o .transitions ++ drop room transitions) ≡ transitionsIn bytes
   pub states-front : take (wordsIn bytes * labelsIn bytes) (o .states) ≡ statesIn bytes
   pub transitions-long : labelsIn bytes * labelsIn bytes ≤ length (o .transitions ++ drop room transitions)

@@ -12,11 +12,11 @@ use Rattle.best_path.specs.Scores.{Scores, tabled}
 use Rattle.best_path.specs.Decoded.{lastLabel, decodedPath, decodedSum}
 use Rattle.best_path.proofs.Paths.{decoded-length, decoded-allowed, last-label-within}
 use Rattle.best_path.proofs.Best.{best-number}
-use Rattle.score_tables.specs.Sound.{Sound}
-use Rattle.answer_line.specs.Line.{pathLine, Room}
+use Rattle.score_tables.specs.Sound.{SoundScores}
+use Rattle.answer_line.specs.Line.{pathLine, RoomFor}
 use Rattle.answer_line.proofs.Longest.{longest}
 
-module _ {labels words : ℕ} {transitions states : List Float} (sound : Sound labels words transitions states) where
+module _ {labels words : ℕ} {transitions states : List Float} (sound : SoundScores labels words transitions states) where
   abbrev scores : Scores
   scores = tabled labels transitions states
 
@@ -35,7 +35,7 @@ module _ {labels words : ℕ} {transitions states : List Float} (sound : Sound l
   pub path-front : (rest : List ℕ) → take words (decodedPath scores words ++ rest) ≡ decodedPath scores words
   path-front rest = take-at (decodedPath scores words) rest words path-length
 
-  pub line-room : (x : Float) (line : List ℕ) → 406 ≤ length line → Room (pathLine x (decodedPath scores words)) line 0
+  pub line-room : (x : Float) (line : List ℕ) → 406 ≤ length line → RoomFor (pathLine x (decodedPath scores words)) line 0
   line-room x line h =
       let a = decoded-allowed scores (sound .sized .labels-in .low) words (sound .sized .words-in .low) in
       let high = sound .sized .labels-in .high in

@@ -1,17 +1,15 @@
 -- The bytes of the longest sheet do not decide the line of a file that begins with them: with one byte more it is refused. Assumes nothing.
 use mathlib.Core.Path.{_≡_, sym, _∙_, ap}
-use mathlib.Core.Bool.{false}
 use mathlib.Core.List.{List, [], _∷_, _++_}
 use Prim.Native.Nat.{ℕ, _<_}
 use native.Mathlib.Omega.{arith}
-use lib.IntN.{pos}
 use lib.ListN.{length, take, replicate, length-replicate, getD-replicate, length-append}
 use lib.Seq.{take-at}
-use lib.Ieee.{Float, nan, fin, fits}
+use lib.Ieee.{Float, nan, fits}
 use Rattle.refusals.specs.declared.Checked.{Checked}
 use Rattle.refusals.specs.declared.Checked.the-variants.{Accepted, Refused}
 use Rattle.refusals.specs.Refusals.{refusedAt, orNext}
-use Rattle.sheet.specs.File.{Sheet, encoded, Finite64, Sound}
+use Rattle.sheet.specs.File.{Sheet, encoded, Finite64, SoundSheet}
 use Rattle.sheet.proofs.Files.{long}
 use Rattle.answer_line.specs.Line.{pathLine}
 use Rattle.answer_line.proofs.OneSaying.{one-saying}
@@ -21,9 +19,7 @@ use Rattle.decode_sheet.specs.Program.{lineSaid, printedLine}
 use Rattle.decode_sheet.specs.Front.{longestSheet, LessDoesNot}
 use Rattle.decode_sheet.proofs.Prints.{prints-the-path}
 use Rattle.decode_sheet.proofs.Front.{long-file}
-
-abbrev nought : Float
-nought = fin false 0 (pos 0)
+use Rattle.binary64.specs.Numbers.{nought}
 
 noughts : (n : ℕ) → Finite64 (replicate n nought)
 unfolding fits
@@ -35,7 +31,7 @@ noughts n =
 largest : Sheet
 largest = record { labels = 32; words = 128; transitions = replicate 1024 nought; states = replicate 4096 nought }
 
-largest-sound : Sound largest
+largest-sound : SoundSheet largest
 unfolding largest
 largest-sound = record {
   labels-in = record { low = omega arith; high = omega arith };
@@ -57,7 +53,7 @@ refused-apart Accepted sum labels text e = one-saying .either sum labels 10 0 e
 refused-apart (Refused why) sum labels text e = one-saying .either sum labels (why .number) (why .place) e
 
 -- a longer file is refused, and its front is not
-longer-apart : (s : Sheet) → Sound s → (file : List ℕ) → longestSheet < length file → printedLine (encoded s) ≡ printedLine file → ⊥
+longer-apart : (s : Sheet) → SoundSheet s → (file : List ℕ) → longestSheet < length file → printedLine (encoded s) ≡ printedLine file → ⊥
 unfolding printedLine
 longer-apart s sound file h e =
     refused-apart (headChecked file) _ _ (pathLineOf file)

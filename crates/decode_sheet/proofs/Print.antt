@@ -8,7 +8,7 @@ use Rattle.refusals.specs.declared.Refusal.{Refusal}
 use Rattle.refusals.specs.declared.Checked.{Checked}
 use Rattle.refusals.specs.declared.Checked.the-variants.{Accepted, Refused}
 use Rattle.answer_line.specs.Line as line
-use Rattle.answer_line.specs.Line.{refusedLine, Room}
+use Rattle.answer_line.specs.Line.{refusedLine, RoomFor}
 use Rattle.answer_line.proofs.Longest.{longest}
 use Rattle.refusals.specs.Said.{accepted, refused}
 use Rattle.refusals.proofs.Said.{same-refusal}
@@ -18,7 +18,7 @@ use Rattle.decode_sheet.specs.Promise.{Outcome, answerBy, answerTo, line
 use Rattle.decode_sheet.specs.Program.{printedLine, Printed}
 
 -- the room of a refusal's line
-pub refused-room : (number place : ℕ) (l : List ℕ) → length l ≡ 406 → Room (refusedLine number place) l 0
+pub refused-room : (number place : ℕ) (l : List ℕ) → length l ≡ 406 → RoomFor (refusedLine number place) l 0
 refused-room number place l e = record { room = omega (arith, longest .refused number place) }
 
 -- what the answer says of the rows

@@ -3,14 +3,14 @@ use mathlib.Core.Path.{_≡_}
 use Rattle.refusals.specs.declared.Checked.the-variants.{Accepted}
 use Rattle.best_path.specs.Scores.{tabled}
 use Rattle.best_path.specs.Decoded.{decodedPath, decodedSum}
-use Rattle.sheet.specs.File.{Sheet, encoded, Sound}
+use Rattle.sheet.specs.File.{Sheet, encoded, SoundSheet}
 use Rattle.sheet.proofs.Files.{labels-back, words-back, transitions-back, states-back, right-file}
 use Rattle.answer_line.specs.Line.{pathLine}
 use Rattle.decode_sheet.specs.Answer.{pathLineOf, lineChecked}
 use Rattle.decode_sheet.specs.Program.{printedLine, PrintsThePath}
 use Rattle.decode_sheet.proofs.Meant.{rows-mean}
 
-pub path-line-back : (s : Sheet) → Sound s →
+pub path-line-back : (s : Sheet) → SoundSheet s →
     let scores = tabled (s .labels) (s .transitions) (s .states) in
     pathLineOf (encoded s) ≡ pathLine (decodedSum scores (s .words)) (decodedPath scores (s .words))
 unfolding pathLineOf

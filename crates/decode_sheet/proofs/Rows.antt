@@ -14,7 +14,7 @@ use Rattle.refusals.specs.Refusals.{refuse}
 use Rattle.refusals.specs.Tables.{short}
 use Rattle.refusals.proofs.Laws.{passes}
 use Rattle.score_tables.specs.Rows.{two}
-use Rattle.score_tables.specs.Sound.{LabelsIn, WordsIn, Sound}
+use Rattle.score_tables.specs.Sound.{LabelsIn, WordsIn, SoundScores}
 use Rattle.score_tables.proofs.Laws.{all-finite}
 use Rattle.score_tables.specs.Meaning.{Row}
 use Rattle.score_tables.proofs.Order.{row}
@@ -77,7 +77,7 @@ unfolding statesIn
 states-size bytes = length-numbers _ _
 
 -- the tables that an accepted file holds are sound
-pub sound-in : (bytes : List ℕ) (before : Lent) → Accepts bytes before → Sound (labelsIn bytes) (wordsIn bytes) (transitionsIn bytes) (statesIn bytes)
+pub sound-in : (bytes : List ℕ) (before : Lent) → Accepts bytes before → SoundScores (labelsIn bytes) (wordsIn bytes) (transitionsIn bytes) (statesIn bytes)
 sound-in bytes before a =
     let l = a .sizes-in .room .labels-in in
     let w = a .sizes-in .room .words-in in

@@ -7,7 +7,7 @@ use lib.Ieee.{Float}
 use Rattle.refusals.specs.Said.{accepted}
 use Rattle.best_path.specs.Scores.{Scores, tabled}
 use Rattle.best_path.specs.BestPath.{BestPath}
-use Rattle.sheet.specs.File.{Sheet, encoded, Sound}
+use Rattle.sheet.specs.File.{Sheet, encoded, SoundSheet}
 use Rattle.sheet.specs.Files.{Bytes}
 use Rattle.decode_sheet.specs.Promise.{Given, Outcome, said, Promised}
 use Rattle.decode_sheet.specs.Program.{Printed}
@@ -27,17 +27,17 @@ pub record SaysBest (s : Sheet) (line : List ℕ) : Type 0 where
 -- what was printed of the bytes
 pub record PathsPrinted (bytes line : List ℕ) : Type 0 where
   -- the file of every sound sheet is answered by the line of a best path
-  pub every : (s : Sheet) → Sound s → bytes ≡ encoded s → SaysBest s line
+  pub every : (s : Sheet) → SoundSheet s → bytes ≡ encoded s → SaysBest s line
   -- nothing else is answered by a path, and the path that the line says is best
-  pub only : Bytes bytes → (sum : Float) (labels : List ℕ) → SaysPath line sum labels → (s : Sheet) × Sound s × (bytes ≡ encoded s) × BestPath (scoresOf s) (s .words) labels sum
+  pub only : Bytes bytes → (sum : Float) (labels : List ℕ) → SaysPath line sum labels → (s : Sheet) × SoundSheet s × (bytes ≡ encoded s) × BestPath (scoresOf s) (s .words) labels sum
 
 abbrev pub PrintedPathsAreBest : Type 0
 PrintedPathsAreBest = (bytes before : List ℕ) (size : ℕ) (after : List ℕ) → Printed bytes before size after → PathsPrinted bytes (take size after)
 
 -- what `decode_sheet` answers
 pub record PathsAnswered (bytes before : List ℕ) (outcome : Outcome) : Type 0 where
-  pub every : (s : Sheet) → Sound s → bytes ≡ encoded s → 406 ≤ length before → (size : ℕ) × (said (outcome .answer) ≡ accepted size) × SaysBest s (take size (outcome .line))
-  pub only : Bytes bytes → (size : ℕ) → said (outcome .answer) ≡ accepted size → (s : Sheet) × Sound s × (bytes ≡ encoded s) × SaysBest s (take size (outcome .line))
+  pub every : (s : Sheet) → SoundSheet s → bytes ≡ encoded s → 406 ≤ length before → (size : ℕ) × (said (outcome .answer) ≡ accepted size) × SaysBest s (take size (outcome .line))
+  pub only : Bytes bytes → (size : ℕ) → said (outcome .answer) ≡ accepted size → (s : Sheet) × SoundSheet s × (bytes ≡ encoded s) × SaysBest s (take size (outcome .line))
 
 abbrev pub AnsweredPathsAreBest : Type 0
 AnsweredPathsAreBest = (given : Given) (before : List ℕ) (outcome : Outcome) → Promised given before outcome → PathsAnswered (given .bytes) before outcome

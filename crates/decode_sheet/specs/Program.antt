@@ -7,7 +7,7 @@ use Rattle.refusals.specs.declared.Checked.{Checked}
 use Rattle.refusals.specs.declared.Checked.the-variants.{Accepted, Refused}
 use Rattle.best_path.specs.Scores.{tabled}
 use Rattle.best_path.specs.Decoded.{decodedPath, decodedSum}
-use Rattle.sheet.specs.File.{Sheet, encoded, Sound}
+use Rattle.sheet.specs.File.{Sheet, encoded, SoundSheet}
 use Rattle.answer_line.specs.Line.{pathLine, refusedLine}
 use Rattle.decode_sheet.specs.Answer.{pathLineOf, lineChecked}
 
@@ -23,7 +23,7 @@ printedLine bytes = lineSaid (lineChecked bytes 406) (pathLineOf bytes)
 -- the file of every sound sheet is answered by the line of its decoded path and sum. The proof is in proofs/Prints
 abbrev pub PrintsThePath : Type 0
 PrintsThePath =
-    (s : Sheet) → Sound s →
+    (s : Sheet) → SoundSheet s →
     let scores = tabled (s .labels) (s .transitions) (s .states) in
     printedLine (encoded s) ≡ pathLine (decodedSum scores (s .words)) (decodedPath scores (s .words))
 

@@ -4,7 +4,7 @@ ghost use Prim.Native.Nat.{_≤_};
 ghost use lib.ListN.{length};
 ghost use Rattle.best_path.specs.Scores.{tabled};
 ghost use Rattle.best_path.specs.Decoded.{decodedPath, decodedSum};
-ghost use Rattle.score_tables.specs.Sound.{Sound};
+ghost use Rattle.score_tables.specs.Sound.{SoundScores};
 ghost use Rattle.answer_line.specs.Line.{pathLine, Written as Line·Written};
 ghost use Rattle.decode_sheet.specs.Promise.{Promised};
 ghost use Rattle.decode_sheet.specs.Program.{Printed};
@@ -26,7 +26,7 @@ fn write_path(
     states: &[f64],
     line: &mut [u8],
 ) -> usize
-    requires { ⌜ Sound labels words (now transitions) (now states) ⌝ }
+    requires { ⌜ SoundScores labels words (now transitions) (now states) ⌝ }
     requires { ⌜ 406 ≤ length (now line) ⌝ }
     ensures { λ r. ⌜ Line·Written (pathLine (decodedSum (tabled labels (now (transitions .entry)) (now (states .entry))) words) (decodedPath (tabled labels (now (transitions .entry)) (now (states .entry))) words)) (now (line .entry)) r (now (line .exit)) ⌝ }
 {

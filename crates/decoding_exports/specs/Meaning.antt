@@ -6,7 +6,7 @@ use lib.ListN.{length, take}
 use Rattle.best_path.specs.Scores.{tabled}
 use Rattle.best_path.specs.BestPath.{BestPath}
 use Rattle.best_path.specs.PathScore.{pathScore}
-use Rattle.score_tables.specs.Sound.{Sound}
+use Rattle.score_tables.specs.Sound.{SoundScores}
 use Rattle.viterbi.specs.Meaning as decoding
 use Rattle.viterbi.specs.Promise.{Given, scoresOf}
 use Rattle.sequence_score.specs.Promise as path
@@ -27,7 +27,7 @@ DecodesMean =
 abbrev pub EveryLineIsBest : Type 0
 EveryLineIsBest =
     (given : Given) (before : List ℕ) (outcome : DecodedLine) → Decodes given before outcome →
-    Sound (given .labels) (given .words) (given .transitions) (given .states) → given .words ≤ length before →
+    SoundScores (given .labels) (given .words) (given .transitions) (given .states) → given .words ≤ length before →
     (outcome .answer .number ≡ 0) × BestPath (scoresOf given) (given .words) (take (given .words) (outcome .path)) (outcome .answer .sum)
 
 abbrev pub ScoresMean : Type 0

@@ -8,7 +8,7 @@ use lib.Ieee.{Float, binary64, ofBits, toBits, add, sub, mul, div, lt, le, eq, i
 use Rattle.refusals.specs.declared.Refusal.{Refusal}
 use Rattle.best_path.specs.Scores.{Scores, tabled, extended}
 use Rattle.best_path.specs.Decoded.{lastLargest, best, back, pathTo, lastLabel, decodedPath, decodedSum}
-use Rattle.best_path.specs.Lead.{rival, positiveZero, difference, lead, none, by as ahead}
+use Rattle.best_path.specs.Lead.{rival, positiveZero, leadBetween, lead, none, by as ahead}
 use Rattle.best_path.specs.Lead as L
 use Rattle.best_path.specs.PathScore.{pathScore}
 use Rattle.lines.specs.Passes.{through, raised}
@@ -20,7 +20,8 @@ use Rattle.roots.specs.Root.{wholeRoot, nearestRoot}
 use Rattle.training.specs.declared.Trained.{Trained}
 use Rattle.training.specs.declared.Training.{Training}
 use Rattle.training.specs.declared.Training.the-variants.{Accepted, Refused}
-use Rattle.training.specs.Data.{Data, wrongAt, wrongOf}
+use Rattle.lines.specs.Data.{Data}
+use Rattle.training.specs.Wrong.{wrongAt, wrongOf}
 use Rattle.fronts.specs.Finite.{allFinite}
 use Rattle.training.specs.Rules.{Rule, pushed, squared, pulled, spread, narrowed, stepOf, byPerceptron, byPassive, byArow, updatedBy, besideAtFirst, stops, averagedAt, averagedBy}
 use Rattle.training.specs.Visits.{refusedAs, unchanged, changedTo, finiteState, heldTo, corrected, compared, visited}
@@ -64,7 +65,7 @@ result (Refused why) weights = refused (why .number) (why .place)
 
 -- what the definitions answer
 pub answer : Question → Answer
-unfolding floats leadBits model single result add sub mul div lt le eq isNan ofInt round ofBits toBits extended lastLargest best back pathTo lastLabel decodedPath decodedSum rival positiveZero difference lead pathScore through raised stateEntry scoredAttribute scoredAt scoredWord statesOf transitionEntry transitionsOf stateCount countedAttribute countedAt countedWord transitionCount countedTransition countsOf chosen swapped swappedAt shuffledFrom shuffled wholeRoot nearestRoot wrongAt wrongOf allFinite pushed squared pulled spread narrowed stepOf byPerceptron byPassive byArow updatedBy besideAtFirst stops averagedAt averagedBy refusedAs unchanged changedTo finiteState heldTo corrected compared visited countedFrom opened visitedAt epochOver epoch epochUnlessOver begun ran refusedWith averaged finished E.trained
+unfolding floats leadBits model single result add sub mul div lt le eq isNan ofInt round ofBits toBits extended lastLargest best back pathTo lastLabel decodedPath decodedSum rival positiveZero leadBetween lead pathScore through raised stateEntry scoredAttribute scoredAt scoredWord statesOf transitionEntry transitionsOf stateCount countedAttribute countedAt countedWord transitionCount countedTransition countsOf chosen swapped swappedAt shuffledFrom shuffled wholeRoot nearestRoot wrongAt wrongOf allFinite pushed squared pulled spread narrowed stepOf byPerceptron byPassive byArow updatedBy besideAtFirst stops averagedAt averagedBy refusedAs unchanged changedTo finiteState heldTo corrected compared visited countedFrom opened visitedAt epochOver epoch epochUnlessOver begun ran refusedWith averaged finished E.trained
 answer (decode labels words transitions states) =
     let s = tabled labels (floats transitions) (floats states) in
     decoded (decodedPath s words) (toBits binary64 (decodedSum s words)) (leadBits (lead s words))

@@ -7,8 +7,8 @@ use lib.Ieee.{Float}
 use Rattle.shuffle.specs.Shuffle.{Deal, shuffled}
 use Rattle.lines.specs.Passes.{through}
 use Rattle.lines.proofs.Laws.{through-end}
-use Rattle.training.specs.declared.Step.{Step}
-use Rattle.training.specs.Visits.{State}
+use Rattle.training.specs.declared.Progress.{Progress}
+use Rattle.training.specs.Visits.{TrainingState}
 use Rattle.training.specs.Epochs.{Run, epochOver, endsAfter, epoch, epochUnlessOver}
 use Rattle.training.specs.Orders.{OrderOf}
 use Rattle.training.proofs.Orders.{shuffle-keeps}
@@ -26,20 +26,20 @@ first-false : (a b : Bool) → a || b ≡ false → a ≡ false
 first-false true b e = absurd (true≢false e)
 first-false false b e = refl
 
-module _ (visit : ℕ → State → State) (stop : Float → Bool) (n : ℕ) (r₀ : Run) where
+module _ (visit : ℕ → TrainingState → TrainingState) (stop : Float → Bool) (n : ℕ) (r₀ : Run) where
   -- none of the epochs allowed ended training
-  pub all-run : (e allowed : ℕ) (s : State) (k : Deal) → e ≤ allowed → allowed ≤ e → s .step .visits ≤ 16384000 → _≡_ {A = Run} (record { state = s; deal = k; epochs = e; over = false }) (through (epochUnlessOver visit stop n) 0 e r₀) → Finished (record { step = s .step; epochs = e }) (s .learned .weights) (s .learned .beside) (through (epochUnlessOver visit stop n) 0 allowed r₀)
+  pub all-run : (e allowed : ℕ) (s : TrainingState) (k : Deal) → e ≤ allowed → allowed ≤ e → s .progress .visits ≤ 16384000 → _≡_ {A = Run} (record { state = s; deal = k; epochs = e; over = false }) (through (epochUnlessOver visit stop n) 0 e r₀) → Finished (record { progress = s .progress; epochs = e }) (s .learned .weights) (s .learned .beside) (through (epochUnlessOver visit stop n) 0 allowed r₀)
   all-run e allowed s k h l v p =
       let q = p ∙ through-end (epochUnlessOver visit stop n) e allowed r₀ h l in
       record {
-        step = ap (λ (r : Run). r .state .step) q;
+        progress = ap (λ (r : Run). r .state .progress) q;
         epochs = λ _. ap (λ (r : Run). r .epochs) q;
         learned = λ _. ap (λ (r : Run). r .state .learned) q;
         visits = v;
       }
 
   -- one epoch more: s and k are what e epochs left, t and l what it leaves, and o whether training ends
-  module _ (e : ℕ) {s t : State} {k l : Deal} {o : Bool} (p : _≡_ {A = Run} (record { state = s; deal = k; epochs = e; over = false }) (through (epochUnlessOver visit stop n) 0 e r₀)) (d : l ≡ shuffled n k) (a : Agreed t (epochOver visit (l .order) n s)) (q : o ≡ endsAfter stop n (t .step)) where
+  module _ (e : ℕ) {s t : TrainingState} {k l : Deal} {o : Bool} (p : _≡_ {A = Run} (record { state = s; deal = k; epochs = e; over = false }) (through (epochUnlessOver visit stop n) 0 e r₀)) (d : l ≡ shuffled n k) (a : Agreed t (epochOver visit (l .order) n s)) (q : o ≡ endsAfter stop n (t .progress)) where
     pub run-on : o ≡ false → _≡_ {A = Run} (record { state = t; deal = l; epochs = e + 1; over = false }) (through (epochUnlessOver visit stop n) 0 (e + 1) r₀)
     run-on f =
         let w : t ≡ epochOver visit (l .order) n s = a .whole (same-end a (first-false _ _ (sym q ∙ f))) in
@@ -54,20 +54,20 @@ module _ (visit : ℕ → State → State) (stop : Float → Bool) (n : ℕ) (r�
 
     over : o ≡ true → after .over ≡ true
     unfolding epoch after
-    over f = ap (λ (x : Step). endsAfter stop n x) (sym (agreed .step)) ∙ sym q ∙ f
+    over f = ap (λ (x : Progress). endsAfter stop n x) (sym (agreed .progress)) ∙ sym q ∙ f
 
     counts : after .epochs ≡ e + 1
     unfolding epoch after
     counts = refl
 
-    pub run-ended : (allowed : ℕ) → e < allowed → o ≡ true → t .step .visits ≤ 16384000 → Finished (record { step = t .step; epochs = e + 1 }) (t .learned .weights) (t .learned .beside) (through (epochUnlessOver visit stop n) 0 allowed r₀)
+    pub run-ended : (allowed : ℕ) → e < allowed → o ≡ true → t .progress .visits ≤ 16384000 → Finished (record { progress = t .progress; epochs = e + 1 }) (t .learned .weights) (t .learned .beside) (through (epochUnlessOver visit stop n) 0 allowed r₀)
     unfolding after
     run-ended allowed h f v =
         let u : after ≡ through (epochUnlessOver visit stop n) 0 allowed r₀ = run-cut visit stop n (e + 1) allowed r₀ (omega arith) (over f) (run-next visit stop n e r₀ refl p refl) in
-        subst (λ (r : Run). Finished (record { step = t .step; epochs = e + 1 }) (t .learned .weights) (t .learned .beside) r) u
+        subst (λ (r : Run). Finished (record { progress = t .progress; epochs = e + 1 }) (t .learned .weights) (t .learned .beside) r) u
         (record {
-          step = agreed .step;
+          progress = agreed .progress;
           epochs = λ _. sym counts;
-          learned = λ g. ap (λ (x : State). x .learned) (agreed .whole g);
+          learned = λ g. ap (λ (x : TrainingState). x .learned) (agreed .whole g);
           visits = v;
         })

@@ -6,7 +6,7 @@ ghost use Rattle.training.specs.Rules.{stops};
 ghost use Rattle.training.specs.Visits.{visited};
 ghost use Rattle.training.specs.Epochs.{Run, epochUnlessOver};
 ghost use Rattle.training.specs.Orders.{OrderOf};
-ghost use Rattle.feature_gen.specs.Sound.{Sound};
+ghost use Rattle.feature_gen.specs.Sound.{SoundModel};
 ghost use Rattle.training_check.specs.Sound.{SoundData};
 ghost use Rattle.prediction.specs.Tables.{modelAt, modelWas, dataAt, dataWas};
 ghost use Rattle.parameters.specs.Trainers.{ruleOf};
@@ -16,7 +16,7 @@ ghost use Rattle.epochs.specs.Running.{firstStep};
 use begin_and_end::Ran;
 use parameters::Trainer;
 use prediction::Sizes;
-use training::Step;
+use training::Progress;
 use training::Visit;
 
 // Epochs, each with the order shuffled anew, until training ends or none is left.
@@ -45,20 +45,20 @@ pub fn run(
     truly: &mut [f64],
     predicted: &mut [f64],
 ) -> Ran
-    requires { ⌜ Sound (modelAt sizes kinds destinations sources starts entries «label_starts» «label_entries») ⌝ }
+    requires { ⌜ SoundModel (modelAt sizes kinds destinations sources starts entries «label_starts» «label_entries») ⌝ }
     requires { ⌜ SoundData (sizes .labels) (dataAt sizes lines begins ids values references shares) ⌝ }
     requires { ⌜ Exact (sizes .features) (now weights) (now beside) (now truly) (now predicted) ⌝ }
     requires { ⌜ (allowed ≤ 1000) × OrderOf (sizes .instances) (now order) ⌝ }
     ensures { λ r.
         let m = modelWas sizes kinds destinations sources starts entries «label_starts» «label_entries» in
         let d = dataWas sizes lines begins ids values references shares in
-        let step = epochUnlessOver (visited (ruleOf trainer) m d) (stops (ruleOf trainer) epsilon) (sizes .instances) in
+        let progress = epochUnlessOver (visited (ruleOf trainer) m d) (stops (ruleOf trainer) epsilon) (sizes .instances) in
         let first = stateOf firstStep (now (weights .entry)) (now (beside .entry)) in
         let begun : Run = record { state = first; deal = record { state = seed; order = now (order .entry) }; epochs = 0; over = false } in
-        ⌜ Finished r (now (weights .exit)) (now (beside .exit)) (through step 0 allowed begun) ⌝ }
+        ⌜ Finished r (now (weights .exit)) (now (beside .exit)) (through progress 0 allowed begun) ⌝ }
 {
     let n = sizes.instances;
-    let mut step = Step {
+    let mut progress = Progress {
         visit: Visit::Unchanged,
         visits: 0,
         updates: 0,
@@ -68,7 +68,7 @@ pub fn run(
     let mut e = 0u64;
     while e < allowed {
         g = begin_and_end::deal(g, n, order);
-        step = one_epoch::epoch(
+        progress = one_epoch::epoch(
             trainer,
             sizes,
             kinds,
@@ -85,22 +85,22 @@ pub fn run(
             references,
             shares,
             order,
-            step,
+            progress,
             weights,
             beside,
             truly,
             predicted,
         );
         e += 1;
-        if updates::ends(trainer, epsilon, n, step) {
+        if updates::ends(trainer, epsilon, n, progress) {
             return Ran {
-                step: step,
+                progress: progress,
                 epochs: e,
             };
         }
     }
     Ran {
-        step: step,
+        progress: progress,
         epochs: e,
     }
 }

@@ -14,32 +14,32 @@ use Rattle.lines.specs.Passes.{through, raised}
 use Rattle.lines.specs.Tables.{Model, State}
 use Rattle.lines.specs.Counted.{stateCount}
 use Rattle.lines.proofs.Laws.{through-none, through-more, through-cong}
-use Rattle.extract_features.specs.Noted.{noteAdded, settled, Notes}
+use Rattle.extract_features.specs.Noted.{noteAdded, notesAdded, Notes}
 
 -- no notes
-pub settled-none : (kinds who : List ℕ) (what : List Float) (counts : List Float) → counts ≡ settled kinds who what 0 counts
-unfolding settled
+pub settled-none : (kinds who : List ℕ) (what : List Float) (counts : List Float) → counts ≡ notesAdded kinds who what 0 counts
+unfolding notesAdded
 settled-none kinds who what counts = through-none (noteAdded kinds who what) 0 counts
 
 module _ (kinds who : List ℕ) (what : List Float) (n i : ℕ) (v : Float) (h : n < length who) (k : n < length what) where
   -- what is noted past the notes does not matter
-  past : (counts : List Float) → settled kinds (set who n i) (set what n v) n counts ≡ settled kinds who what n counts
-  unfolding settled noteAdded
+  past : (counts : List Float) → notesAdded kinds (set who n i) (set what n v) n counts ≡ notesAdded kinds who what n counts
+  unfolding notesAdded noteAdded
   past counts =
       through-cong (noteAdded kinds (set who n i) (set what n v)) (noteAdded kinds who what) 0 n counts (λ j l t.
       let d : 0 + j ≡ n → ⊥ = λ e. omega arith in
       rw (getD-set-other who n (0 + j) i 0 d, getD-set-other what n (0 + j) v nan d))
 
   -- the note itself
-  one-more : (counts : List Float) → settled kinds (set who n i) (set what n v) (n + 1) counts ≡ cond (eqb (getD kinds i 0) State) (raised (settled kinds who what n counts) i v) (settled kinds who what n counts)
-  unfolding settled noteAdded
+  one-more : (counts : List Float) → notesAdded kinds (set who n i) (set what n v) (n + 1) counts ≡ cond (eqb (getD kinds i 0) State) (raised (notesAdded kinds who what n counts) i v) (notesAdded kinds who what n counts)
+  unfolding notesAdded noteAdded
   one-more counts =
       through-more (noteAdded kinds (set who n i) (set what n v)) n counts
       ∙ rw (getD-set-same who n i 0 h, getD-set-same what n v nan k) (ap (λ (s : List Float). cond (eqb (getD kinds i 0) State) (raised s i v) s) (past counts))
 
   -- noted, and kept where the entry is of the label
   pub noted-step : (b : Bool) (r : ℕ) (counts : List Float) → r ≡ cond b (n + 1) n →
-      settled kinds (set who n i) (set what n v) r counts ≡ cond (eqb (getD kinds i 0) State && b) (raised (settled kinds who what n counts) i v) (settled kinds who what n counts)
+      notesAdded kinds (set who n i) (set what n v) r counts ≡ cond (eqb (getD kinds i 0) State && b) (raised (notesAdded kinds who what n counts) i v) (notesAdded kinds who what n counts)
   noted-step true r counts e = rw (e, and-true) (one-more counts)
   noted-step false r counts e = rw (e, and-false) (past counts)
 
@@ -66,7 +66,7 @@ still-notes {features} {who} {what} {n} i v b {r = r} p h k e f g =
 -- and once they are added the entry has counted
 pub entry-noted : (m : Model) (label : ℕ) (v : Float) (e : ℕ) (who : List ℕ) (what : List Float) (n : ℕ) (counts : List Float) {who' : List ℕ} {what' : List Float} {r : ℕ} → n < length who → n < length what →
     who' ≡ set who n (getD (m .attributeLists .entries) e 0) → what' ≡ set what n v → r ≡ cond (eqb (getD (m .features .destinations) (getD (m .attributeLists .entries) e 0) 0) label) (n + 1) n →
-    settled (m .features .kinds) who' what' r counts ≡ stateCount m label v e (settled (m .features .kinds) who what n counts)
+    notesAdded (m .features .kinds) who' what' r counts ≡ stateCount m label v e (notesAdded (m .features .kinds) who what n counts)
 unfolding stateCount
 entry-noted m label v e who what n counts h k p q s =
     rw (p, q) (noted-step (m .features .kinds) who what n (getD (m .attributeLists .entries) e 0) v h k (eqb (getD (m .features .destinations) (getD (m .attributeLists .entries) e 0) 0) label) _ counts s)

@@ -6,7 +6,8 @@ use lib.ListN.{getD, drop, replicate}
 use lib.Ieee.{Float}
 use Rattle.lines.specs.declared.Attribute.{Attribute}
 use Rattle.lines.specs.declared.Span.{Span}
-use Rattle.lines.specs.Passes.{through, throughList, nought}
+use Rattle.lines.specs.Passes.{through, throughList}
+use Rattle.binary64.specs.Numbers.{nought}
 use Rattle.lines.specs.Tables.{Model, Words}
 use Rattle.lines.specs.Spans.{attributeBefore, spanOf, throughSpan}
 use Rattle.lines.specs.Sound.{SoundLists}

@@ -15,8 +15,8 @@ noteAdded kinds who what note counts =
     cond (eqb (getD kinds i 0) State) (raised counts i (getD what note nan)) counts
 
 -- so many notes, in their order
-unfoldable pub settled : (kinds who : List ℕ) (what : List Float) → ℕ → List Float → List Float
-settled kinds who what noted counts = through (noteAdded kinds who what) 0 noted counts
+unfoldable pub notesAdded : (kinds who : List ℕ) (what : List Float) → ℕ → List Float → List Float
+notesAdded kinds who what noted counts = through (noteAdded kinds who what) 0 noted counts
 
 -- so many notes are there, each of a feature
 pub record Notes (features : ℕ) (who : List ℕ) (what : List Float) (noted : ℕ) : Type 0 where

@@ -13,7 +13,7 @@ ghost use Rattle.lines.specs.Counted.{transitionCount, countedTransition, state
 ghost use Rattle.lines.specs.Lent.{bare, withCounts};
 ghost use mathlib.Core.Bool.{cond};
 ghost use lib.Dec.{eqb};
-ghost use Rattle.extract_features.specs.Noted.{noteAdded, settled, Notes};
+ghost use Rattle.extract_features.specs.Noted.{noteAdded, notesAdded, Notes};
 ghost use Rattle.lines.specs.Tables.{Model};
 use feature_gen::Counts;
 use lines::Attribute;
@@ -81,7 +81,7 @@ pub fn add_notes(
     requires { ⌜ features ≤ length (now kinds) ⌝ }
     requires { ⌜ Notes features (now who) (now what) noted ⌝ }
     requires { ⌜ features ≤ length (now counts) ⌝ }
-    ensures { λ _. ⌜ now (counts .exit) ≡ settled (now (kinds .entry)) (now (who .entry)) (now (what .entry)) noted (now (counts .entry)) ⌝ }
+    ensures { λ _. ⌜ now (counts .exit) ≡ notesAdded (now (kinds .entry)) (now (who .entry)) (now (what .entry)) noted (now (counts .entry)) ⌝ }
 {
     let mut j = 0;
     while j < noted {
@@ -112,7 +112,7 @@ fn count_entry(
     requires { ⌜ features ≤ length (now counts) ⌝ }
     ensures { λ r. ⌜ Notes features (now (who .exit)) (now (what .exit)) r ⌝ }
     ensures { λ r. ⌜ r < length (now (who .exit)) ⌝ }
-    ensures { λ r. ⌜ settled (now (kinds .entry)) (now (who .exit)) (now (what .exit)) r (now (counts .exit)) ≡ stateCount (withCounts bare features (now (kinds .entry)) (now (destinations .entry)) [] 0 [] (now (entries .entry)) 0 [] []) label value e (settled (now (kinds .entry)) (now (who .entry)) (now (what .entry)) noted (now (counts .entry))) ⌝ }
+    ensures { λ r. ⌜ notesAdded (now (kinds .entry)) (now (who .exit)) (now (what .exit)) r (now (counts .exit)) ≡ stateCount (withCounts bare features (now (kinds .entry)) (now (destinations .entry)) [] 0 [] (now (entries .entry)) 0 [] []) label value e (notesAdded (now (kinds .entry)) (now (who .entry)) (now (what .entry)) noted (now (counts .entry))) ⌝ }
 {
     let next = note(destinations, entries, label, value, e, noted, who, what);
     if next < who.len() {
@@ -143,7 +143,7 @@ pub fn count_attribute(
     requires { ⌜ features ≤ length (now counts) ⌝ }
     ensures { λ r. ⌜ Notes features (now (who .exit)) (now (what .exit)) r ⌝ }
     ensures { λ r. ⌜ r < length (now (who .exit)) ⌝ }
-    ensures { λ r. ⌜ settled (now (kinds .entry)) (now (who .exit)) (now (what .exit)) r (now (counts .exit)) ≡ throughSpan (stateCount (withCounts bare features (now (kinds .entry)) (now (destinations .entry)) [] 0 [] (now (entries .entry)) 0 [] []) label (attribute .value)) span (settled (now (kinds .entry)) (now (who .entry)) (now (what .entry)) noted (now (counts .entry))) ⌝ }
+    ensures { λ r. ⌜ notesAdded (now (kinds .entry)) (now (who .exit)) (now (what .exit)) r (now (counts .exit)) ≡ throughSpan (stateCount (withCounts bare features (now (kinds .entry)) (now (destinations .entry)) [] 0 [] (now (entries .entry)) 0 [] []) label (attribute .value)) span (notesAdded (now (kinds .entry)) (now (who .entry)) (now (what .entry)) noted (now (counts .entry))) ⌝ }
 {
     let value = attribute.value;
     let last = span.last;
@@ -195,7 +195,7 @@ fn count_word(
     requires { ⌜ features ≤ length (now counts) ⌝ }
     ensures { λ r. ⌜ Notes features (now (who .exit)) (now (what .exit)) r ⌝ }
     ensures { λ r. ⌜ r < length (now (who .exit)) ⌝ }
-    ensures { λ r. ⌜ settled (now (kinds .entry)) (now (who .exit)) (now (what .exit)) r (now (counts .exit)) ≡ through (countedAt (withCounts bare features (now (kinds .entry)) (now (destinations .entry)) [] lists (now (starts .entry)) (now (entries .entry)) 0 [] []) (record { starts = []; size = 0; ids = now (ids .entry); values = now (values .entry) }) label) from (to - from) (settled (now (kinds .entry)) (now (who .entry)) (now (what .entry)) noted (now (counts .entry))) ⌝ }
+    ensures { λ r. ⌜ notesAdded (now (kinds .entry)) (now (who .exit)) (now (what .exit)) r (now (counts .exit)) ≡ through (countedAt (withCounts bare features (now (kinds .entry)) (now (destinations .entry)) [] lists (now (starts .entry)) (now (entries .entry)) 0 [] []) (record { starts = []; size = 0; ids = now (ids .entry); values = now (values .entry) }) label) from (to - from) (notesAdded (now (kinds .entry)) (now (who .entry)) (now (what .entry)) noted (now (counts .entry))) ⌝ }
 {
     let mut n = noted;
     if from < to {

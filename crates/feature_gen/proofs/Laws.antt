@@ -18,7 +18,7 @@ use Rattle.refusal_rows.specs.Tests.{checks}
 use Rattle.refusal_rows.proofs.Means.{two-means, broken-parts}
 use Rattle.lines.specs.Tables.{Features, Lists, Model}
 use Rattle.feature_gen.specs.Rows.{featureRooms, weightRooms, listRooms, tableRooms, weightedTableRooms, modelCounts, modelRooms, weightedRooms, startTests, featureTests, entryTests, idTests, weightTests, modelSized, modelChecked}
-use Rattle.feature_gen.specs.Sound.{Sized}
+use Rattle.feature_gen.specs.Sound.{ModelSized}
 
 -- rooms that are tested part by part
 pub tables-parts : (f : Features) (a b : Lists) → (anyBroken (featureRooms f) || anyBroken (listRooms a b)) ≡ anyBroken (tableRooms f a b)
@@ -28,7 +28,7 @@ pub weighted-parts : (f : Features) (weights : List Float) (a b : Lists) → (an
 weighted-parts f weights a b = sym (broken-parts (featureRooms f ++ weightRooms f weights) (listRooms a b))
 
 -- 2 does not apply
-pub sized : (m : Model) → AllWithin (modelCounts m) → AllWithin (modelRooms m) → Sized m
+pub sized : (m : Model) → AllWithin (modelCounts m) → AllWithin (modelRooms m) → ModelSized m
 sized m w t =
     let l = t .1 .1 .1 in
     record {
@@ -72,7 +72,7 @@ module _ (m : Model) (weights : List Float) where
       (two-means (modelCounts m) .accepted .0 (a .0), two-means (weightedRooms m weights) .accepted .0 (a .1 .0))
 
   -- an answer that accepts the sizes: every table has room
-  pub roomy : (r : Checked) → r ≡ modelSized m weights → r ≡ Accepted → Sized m × (m .features .count ≤ length weights)
+  pub roomy : (r : Checked) → r ≡ modelSized m weights → r ≡ Accepted → ModelSized m × (m .features .count ≤ length weights)
   roomy r e h =
       let f = within r e h in
       let s = room-for-weights (f .1) in

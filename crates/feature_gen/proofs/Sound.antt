@@ -18,7 +18,7 @@ use Rattle.refusal_rows.proofs.Means.{test-means}
 use Rattle.lines.specs.Tables.{Model, Transition}
 use Rattle.lines.specs.Sound.{SoundLists, SoundWords, SoundStates, SoundTransitions, SoundCounts}
 use Rattle.feature_gen.specs.Rows.{startTests, idTests}
-use Rattle.feature_gen.specs.Sound.{Sized, Sound, Weighted}
+use Rattle.feature_gen.specs.Sound.{ModelSized, SoundModel, Weighted}
 
 -- ---- one table
 
@@ -69,7 +69,7 @@ module _ {count size : ℕ} {starts : List ℕ} (s : Starts starts count size) (
 -- ---- a model
 
 module _ (m : Model) where
-  pub sound : LabelsIn (m .labels) → Sized m → AllGood (startTests m) → AllGood (idTests m) → Sound m
+  pub sound : LabelsIn (m .labels) → ModelSized m → AllGood (startTests m) → AllGood (idTests m) → SoundModel m
   sound l z starts ids =
       let f = m .features in
       let a = m .attributeLists in
@@ -86,7 +86,7 @@ module _ (m : Model) where
         sources = left-from (f .kinds) (f .sources) (f .count) (m .labels) (ids .1 .1 .0);
       }
 
-  pub weighted : (weights : List Float) → Sound m → m .features .count ≤ length weights → Good (numbersFinite weights (m .features .count)) → Weighted m weights
+  pub weighted : (weights : List Float) → SoundModel m → m .features .count ≤ length weights → Good (numbersFinite weights (m .features .count)) → Weighted m weights
   weighted weights s room g = record {
     sound = s;
     transitions = record {

@@ -1,10 +1,10 @@
 -- A model as a call is lent it: counts, and tables beside them. Assumes nothing.
 use mathlib.Core.List.{List}
 use Prim.Native.Nat.{ℕ}
-use lib.Ieee.{Float}
-use denote.Ref.{RefT, now}
+use denote.Ref.{now}
 use denote.Triple.Both.{Both}
 use Rattle.lines.specs.Tables.{Features, Lists, Model}
+use Rattle.lines.specs.Entry.{Numbers}
 use Rattle.feature_gen.specs.declared.Counts.{Counts}
 
 abbrev pub featuresOf : Counts → List ℕ → List ℕ → List ℕ → Features
@@ -39,13 +39,6 @@ modelOf labels counts kinds destinations sources attributeStarts attributeEntrie
   attributeLists = attributeListsOf counts attributeStarts attributeEntries;
   labelLists = labelListsOf counts labelStarts labelEntries;
 }
-
--- a lent table: of numbers, of floats
-abbrev pub Numbers : Type 0
-Numbers = RefT (List ℕ)
-
-abbrev pub Floats : Type 0
-Floats = RefT (List Float)
 
 -- the model at a call's entry: in a `requires`, where the name of a table is the table
 abbrev pub modelAt : ℕ → Counts → Numbers → Numbers → Numbers → Numbers → Numbers → Numbers → Numbers → Model

@@ -11,7 +11,7 @@ use Rattle.lines.specs.Tables.{Model, Transition}
 use Rattle.lines.specs.Sound.{SoundLists, SoundTransitions, SoundCounts}
 
 -- 2 does not apply: the counts are within their bounds, and each table has room for its count
-pub record Sized (m : Model) : Type 0 where
+pub record ModelSized (m : Model) : Type 0 where
   pub few-features : m .features .count ≤ most theFeatures
   pub few-attribute-lists : m .attributeLists .count ≤ most theAttributeLists
   pub few-label-lists : m .labelLists .count ≤ most theLabelLists
@@ -26,9 +26,9 @@ pub record Sized (m : Model) : Type 0 where
   pub label-entries : m .labelLists .size ≤ length (m .labelLists .entries)
 
 -- nor do 1, 3 and 5
-pub record Sound (m : Model) : Type 0 where
+pub record SoundModel (m : Model) : Type 0 where
   pub labels-in : LabelsIn (m .labels)
-  pub sized : Sized m
+  pub sized : ModelSized m
   pub attribute-lists : SoundLists (m .attributeLists .count) (m .attributeLists .starts) (m .attributeLists .entries) (m .features .count)
   pub label-lists : SoundLists (m .labelLists .count) (m .labelLists .starts) (m .labelLists .entries) (m .features .count)
   pub counts : SoundCounts (m .features .count) (m .features .kinds) (m .features .destinations)
@@ -38,6 +38,6 @@ pub record Sound (m : Model) : Type 0 where
 
 -- nor does 6, of weights that are lent beside the model
 pub record Weighted (m : Model) (weights : List Float) : Type 0 where
-  pub sound : Sound m
+  pub sound : SoundModel m
   pub transitions : SoundTransitions (m .labels) (m .features .count) (m .features .kinds) (m .features .destinations) (m .features .sources) weights
   pub finite : FiniteTo weights (m .features .count)

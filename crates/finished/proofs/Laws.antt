@@ -19,7 +19,7 @@ use Rattle.refusals.specs.Tables.{notFinite}
 use Rattle.refusals.proofs.Laws.{Passed, found}
 use Rattle.refusals.proofs.Meant.{accepted-means, accepted-if}
 use Rattle.fronts.proofs.Finite.{all-finite-at, all-finite-if}
-use Rattle.lines.specs.Passes.{nought}
+use Rattle.binary64.specs.Numbers.{nought}
 use Rattle.lines.specs.Sound.{SoundWords}
 use Rattle.finished.specs.Rows.{finishedChecked, placedAfter, scoresFinished}
 use Rattle.finished.specs.Meaning.{TestAccepts}

@@ -6,7 +6,7 @@ use lib.Ieee.{Float}
 use Rattle.refusals.specs.declared.Checked.{Checked}
 use Rattle.refusals.specs.declared.Checked.the-variants.{Accepted, Refused}
 use Rattle.fronts.specs.Cleared.{cleared}
-use Rattle.lines.specs.Passes.{nought}
+use Rattle.binary64.specs.Numbers.{nought}
 
 -- numbers whose front is cleared where a check refuses
 abbrev pub clearedWhere : Checked → ℕ → List Float → List Float

@@ -4,7 +4,7 @@ ghost use mathlib.Core.Path.{_≡_};
 ghost use Prim.Native.Nat.{_*_, _≤_};
 ghost use lib.ListN.{length};
 ghost use Rattle.refusals.specs.declared.Checked.the-variants.{Accepted, Refused};
-ghost use Rattle.score_tables.specs.Sound.{Sized};
+ghost use Rattle.score_tables.specs.Sound.{ScoresSized};
 ghost use Rattle.finished.specs.Rows.{placedAfter, finishedChecked, scoresFinished};
 ghost use Rattle.finished.specs.After.{clearedWhere};
 use refusals::Checked;
@@ -38,7 +38,7 @@ fn check_finished(numbers: &[f64], n: usize, others: usize) -> Checked
 
 // 8 of a line's scores: states, then transitions.
 pub fn check_scores(labels: u32, words: u32, transitions: &[f64], states: &[f64]) -> Checked
-    requires { ⌜ Sized labels words (now transitions) (now states) ⌝ }
+    requires { ⌜ ScoresSized labels words (now transitions) (now states) ⌝ }
     ensures { λ r. ⌜ r ≡ scoresFinished labels words (now (states .entry)) (now (transitions .entry)) ⌝ }
 {
     let n = score_tables::entries(words, labels);
@@ -64,7 +64,7 @@ pub fn finish_scores(
     transitions: &mut [f64],
     states: &mut [f64],
 ) -> Checked
-    requires { ⌜ Sized labels words (now transitions) (now states) ⌝ }
+    requires { ⌜ ScoresSized labels words (now transitions) (now states) ⌝ }
     ensures { λ r. ⌜ r ≡ scoresFinished labels words (now (states .entry)) (now (transitions .entry)) ⌝ }
     ensures { λ r. ⌜ now (transitions .exit) ≡ clearedWhere r (labels * labels) (now (transitions .entry)) ⌝ }
     ensures { λ r. ⌜ now (states .exit) ≡ clearedWhere r (words * labels) (now (states .entry)) ⌝ }

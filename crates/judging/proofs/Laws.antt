@@ -17,7 +17,7 @@ use Rattle.best_path.specs.PathScore.{pathScore}
 use Rattle.best_path.proofs.Laws.{decoded-allowed}
 use Rattle.sequence_score.specs.Sound.{Met}
 use Rattle.viterbi.specs.Answered.{Ready}
-use Rattle.training.specs.Data.{wrongAt, wrongOf}
+use Rattle.training.specs.Wrong.{wrongAt, wrongOf}
 use Rattle.judging.specs.Judged.{Scored, Judged, finiteScores}
 
 module _ (p q : List ℕ) where

@@ -9,7 +9,7 @@ use Rattle.best_path.specs.Scores.{tabled}
 use Rattle.best_path.specs.Decoded.{decodedPath}
 use Rattle.best_path.specs.PathScore.{pathScore}
 use Rattle.score_tables.specs.Sound.{LabelsIn, WordsIn}
-use Rattle.training.specs.Data.{wrongOf}
+use Rattle.training.specs.Wrong.{wrongOf}
 use Rattle.fronts.specs.Finite.{allFinite}
 use Rattle.judging.specs.declared.Prediction.{Prediction}
 

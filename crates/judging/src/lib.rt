@@ -3,7 +3,7 @@
 ghost use mathlib.Core.Path.{_≡_};
 ghost use Prim.Native.Nat.{_≤_};
 ghost use lib.ListN.{length};
-ghost use Rattle.training.specs.Data.{wrongOf};
+ghost use Rattle.training.specs.Wrong.{wrongOf};
 ghost use Rattle.judging.specs.Judged.{Judged, Scored};
 
 // Whether the scores are finite, how many labels are wrong, and where some are, the scores of the predicted and the true path.

@@ -17,7 +17,7 @@ use Rattle.refusal_rows.specs.Tests.{checks}
 use Rattle.refusal_rows.proofs.Means.{two-means, broken-thirds, within-parts}
 use Rattle.lines.specs.Tables.{Words}
 use Rattle.feature_gen.specs.Rows.{modelCounts, modelRooms, weightedRooms, idTests, weightTests}
-use Rattle.feature_gen.specs.Sound.{Sized}
+use Rattle.feature_gen.specs.Sound.{ModelSized}
 use Rattle.feature_gen.proofs.Laws.{sized, room-for-weights}
 use Rattle.line_check.specs.Rows.{Scoring, Counting, lineRooms, scoreRooms, scoringCounts, scoringRooms, countRooms, countingCounts, countingRooms, lineStarts, listTests, labelTests, valueTests, sizesTested, scoringSized, scoringChecked, countingSized, countingChecked}
 use Rattle.line_check.specs.Sound.{LineSized, ScoringFits, CountingFits}

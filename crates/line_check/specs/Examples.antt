@@ -7,7 +7,7 @@ use lib.Ieee.{Float, nan}
 use Rattle.refusals.specs.declared.Checked.the-variants.{Accepted}
 use Rattle.refusals.specs.Refusals.{refusedAt, refuse, orNext, lowest}
 use Rattle.refusal_rows.specs.Limits.{inOrder}
-use Rattle.lines.specs.Passes.{nought}
+use Rattle.binary64.specs.Numbers.{nought}
 use Rattle.lines.specs.Tables.{Model}
 use Rattle.line_check.specs.Rows.{Scoring, Counting, scoringCounts, countingCounts, scoringChecked, countingChecked}
 

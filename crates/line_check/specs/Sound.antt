@@ -7,7 +7,7 @@ use Rattle.score_tables.specs.Sound.{WordsIn}
 use Rattle.fronts.specs.Finite.{FiniteTo}
 use Rattle.lines.specs.Tables.{Words}
 use Rattle.lines.specs.Sound.{SoundWords}
-use Rattle.feature_gen.specs.Sound.{Sized, Sound, Weighted}
+use Rattle.feature_gen.specs.Sound.{ModelSized, SoundModel, Weighted}
 use Rattle.line_check.specs.Rows.{Scoring, Counting}
 
 -- 2 does not apply to the line: its attributes are not too many, and each of its tables has room for its count
@@ -26,14 +26,14 @@ pub record SoundLine (count : ℕ) (line : Words) : Type 0 where
 
 -- 2 does not apply to a call that scores, or that counts
 pub record ScoringFits (s : Scoring) : Type 0 where
-  pub model : Sized (s .model)
+  pub model : ModelSized (s .model)
   pub weights : s .model .features .count ≤ length (s .weights)
   pub line : LineSized (s .words) (s .line)
   pub transitions : s .model .labels * s .model .labels ≤ s .transitions
   pub states : s .words * s .model .labels ≤ s .states
 
 pub record CountingFits (c : Counting) : Type 0 where
-  pub model : Sized (c .model)
+  pub model : ModelSized (c .model)
   pub line : LineSized (c .words) (c .line)
   pub path : c .words ≤ length (c .path)
   pub features : c .model .features .count ≤ c .features
@@ -47,6 +47,6 @@ pub record SoundScoring (s : Scoring) : Type 0 where
 -- what counting may rely on: each word has a label, and it is below L
 pub record SoundCounting (c : Counting) : Type 0 where
   pub fits : CountingFits c
-  pub model : Sound (c .model)
+  pub model : SoundModel (c .model)
   pub line : SoundLine (c .words) (c .line)
   pub below : (word : ℕ) → word < c .words → getD (c .path) word 0 < c .model .labels

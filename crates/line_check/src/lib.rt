@@ -8,7 +8,7 @@ ghost use Rattle.score_tables.specs.Rows.{one, four};
 ghost use Rattle.refusal_rows.specs.Limits.{anyBroken};
 ghost use Rattle.refusal_rows.specs.Tests.{checks};
 ghost use Rattle.feature_gen.specs.Lent.{modelOf};
-ghost use Rattle.feature_gen.specs.Sound.{Sized};
+ghost use Rattle.feature_gen.specs.Sound.{ModelSized};
 ghost use Rattle.line_check.specs.Rows.{Scoring, Counting, lineRooms, scoreRooms, sizesTested, listTests};
 ghost use Rattle.line_check.specs.Rows.{scoringSized, scoringChecked, countingSized, countingChecked};
 use feature_gen::Counts;
@@ -59,7 +59,7 @@ fn check_lists(
     attributes: u32,
     begins: &[u32],
 ) -> Checked
-    requires { ⌜ Sized (modelOf labels counts (now kinds) (now destinations) (now sources) (now «attribute_starts») (now «attribute_entries») (now «label_starts») (now «label_entries»)) ⌝ }
+    requires { ⌜ ModelSized (modelOf labels counts (now kinds) (now destinations) (now sources) (now «attribute_starts») (now «attribute_entries») (now «label_starts») (now «label_entries»)) ⌝ }
     requires { ⌜ words < length (now begins) ⌝ }
     ensures { λ r. ⌜ r ≡ firstFrom answer (checks (listTests (modelOf labels counts (now (kinds .entry)) (now (destinations .entry)) (now (sources .entry)) (now («attribute_starts» .entry)) (now («attribute_entries» .entry)) (now («label_starts» .entry)) (now («label_entries» .entry))) words (now (begins .entry)) attributes)) ⌝ }
 {

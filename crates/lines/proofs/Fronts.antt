@@ -10,10 +10,11 @@ use native.Mathlib.Omega.{arith}
 use lib.ListN.{getD, set, length, length-set, replicate, length-replicate, List·getD-append}
 use lib.Seq.{set-append-left}
 use lib.Ieee.{Float, nan, binary64, add}
-use Rattle.lines.specs.Passes.{through, nought, raised}
+use Rattle.lines.specs.Passes.{through, raised}
+use Rattle.binary64.specs.Numbers.{nought, whole}
 use Rattle.lines.specs.Tables.{Model, Words, Transition}
 use Rattle.lines.specs.Scored.{scoredWord, statesOf, scoredLabel, transitionsOf}
-use Rattle.lines.specs.Counted.{one, countedWord, countedTransition, countsOf}
+use Rattle.lines.specs.Counted.{countedWord, countedTransition, countsOf}
 use Rattle.lines.specs.Sound.{SoundLists, SoundStates, SoundTransitions}
 use Rattle.lines.proofs.Changes.{Closed, through-all}
 use Rattle.lines.proofs.Reached.{word-all, label-all, counted-all, follower-all}
@@ -83,7 +84,7 @@ module _ (m : Model) where
   pub length-counts : (d : Words) (first words : ℕ) (labels : List ℕ) → length (countsOf m d first words labels) ≡ m .features .count
   unfolding countsOf
   length-counts d first words labels =
-      through-all kept (countedTransition m labels) 1 (words - 1) (λ w h. follower-all kept m labels (1 + w) (λ a e _ _. raised-kept _ one)) _
+      through-all kept (countedTransition m labels) 1 (words - 1) (λ w h. follower-all kept m labels (1 + w) (λ a e _ _. raised-kept _ (whole 1))) _
       ∙ through-all kept (countedWord m d first labels) 0 words (λ w h. counted-all kept m d first labels (0 + w) (λ a e v _ _. raised-kept _ v)) _
       ∙ length-replicate _ nought
 
@@ -118,5 +119,5 @@ module _ (m : Model) where
   counts-front l k d first words labels tail =
       fronted (m .features .count) .after (through (countedWord m d first labels) 0 words) (through (countedTransition m labels) 1 (words - 1))
       (through-all (fronted (m .features .count)) (countedWord m d first labels) 0 words (λ w h. counted-all (fronted (m .features .count)) m d first labels (0 + w) (λ a e v i r. raised-fronted _ _ v (l .ids a e i r))))
-      (through-all (fronted (m .features .count)) (countedTransition m labels) 1 (words - 1) (λ w h. follower-all (fronted (m .features .count)) m labels (1 + w) (λ a e i r. raised-fronted _ _ one (k .ids a e i r))))
+      (through-all (fronted (m .features .count)) (countedTransition m labels) 1 (words - 1) (λ w h. follower-all (fronted (m .features .count)) m labels (1 + w) (λ a e i r. raised-fronted _ _ (whole 1) (k .ids a e i r))))
       .leaves (replicate (m .features .count) nought) tail (length-replicate _ nought)

@@ -13,7 +13,8 @@ use Rattle.lines.specs.declared.Attribute.{Attribute}
 use Rattle.lines.specs.Passes.{through, throughList, start, raised}
 use Rattle.lines.specs.Tables.{Model, Words, attributeAt, State, Transition}
 use Rattle.lines.specs.Scored.{stateEntry, scoredAttribute, scoredAt, scoredWord, transitionEntry, scoredLabel}
-use Rattle.lines.specs.Counted.{one, stateCount, countedAttribute, countedAt, countedWord, transitionCount, countedTransition}
+use Rattle.lines.specs.Counted.{stateCount, countedAttribute, countedAt, countedWord, transitionCount, countedTransition}
+use Rattle.binary64.specs.Numbers.{whole}
 use Rattle.lines.proofs.Changes.{Closed, through-all, cond-all, list-all}
 
 -- the features that attribute lists and label lists name
@@ -58,7 +59,7 @@ module _ {P : (List Float → List Float) → Type 0} (closed : Closed P) (m : M
 
   -- and so does a Transition entry
   pub follower-all : (labels : List ℕ) (word : ℕ) →
-      ((a e : ℕ) → a < m .labelLists .count → e < start (m .labelLists .starts) (a + 1) → P (λ s. raised s (labelled m e) one)) →
+      ((a e : ℕ) → a < m .labelLists .count → e < start (m .labelLists .starts) (a + 1) → P (λ s. raised s (labelled m e) (whole 1))) →
       P (countedTransition m labels word)
   unfolding transitionCount countedTransition
   follower-all labels word h =

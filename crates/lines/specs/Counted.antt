@@ -4,14 +4,11 @@ use mathlib.Core.List.{List}
 use Prim.Native.Nat.{ℕ, _+_, _-_}
 use lib.Dec.{eqb, ltb}
 use lib.ListN.{getD, replicate}
-use lib.IntN.{pos}
-use lib.Ieee.{Float, binary64, ofInt}
+use lib.Ieee.{Float}
 use Rattle.lines.specs.declared.Attribute.{Attribute}
-use Rattle.lines.specs.Passes.{through, throughList, nought, raised}
+use Rattle.lines.specs.Passes.{through, throughList, raised}
+use Rattle.binary64.specs.Numbers.{nought, whole}
 use Rattle.lines.specs.Tables.{Features, Lists, Model, Words, attributeAt, State, Transition}
-
-abbrev pub one : Float
-one = ofInt binary64 (pos 1)
 
 module _ (m : Model) where
   -- "State entries of the word's label add their value": the entry at a place of the attribute lists
@@ -38,7 +35,7 @@ module _ (m : Model) where
   transitionCount previous label place counts =
       let i = getD (m .labelLists .entries) place 0 in
       cond (eqb (getD (m .features .kinds) i 0) Transition && (eqb (getD (m .features .sources) i 0) previous && eqb (getD (m .features .destinations) i 0) label))
-      (raised counts i one)
+      (raised counts i (whole 1))
       counts
 
   unfoldable pub countedTransition : List ℕ → ℕ → List Float → List Float

@@ -4,13 +4,11 @@ use mathlib.Core.List.{List, [], _∷_, map}
 use Prim.Native.Nat.{ℕ}
 use lib.IntN.{pos}
 use lib.Ieee.{Float, binary64, ofInt, toBits, add, mul}
-use Rattle.lines.specs.Passes.{through, raised, nought}
+use Rattle.lines.specs.Passes.{through, raised}
+use Rattle.binary64.specs.Numbers.{nought, whole}
 use Rattle.lines.specs.Tables.{Model, Words, State, Transition}
 use Rattle.lines.specs.Scored.{stateEntry, scoredAttribute, scoredAt, scoredWord, statesOf, transitionEntry, transitionsOf}
 use Rattle.lines.specs.Counted.{stateCount, countedAttribute, countedAt, countedWord, transitionCount, countedTransition, countsOf}
-
-abbrev whole : ℕ → Float
-whole n = ofInt binary64 (pos n)
 
 -- Features: a State to each of the labels 0 and 1, Transitions 1 to 1 and 0 to 1. List 0 names the first State twice, list 1 names
 -- a Transition. The only label list, that of label 0, names a Transition of label 1 twice, and a State. Starts and entries go on

@@ -2,9 +2,7 @@
 use mathlib.Core.List.{List}
 use Prim.Native.Nat.{ℕ, zero, suc, _+_, _-_}
 use lib.ListN.{getD, set}
-use lib.IntN.{pos}
-use mathlib.Core.Bool.{false}
-use lib.Ieee.{Float, nan, fin, binary64, add}
+use lib.Ieee.{Float, nan, binary64, add}
 
 -- s after the steps at first, first + 1, ..: n of them
 unfoldable pub through : {S : Type 0} → (ℕ → S → S) → ℕ → ℕ → S → S
@@ -20,10 +18,6 @@ size starts a = getD starts (a + 1) 0 - getD starts a 0
 
 abbrev pub throughList : {S : Type 0} → (ℕ → S → S) → List ℕ → ℕ → S → S
 throughList step starts a s = through step (start starts a) (size starts a) s
-
--- +0
-abbrev pub nought : Float
-nought = fin false 0 (pos 0)
 
 -- v is added at a place of a table
 unfoldable pub raised : List Float → ℕ → Float → List Float

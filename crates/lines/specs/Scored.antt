@@ -6,7 +6,8 @@ use lib.Dec.{eqb, ltb}
 use lib.ListN.{getD, replicate}
 use lib.Ieee.{Float, nan, binary64, mul}
 use Rattle.lines.specs.declared.Attribute.{Attribute}
-use Rattle.lines.specs.Passes.{through, throughList, nought, raised}
+use Rattle.lines.specs.Passes.{through, throughList, raised}
+use Rattle.binary64.specs.Numbers.{nought}
 use Rattle.lines.specs.Tables.{Features, Lists, Model, Words, attributeAt, State, Transition}
 
 module _ (m : Model) (weights : List Float) where

@@ -12,6 +12,14 @@ pub struct Attribute {
     pub value: f64,
 }
 
+// Instances, words in all and attributes in all, which are numbers of their own beside the tables.
+#[repr(C)]
+pub struct Totals {
+    pub instances: u32,
+    pub words: u32,
+    pub attributes: u32,
+}
+
 // The places of a list among the entries: from the first up to the last, which is not one of them.
 pub struct Span {
     pub first: usize,

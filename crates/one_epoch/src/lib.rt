@@ -1,7 +1,7 @@
 // An epoch's visits, in the order of the shuffle.
 ghost use Rattle.training.specs.Visits.{visited};
 ghost use Rattle.training.specs.Epochs.{epochOver};
-ghost use Rattle.feature_gen.specs.Sound.{Sound};
+ghost use Rattle.feature_gen.specs.Sound.{SoundModel};
 ghost use Rattle.training_check.specs.Sound.{SoundData};
 ghost use Rattle.prediction.specs.Tables.{modelAt, modelWas, dataAt, dataWas};
 ghost use Rattle.parameters.specs.Trainers.{ruleOf};
@@ -9,7 +9,7 @@ ghost use Rattle.updates.specs.Updating.{stateOf, Agreed, Exact};
 ghost use Rattle.one_epoch.specs.Visited.{Ahead, CountedIn};
 use parameters::Trainer;
 use prediction::Sizes;
-use training::Step;
+use training::Progress;
 use training::Visit;
 
 // An epoch's visits: the first that is refused ends it.
@@ -30,13 +30,13 @@ pub fn epoch(
     references: &[u32],
     shares: &[f64],
     order: &[u32],
-    s: Step,
+    s: Progress,
     weights: &mut [f64],
     beside: &mut [f64],
     truly: &mut [f64],
     predicted: &mut [f64],
-) -> Step
-    requires { ⌜ Sound (modelAt sizes kinds destinations sources starts entries «label_starts» «label_entries») ⌝ }
+) -> Progress
+    requires { ⌜ SoundModel (modelAt sizes kinds destinations sources starts entries «label_starts» «label_entries») ⌝ }
     requires { ⌜ SoundData (sizes .labels) (dataAt sizes lines begins ids values references shares) ⌝ }
     requires { ⌜ Exact (sizes .features) (now weights) (now beside) (now truly) (now predicted) ⌝ }
     requires { ⌜ Ahead (sizes .instances) (now order) s ⌝ }
@@ -49,7 +49,7 @@ pub fn epoch(
     ensures { λ r. ⌜ CountedIn (sizes .instances) s r ⌝ }
 {
     let n = sizes.instances;
-    let mut step = Step {
+    let mut progress = Progress {
         visit: Visit::Unchanged,
         visits: s.visits,
         updates: s.updates,
@@ -58,7 +58,7 @@ pub fn epoch(
     let mut j = 0usize;
     while j < n {
         let i = lines::at(order, j);
-        step = visits::visit(
+        progress = visits::visit(
             trainer,
             sizes,
             kinds,
@@ -75,17 +75,17 @@ pub fn epoch(
             references,
             shares,
             i,
-            step,
+            progress,
             weights,
             beside,
             truly,
             predicted,
         );
-        let v = step.visit;
+        let v = progress.visit;
         if updates::is_refused(v) {
-            return step;
+            return progress;
         }
         j += 1;
     }
-    step
+    progress
 }

@@ -18,7 +18,7 @@ use Rattle.refusals.proofs.Laws.{passes, holds, never, neither, test-number, pl
 use Rattle.score_tables.proofs.Order.{Never, why}
 use Rattle.refusal_rows.proofs.Means.{outside-means}
 use Rattle.refusal_rows.proofs.Groups.{Group}
-use Rattle.lines.specs.Passes.{nought}
+use Rattle.binary64.specs.Numbers.{nought}
 use Rattle.parameters.specs.Parameters.{Parameter, epochs, epsilon, scale, gamma, variant, numberOf, lastVariant, negative, notAboveZero, unfit, sevens, Fit, AllFit, FirstUnfit}
 
 holds-if : (b : Bool) → not b ≡ false ↔ T b

@@ -11,10 +11,11 @@ use lib.ListN.{getD, set, length, length-set}
 use lib.Seq.{getD-set-same, getD-set-other}
 use lib.Ieee.{Float, binary64, fits, ne}
 use lib.Ieee.Fits.{add-fits}
-use Rattle.lines.specs.Passes.{through, nought}
+use Rattle.lines.specs.Passes.{through}
+use Rattle.binary64.specs.Numbers.{nought}
 use Rattle.lines.proofs.Laws.{through-none, through-more, through-cong}
 use Rattle.training.specs.Rules.{difference, squared}
-use Rattle.passive_aggressive.specs.Noted.{differing, fourAdded, settled, Notes}
+use Rattle.passive_aggressive.specs.Noted.{differing, fourAdded, foursAdded, FourNotes}
 use Rattle.passive_aggressive.proofs.Nothing.{unsigned, plus-square, plus-zero-square}
 
 -- four steps
@@ -54,32 +55,32 @@ module _ (truly predicted : List Float) where
       let e = either _ _ h in
       ap (squared truly predicted (i + n)) (still i n x p (e .0)) ∙ plus-zero-square x (difference truly predicted (i + n)) (p .held) (p .plus) (e .1)
 
-  settled-none : (who : List ℕ) (x : Float) → x ≡ settled truly predicted who 0 x
-  unfolding settled
+  settled-none : (who : List ℕ) (x : Float) → x ≡ foursAdded truly predicted who 0 x
+  unfolding foursAdded
   settled-none who x = through-none (fourAdded truly predicted who) 0 x
 
   module _ (who : List ℕ) (n i : ℕ) (h : n < length who) (x : Float) where
     -- what is noted past the notes does not matter
-    past : settled truly predicted (set who n i) n x ≡ settled truly predicted who n x
-    unfolding settled fourAdded
+    past : foursAdded truly predicted (set who n i) n x ≡ foursAdded truly predicted who n x
+    unfolding foursAdded fourAdded
     past =
         through-cong (fourAdded truly predicted (set who n i)) (fourAdded truly predicted who) 0 n x (λ j l t.
         let d : 0 + j ≡ n → ⊥ = λ e. omega arith in
         rw (getD-set-other who n (0 + j) i 0 d))
 
     -- the note itself
-    one-more : settled truly predicted (set who n i) (n + 1) x ≡ through (squared truly predicted) i 4 (settled truly predicted who n x)
-    unfolding settled fourAdded
+    one-more : foursAdded truly predicted (set who n i) (n + 1) x ≡ through (squared truly predicted) i 4 (foursAdded truly predicted who n x)
+    unfolding foursAdded fourAdded
     one-more =
         through-more (fourAdded truly predicted (set who n i)) n x
         ∙ rw (getD-set-same who n i 0 h) (ap (through (squared truly predicted) i 4) past)
 
     -- noted, and kept where the counts differ: the norm has come four features further
     four-noted : {who' : List ℕ} {r : ℕ} → who' ≡ set who n i → r ≡ cond (through (differing truly predicted) i 4 false) (n + 1) n →
-        settled truly predicted who n x ≡ through (squared truly predicted) 0 i nought → settled truly predicted who' r x ≡ through (squared truly predicted) 0 (i + 4) nought
+        foursAdded truly predicted who n x ≡ through (squared truly predicted) 0 i nought → foursAdded truly predicted who' r x ≡ through (squared truly predicted) 0 (i + 4) nought
     four-noted {who'} {r} e q so-far = rw e (go (through (differing truly predicted) i 4 false) refl q)
       where
-        go : (b : Bool) → through (differing truly predicted) i 4 false ≡ b → r ≡ cond b (n + 1) n → settled truly predicted (set who n i) r x ≡ through (squared truly predicted) 0 (i + 4) nought
+        go : (b : Bool) → through (differing truly predicted) i 4 false ≡ b → r ≡ cond b (n + 1) n → foursAdded truly predicted (set who n i) r x ≡ through (squared truly predicted) 0 (i + 4) nought
         go true d k = rw k (one-more ∙ ap (through (squared truly predicted) i 4) so-far ∙ through-on (squared truly predicted) i 4 nought)
         go false d k =
             rw k
@@ -89,8 +90,8 @@ module _ (truly predicted : List Float) where
             ∙ through-on (squared truly predicted) i 4 nought)
 
 -- what `note` leaves are notes
-still-notes : {features : ℕ} {who : List ℕ} {n : ℕ} (i : ℕ) (b : Bool) {who' : List ℕ} {r : ℕ} → Notes features who n → n < length who → i + 4 ≤ features →
-    who' ≡ set who n i → r ≡ cond b (n + 1) n → Notes features who' r
+still-notes : {features : ℕ} {who : List ℕ} {n : ℕ} (i : ℕ) (b : Bool) {who' : List ℕ} {r : ℕ} → FourNotes features who n → n < length who → i + 4 ≤ features →
+    who' ≡ set who n i → r ≡ cond b (n + 1) n → FourNotes features who' r
 still-notes {features} {who} {n} i b {r = r} p h k e g =
     record { there = rw (e, length-set who n i) (omega (arith, most b g)); fours = λ j l. rw e (each j (eqb j n) refl (omega (arith, most b g, l))) }
   where
@@ -108,8 +109,8 @@ still-notes {features} {who} {n} i b {r = r} p h k e g =
 pub record Going (features : ℕ) (truly predicted : List Float) (who : List ℕ) (noted : ℕ) (sum : Float) (i : ℕ) : Type 0 where
   pub within : i ≤ features
   pub long : length who ≡ 32
-  pub notes : Notes features who noted
-  pub so-far : settled truly predicted who noted sum ≡ through (squared truly predicted) 0 i nought
+  pub notes : FourNotes features who noted
+  pub so-far : foursAdded truly predicted who noted sum ≡ through (squared truly predicted) 0 i nought
 
 module _ {features : ℕ} {truly predicted : List Float} where
   pub going-none : (who : List ℕ) → length who ≡ 32 → Going features truly predicted who 0 nought 0
@@ -134,7 +135,7 @@ module _ {features : ℕ} {truly predicted : List Float} where
       }
 
   -- the notes are added up
-  pub going-settled : {who : List ℕ} {n : ℕ} {sum : Float} {i : ℕ} {t : Float} → Going features truly predicted who n sum i → t ≡ settled truly predicted who n sum → Going features truly predicted who 0 t i
+  pub going-settled : {who : List ℕ} {n : ℕ} {sum : Float} {i : ℕ} {t : Float} → Going features truly predicted who n sum i → t ≡ foursAdded truly predicted who n sum → Going features truly predicted who 0 t i
   going-settled {who} g e =
       record {
         within = g .within;
@@ -144,7 +145,7 @@ module _ {features : ℕ} {truly predicted : List Float} where
       }
 
   -- the features that are left are added up
-  pub going-end : {who : List ℕ} {noted : ℕ} {sum : Float} {i : ℕ} {t u : Float} → Going features truly predicted who noted sum i → t ≡ settled truly predicted who noted sum → u ≡ through (squared truly predicted) i (features - i) t → u ≡ through (squared truly predicted) 0 features nought
+  pub going-end : {who : List ℕ} {noted : ℕ} {sum : Float} {i : ℕ} {t u : Float} → Going features truly predicted who noted sum i → t ≡ foursAdded truly predicted who noted sum → u ≡ through (squared truly predicted) i (features - i) t → u ≡ through (squared truly predicted) 0 features nought
   going-end {i = i} g e f =
       let all : i + (features - i) ≡ features = omega (arith, g .within) in
       f ∙ ap (through (squared truly predicted) i (features - i)) (e ∙ g .so-far) ∙ through-on (squared truly predicted) i (features - i) nought ∙ ap (λ (k : ℕ). through (squared truly predicted) 0 k nought) all

@@ -10,7 +10,7 @@ use lib.Ieee.{Float, nan, inf, fin, binary64, low, emax, prec, up, down, unlike,
 use lib.Ieee.Fits.{down-pos, round-is}
 use lib.Ieee.Scale.{round-same}
 use Rattle.binary64.proofs.Signed.{level→}
-use Rattle.lines.specs.Passes.{nought}
+use Rattle.binary64.specs.Numbers.{nought}
 use Rattle.training_tables.proofs.Rounded.{round-back}
 
 abbrev pub unsigned : Float → Bool

@@ -4,8 +4,8 @@ use mathlib.Core.Bool.{Bool, cond}
 use Prim.Native.Nat.{ℕ}
 use lib.Ieee.{Float, lt}
 use Rattle.roots.specs.Root.{nearestRoot}
-use Rattle.lines.specs.Passes.{through, nought}
-use Rattle.training.specs.Data.{whole}
+use Rattle.lines.specs.Passes.{through}
+use Rattle.binary64.specs.Numbers.{nought, whole}
 use Rattle.training.specs.Rules.{Learned, Mistake, Update, squared, stepOf, pulled, passive, byPassive, updatedBy, _⊕_, _⊖_, _⊗_}
 
 -- the update, put together from its cost, norm, step and tables

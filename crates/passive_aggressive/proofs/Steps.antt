@@ -3,7 +3,7 @@ use mathlib.Core.Path.{_≡_, refl}
 use Prim.Native.Nat.{ℕ, zero, suc}
 use lib.Ieee.{Float}
 use Rattle.binary64.specs.Smaller.{smaller}
-use Rattle.training.specs.Data.{whole}
+use Rattle.binary64.specs.Numbers.{whole}
 use Rattle.training.specs.Rules.{stepOf, _⊕_, _⊗_, _⊘_}
 
 module _ (variant : ℕ) (c cost norm : Float) where

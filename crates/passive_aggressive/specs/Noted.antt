@@ -4,7 +4,8 @@ use mathlib.Core.List.{List}
 use Prim.Native.Nat.{ℕ, _+_, _≤_, _<_}
 use lib.ListN.{getD, length}
 use lib.Ieee.{Float, ne}
-use Rattle.lines.specs.Passes.{through, nought}
+use Rattle.lines.specs.Passes.{through}
+use Rattle.binary64.specs.Numbers.{nought}
 use Rattle.training.specs.Rules.{difference, squared}
 
 module _ (truly predicted : List Float) where
@@ -17,10 +18,10 @@ module _ (truly predicted : List Float) where
   fourAdded who note sum = through (squared truly predicted) (getD who note 0) 4 sum
 
   -- so many notes, in their order
-  unfoldable pub settled : List ℕ → ℕ → Float → Float
-  settled who noted sum = through (fourAdded who) 0 noted sum
+  unfoldable pub foursAdded : List ℕ → ℕ → Float → Float
+  foursAdded who noted sum = through (fourAdded who) 0 noted sum
 
 -- so many notes are there, each of four features
-pub record Notes (features : ℕ) (who : List ℕ) (noted : ℕ) : Type 0 where
+pub record FourNotes (features : ℕ) (who : List ℕ) (noted : ℕ) : Type 0 where
   pub there : noted ≤ length who
   pub fours : (note : ℕ) → note < noted → getD who note 0 + 4 ≤ features

@@ -4,13 +4,13 @@ ghost use mathlib.Core.Bool.{cond, false};
 ghost use mathlib.Core.Path.{_≡_};
 ghost use Prim.Native.Nat.{_+_, _-_, _<_, _≤_, ℕ};
 ghost use lib.ListN.{length, set};
-ghost use Rattle.lines.specs.Passes.{through, nought};
+ghost use Rattle.lines.specs.Passes.{through};
+ghost use Rattle.binary64.specs.Numbers.{nought, whole};
 ghost use Rattle.training.specs.Rules.{squared, pulled, stepOf, _⊕_, _⊖_, passive};
 ghost use Rattle.training_tables.specs.Tables.{Both, Held, Moved, Updated};
-ghost use Rattle.passive_aggressive.specs.Noted.{differing, settled, Notes};
+ghost use Rattle.passive_aggressive.specs.Noted.{differing, foursAdded, FourNotes};
 ghost use lib.Ieee.{lt};
 ghost use Rattle.roots.specs.Root.{nearestRoot};
-ghost use Rattle.training.specs.Data.{whole};
 use training_tables::Outcome;
 
 // What is asked of the true path beside the predicted one's score: the root of the number of wrong labels where the switch is
@@ -112,8 +112,8 @@ fn settle(
     sum: f64,
 ) -> f64
     requires { ⌜ Both features (length (now truly)) (length (now predicted)) ⌝ }
-    requires { ⌜ Notes features (now who) noted ⌝ }
-    ensures { λ r. ⌜ r ≡ settled (now (truly .entry)) (now (predicted .entry)) (now (who .entry)) noted sum ⌝ }
+    requires { ⌜ FourNotes features (now who) noted ⌝ }
+    ensures { λ r. ⌜ r ≡ foursAdded (now (truly .entry)) (now (predicted .entry)) (now (who .entry)) noted sum ⌝ }
 {
     let mut s = sum;
     let mut j = 0usize;

@@ -3,7 +3,7 @@
 ghost use mathlib.Core.Path.{_≡_};
 ghost use lib.ListN.{length};
 ghost use lib.Ieee.{Float};
-ghost use Rattle.training.specs.Data.{whole};
+ghost use Rattle.binary64.specs.Numbers.{whole};
 ghost use Rattle.training.specs.Rules.{pushed, perceptron, _⊗_, _⊘_};
 ghost use Rattle.training_tables.specs.Tables.{Held, Moved, Updated};
 use training_tables::Outcome;

@@ -9,11 +9,11 @@ use Rattle.score_tables.specs.Sound.{WordsIn}
 use Rattle.lines.specs.Tables.{Model, Words}
 use Rattle.lines.specs.Sound.{SoundTransitions}
 use Rattle.lines.specs.Scored.{transitionsOf, statesOf}
-use Rattle.feature_gen.specs.Sound.{Sound}
+use Rattle.feature_gen.specs.Sound.{SoundModel}
 use Rattle.judging.specs.declared.Prediction.{Prediction}
 use Rattle.judging.specs.Judged.{Judged}
 
-module _ {m : Model} (s : Sound m) where
+module _ {m : Model} (s : SoundModel m) where
   pub transitions-sound : (weights : List Float) → m .features .count ≤ length weights → SoundTransitions (m .labels) (m .features .count) (m .features .kinds) (m .features .destinations) (m .features .sources) weights
   transitions-sound weights h = record {
     states = record { kinded = s .sized .kinds; aimed = s .sized .destinations; weighted = h; leads = s .destinations };

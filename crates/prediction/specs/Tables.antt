@@ -9,8 +9,8 @@ use denote.Triple.Both.{Both}
 use Rattle.lines.specs.Tables.{Model, Words}
 use Rattle.lines.specs.Sound.{SoundWords}
 use Rattle.score_tables.specs.Sound.{WordsIn}
-use Rattle.training.specs.Data.{Data}
-use Rattle.feature_gen.specs.Lent.{Numbers, Floats}
+use Rattle.lines.specs.Data.{Data}
+use Rattle.lines.specs.Entry.{Numbers, Floats}
 use Rattle.prediction.specs.declared.Sizes.{Sizes}
 
 abbrev pub modelOf : (sizes : Sizes) (kinds destinations sources starts entries labelStarts labelEntries : List ℕ) → Model
@@ -22,8 +22,8 @@ modelOf sizes kinds destinations sources starts entries labelStarts labelEntries
       labelLists = record { count = sizes .«label_lists»; starts = labelStarts; size = sizes .«label_entries»; entries = labelEntries };
     }
 
-abbrev pub wordsIn : (sizes : Sizes) (begins ids : List ℕ) (values : List Float) → Words
-wordsIn sizes begins ids values = record { starts = begins; size = sizes .attributes; ids = ids; values = values }
+abbrev pub wordsFrom : (sizes : Sizes) (begins ids : List ℕ) (values : List Float) → Words
+wordsFrom sizes begins ids values = record { starts = begins; size = sizes .attributes; ids = ids; values = values }
 
 abbrev pub dataOf : (sizes : Sizes) (lines begins ids : List ℕ) (values : List Float) (references : List ℕ) (shares : List Float) → Data
 dataOf sizes lines begins ids values references shares =
@@ -31,7 +31,7 @@ dataOf sizes lines begins ids values references shares =
       instances = sizes .instances;
       starts = lines;
       count = sizes .words;
-      words = wordsIn sizes begins ids values;
+      words = wordsFrom sizes begins ids values;
       references = references;
       weights = shares;
     }
@@ -41,7 +41,7 @@ abbrev pub modelAt : Sizes → Numbers → Numbers → Numbers → Numbers → N
 modelAt sizes k d s a e b f = modelOf sizes (now k) (now d) (now s) (now a) (now e) (now b) (now f)
 
 abbrev pub wordsAt : Sizes → Numbers → Numbers → Floats → Words
-wordsAt sizes b i v = wordsIn sizes (now b) (now i) (now v)
+wordsAt sizes b i v = wordsFrom sizes (now b) (now i) (now v)
 
 abbrev pub dataAt : Sizes → Numbers → Numbers → Numbers → Floats → Numbers → Floats → Data
 dataAt sizes l b i v r s = dataOf sizes (now l) (now b) (now i) (now v) (now r) (now s)

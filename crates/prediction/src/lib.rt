@@ -3,7 +3,7 @@ ghost use mathlib.Core.Path.{_≡_};
 ghost use Prim.Native.Nat.{_*_, _≤_};
 ghost use lib.ListN.{length};
 ghost use Rattle.lines.specs.Scored.{statesOf, transitionsOf};
-ghost use Rattle.feature_gen.specs.Sound.{Sound};
+ghost use Rattle.feature_gen.specs.Sound.{SoundModel};
 ghost use Rattle.prediction.specs.Tables.{modelAt, modelWas, wordsAt, wordsWas, SoundLine};
 ghost use Rattle.judging.specs.Judged.{Judged};
 use judging::Prediction;
@@ -42,7 +42,7 @@ fn predict_in(
     states: &mut [f64],
     path: &mut [u32],
 ) -> Prediction
-    requires { ⌜ Sound (modelAt sizes kinds destinations sources starts entries «label_starts» «label_entries») ⌝ }
+    requires { ⌜ SoundModel (modelAt sizes kinds destinations sources starts entries «label_starts» «label_entries») ⌝ }
     requires { ⌜ SoundLine (sizes .labels) (wordsAt sizes begins ids values) first words (now references) ⌝ }
     requires { ⌜ (length (now weights) ≡ sizes .features) × (length (now path) ≡ words) ⌝ }
     requires { ⌜ (length (now transitions) ≡ sizes .labels * sizes .labels) × (length (now states) ≡ words * sizes .labels) ⌝ }
@@ -104,7 +104,7 @@ fn predict_short(
     references: &[u32],
     path: &mut [u32],
 ) -> Prediction
-    requires { ⌜ Sound (modelAt sizes kinds destinations sources starts entries «label_starts» «label_entries») ⌝ }
+    requires { ⌜ SoundModel (modelAt sizes kinds destinations sources starts entries «label_starts» «label_entries») ⌝ }
     requires { ⌜ SoundLine (sizes .labels) (wordsAt sizes begins ids values) first words (now references) ⌝ }
     requires { ⌜ (length (now weights) ≡ sizes .features) × (length (now path) ≡ words) ⌝ }
     requires { ⌜ (sizes .labels * sizes .labels ≤ 256) × (words * sizes .labels ≤ 256) ⌝ }
@@ -159,7 +159,7 @@ fn predict_long(
     references: &[u32],
     path: &mut [u32],
 ) -> Prediction
-    requires { ⌜ Sound (modelAt sizes kinds destinations sources starts entries «label_starts» «label_entries») ⌝ }
+    requires { ⌜ SoundModel (modelAt sizes kinds destinations sources starts entries «label_starts» «label_entries») ⌝ }
     requires { ⌜ SoundLine (sizes .labels) (wordsAt sizes begins ids values) first words (now references) ⌝ }
     requires { ⌜ (length (now weights) ≡ sizes .features) × (length (now path) ≡ words) ⌝ }
     ensures { λ r.
@@ -213,7 +213,7 @@ pub fn predict(
     references: &[u32],
     path: &mut [u32],
 ) -> Prediction
-    requires { ⌜ Sound (modelAt sizes kinds destinations sources starts entries «label_starts» «label_entries») ⌝ }
+    requires { ⌜ SoundModel (modelAt sizes kinds destinations sources starts entries «label_starts» «label_entries») ⌝ }
     requires { ⌜ SoundLine (sizes .labels) (wordsAt sizes begins ids values) first words (now references) ⌝ }
     requires { ⌜ (length (now weights) ≡ sizes .features) × (length (now path) ≡ words) ⌝ }
     ensures { λ r.

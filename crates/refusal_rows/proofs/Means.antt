@@ -17,7 +17,7 @@ use Rattle.score_tables.specs.Sound.{WordsIn}
 use Rattle.score_tables.specs.Meaning.{Row}
 use Rattle.score_tables.proofs.Order.{row, Never, not-table, why}
 use Rattle.refusal_rows.specs.Limits.{Limit, count, room, broken, brokenFrom, anyBroken, two, Within, AllWithin}
-use Rattle.refusal_rows.specs.Tests.{Test, startsRise, linesFit, kindsKnown, idsBelow, sourcesBelow, numbersFinite, wordsIn, badLength, checked, checks, numberOf, places, Bad, Good, AllGood, FirstBadOf}
+use Rattle.refusal_rows.specs.Tests.{Test, startsRise, linesFit, kindsKnown, idsBelow, sourcesBelow, numbersFinite, lineLength, badLength, checked, checks, numberOf, places, Bad, Good, AllGood, FirstBadOf}
 
 -- ---- limits
 
@@ -93,13 +93,13 @@ words-mean n = let m = outside-means 1 (most theLineWords) n in (λ h. record { 
 lengths-mean : (table : List ℕ) (n : ℕ) → Exactly (checked (linesFit table n)) 4 n (Bad (linesFit table n))
 lengths-mean table n =
     exactly 4 (badLength table) n (Bad (linesFit table n))
-    (λ i. otherwise (outsideIts theLineWords (wordsIn table i)) (words-mean (wordsIn table i)))
+    (λ i. otherwise (outsideIts theLineWords (lineLength table i)) (words-mean (lineLength table i)))
 
 le-unless : {a b : ℕ} → (b < a → ⊥) → a ≤ b
 le-unless h = omega arith
 
 -- instances that all fit
-pub fitting : (table : List ℕ) (n : ℕ) → Good (linesFit table n) → (i : ℕ) → i < n → WordsIn (wordsIn table i)
+pub fitting : (table : List ℕ) (n : ℕ) → Good (linesFit table n) → (i : ℕ) → i < n → WordsIn (lineLength table i)
 fitting table n g i l = record {
   low = le-unless (λ b. g i l (λ w. omega (arith, w .low)));
   high = le-unless (λ b. g i l (λ w. omega (arith, w .high)));

@@ -15,8 +15,8 @@ use Rattle.refusals.specs.Meaning.{FirstBad, BadStart}
 use Rattle.score_tables.specs.Sound.{WordsIn}
 
 -- how many words an instance has, by the starts of the instances
-abbrev pub wordsIn : List ℕ → ℕ → ℕ
-wordsIn table i = getD table (i + 1) 0 - getD table i 0
+abbrev pub lineLength : List ℕ → ℕ → ℕ
+lineLength table i = getD table (i + 1) 0 - getD table i 0
 
 -- a test of the first n places of a table; of n + 1 starts for n lists
 pub data Test : Type 0 where
@@ -35,7 +35,7 @@ pub data Test : Type 0 where
 
 -- the T of instance i is outside 1 to 128
 abbrev pub badLength : List ℕ → ℕ → Bool
-badLength table i = outsideIts theLineWords (wordsIn table i)
+badLength table i = outsideIts theLineWords (lineLength table i)
 
 abbrev pub lengthsChecked : List ℕ → ℕ → Checked
 lengthsChecked table n = lowest 4 (badLength table) n
@@ -74,7 +74,7 @@ places (numbersFinite table n) = n
 
 abbrev pub Bad : Test → ℕ → Type 0
 Bad (startsRise table n entries) i = BadStart table n entries i
-Bad (linesFit table n) i = WordsIn (wordsIn table i) → ⊥
+Bad (linesFit table n) i = WordsIn (lineLength table i) → ⊥
 Bad (kindsKnown table n) i = (getD table i 0 ≡ 0 → ⊥) × (getD table i 0 ≡ 1 → ⊥)
 Bad (idsBelow table n bound) i = bound ≤ getD table i 0
 Bad (sourcesBelow kinds table n labels) i = (getD kinds i 0 ≡ 1) × (labels ≤ getD table i 0)

@@ -8,7 +8,8 @@ use lib.Ieee.{Float}
 use Rattle.best_path.specs.Decoded.{decodedPath, decodedSum}
 use Rattle.best_path.specs.Lead.{lead}
 use Rattle.lines.specs.declared.Attribute.{Attribute}
-use Rattle.lines.specs.Passes.{through, throughList, nought}
+use Rattle.lines.specs.Passes.{through, throughList}
+use Rattle.binary64.specs.Numbers.{nought}
 use Rattle.lines.specs.Scored.{scoredAttribute, scoredAt, scoredWord, statesOf, transitionEntry, transitionsOf}
 use Rattle.same_scores.specs.Named.{Input, statesFor}
 use Rattle.same_scores.specs.Agree.{Agree, states, transitions, scores, OnlyNamedMatters}

@@ -3,7 +3,7 @@ use mathlib.Core.Path.{_≡_}
 use mathlib.Core.List.{[]}
 use Prim.Native.Nat.{ℕ, _*_, _<_}
 use lib.ListN.{replicate}
-use Rattle.lines.specs.Passes.{nought}
+use Rattle.binary64.specs.Numbers.{nought}
 use Rattle.same_scores.specs.Named.{Input, attributesOf, InLine, statesFor}
 use Rattle.same_scores.specs.Agree.{states}
 

@@ -18,7 +18,7 @@ use Rattle.refusals.proofs.Meant.{numbers-finite}
 use Rattle.best_path.specs.Scores.{AllFinite, tabled}
 use Rattle.refusals.specs.Bounds.{theLabels, theLineWords, most}
 use Rattle.score_tables.specs.Rows.{one, four, two}
-use Rattle.score_tables.specs.Sound.{LabelsIn, WordsIn, Room, Sized}
+use Rattle.score_tables.specs.Sound.{LabelsIn, WordsIn, ScoresRoom, ScoresSized}
 
 -- the product of two numbers of 32 bits fits 64
 pub product-fits : {a b : ℕ} → a < 2 ^ 32 → b < 2 ^ 32 → a * b < 2 ^ 64
@@ -45,7 +45,7 @@ words-in {words} h =
     record { low = ltb-false words 1 (o .0); high = ltb-false (most theLineWords) words (o .1) }
 
 module _ {labels words : ℕ} {transitions states : List Float} where
-  pub room : two labels words transitions states ≡ Accepted → Room labels words transitions states
+  pub room : two labels words transitions states ≡ Accepted → ScoresRoom labels words transitions states
   room h =
       let o = neither (ltb (length transitions) (labels * labels)) (ltb (length states) (words * labels)) (passes 2 0 _ h) in
       record {
@@ -54,7 +54,7 @@ module _ {labels words : ℕ} {transitions states : List Float} where
       }
 
   -- what is in bounds and has room is small
-  pub sized-of : LabelsIn labels → WordsIn words → Room labels words transitions states → Sized labels words transitions states
+  pub sized-of : LabelsIn labels → WordsIn words → ScoresRoom labels words transitions states → ScoresSized labels words transitions states
   sized-of l w r = record {
     labels-in = l;
     words-in = w;
@@ -63,7 +63,7 @@ module _ {labels words : ℕ} {transitions states : List Float} where
     few-states = mul-le-mul (w .high) (l .high);
   }
 
-  pub sized : one labels ≡ Accepted → four words ≡ Accepted → two labels words transitions states ≡ Accepted → Sized labels words transitions states
+  pub sized : one labels ≡ Accepted → four words ≡ Accepted → two labels words transitions states ≡ Accepted → ScoresSized labels words transitions states
   sized h1 h4 h2 = sized-of (labels-in h1) (words-in h4) (room h2)
 
 -- 6 accepts: every entry within is finite

@@ -17,19 +17,19 @@ pub record WordsIn (words : ℕ) : Type 0 where
   pub high : words ≤ most theLineWords
 
 -- 2 does not apply: each table has its entries
-pub record Room (labels words : ℕ) (transitions states : List Float) : Type 0 where
+pub record ScoresRoom (labels words : ℕ) (transitions states : List Float) : Type 0 where
   pub long-transitions : labels * labels ≤ length transitions
   pub long-states : words * labels ≤ length states
 
 -- 1, 4 and 2 do not apply, so the sizes are small
-pub record Sized (labels words : ℕ) (transitions states : List Float) : Type 0 where
+pub record ScoresSized (labels words : ℕ) (transitions states : List Float) : Type 0 where
   pub labels-in : LabelsIn labels
   pub words-in : WordsIn words
-  pub room : Room labels words transitions states
+  pub room : ScoresRoom labels words transitions states
   pub few-transitions : labels * labels ≤ 1024
   pub few-states : words * labels ≤ 4096
 
 -- nor does 6
-pub record Sound (labels words : ℕ) (transitions states : List Float) : Type 0 where
-  pub sized : Sized labels words transitions states
+pub record SoundScores (labels words : ℕ) (transitions states : List Float) : Type 0 where
+  pub sized : ScoresSized labels words transitions states
   pub finite : AllFinite (tabled labels transitions states) words

@@ -4,7 +4,7 @@ ghost use mathlib.Core.Path.{_≡_};
 ghost use Prim.Native.Nat.{_*_};
 ghost use Rattle.refusals.specs.Refusals.{orNext, firstFrom};
 ghost use Rattle.score_tables.specs.Rows.{two, sixes, boundsChecked};
-ghost use Rattle.score_tables.specs.Sound.{Room};
+ghost use Rattle.score_tables.specs.Sound.{ScoresRoom};
 use refusals::Checked;
 
 pub const MOST_LABELS: u32 = 32;
@@ -54,7 +54,7 @@ pub fn check_finite(
     transitions: &[f64],
     states: &[f64],
 ) -> Checked
-    requires { ⌜ (answer ≡ Checked.Accepted → Room labels words (now transitions) (now states)) ⌝ }
+    requires { ⌜ (answer ≡ Checked.Accepted → ScoresRoom labels words (now transitions) (now states)) ⌝ }
     ensures { λ r. ⌜ r ≡ firstFrom answer (sixes labels words (now (transitions .entry)) (now (states .entry))) ⌝ }
 {
     if let Checked::Refused(why) = answer {

@@ -14,10 +14,10 @@ use Rattle.refusals.specs.declared.Checked.the-variants.{Accepted, Refused}
 use Rattle.refusals.specs.Refusals.{first, orNext}
 use Rattle.refusals.proofs.Laws.{settled, all-accepted, passes}
 use Rattle.refusals.proofs.Meant.{ids-below}
-use Rattle.best_path.specs.Scores.{Scores, at}
+use Rattle.best_path.specs.Scores.{Scores, labelAt}
 use Rattle.best_path.specs.PathScore.{pathScore}
 use Rattle.score_tables.specs.Rows.{sixes}
-use Rattle.score_tables.specs.Sound.{Room}
+use Rattle.score_tables.specs.Sound.{ScoresRoom}
 use Rattle.score_tables.proofs.Laws.{within, room, sized, all-finite}
 use Rattle.sequence_score.specs.Rows.{sizes, five, sizesChecked, pathChecked}
 use Rattle.sequence_score.specs.Sound.{SoundPath, Met}
@@ -28,13 +28,13 @@ unfolding pathScore ofBits
 none s path count h = rw h
 
 -- the first
-pub one-word : (s : Scores) (path : List ℕ) → add binary64 (ofBits binary64 0) (s .state 0 (at path 0)) ≡ pathScore s path 1
+pub one-word : (s : Scores) (path : List ℕ) → add binary64 (ofBits binary64 0) (s .state 0 (labelAt path 0)) ≡ pathScore s path 1
 unfolding pathScore ofBits
 one-word s path = refl
 
 -- one word more
 pub one-more : (s : Scores) (path : List ℕ) (word : ℕ) → 0 < word →
-    add binary64 (add binary64 (pathScore s path word) (s .state word (at path word))) (s .transition (at path (word - 1)) (at path word)) ≡ pathScore s path (word + 1)
+    add binary64 (add binary64 (pathScore s path word) (s .state word (labelAt path word))) (s .transition (labelAt path (word - 1)) (labelAt path word)) ≡ pathScore s path (word + 1)
 unfolding pathScore
 one-more s path zero h = absurd (omega arith)
 one-more s path (suc word) h = let e : suc word - 1 ≡ word = omega arith in rw (add-one, e)
@@ -70,7 +70,7 @@ module _ (labels words : ℕ) (transitions states : List Float) (path : List ℕ
       ltb-false (length path) count (passes 2 0 _ (a .1 .1 .1 .1 .0))
 
   -- and in the tables
-  pub tables-room : sizesChecked labels words transitions states path count ≡ Accepted → Room labels words transitions states
+  pub tables-room : sizesChecked labels words transitions states path count ≡ Accepted → ScoresRoom labels words transitions states
   unfolding sizesChecked
   tables-room h =
       let a = all-accepted Accepted rows h .1 in

@@ -13,7 +13,7 @@ use Rattle.refusals.specs.Meaning.{Exactly}
 use Rattle.refusals.proofs.Laws.{passes}
 use Rattle.refusals.proofs.Said.{refused-said, accepted-said}
 use Rattle.refusals.proofs.Meant.{ids-mean, ids-below}
-use Rattle.best_path.specs.Scores.{at, tabled}
+use Rattle.best_path.specs.Scores.{labelAt, tabled}
 use Rattle.best_path.specs.PathScore.{pathScore}
 use Rattle.score_tables.specs.Meaning.{Row}
 use Rattle.score_tables.proofs.Order.{row, not-table, of-table}
@@ -42,7 +42,7 @@ module _ (given : Given) where
   abbrev twos : Group
   twos = pair (two-means (given .labels) (given .words) (given .transitions) (given .states)) (short-means (given .path) (given .count))
 
-  abbrev labels-mean : Exactly (five (given .labels) (given .path) (given .count)) 5 (given .count) (λ word. given .labels ≤ at (given .path) word)
+  abbrev labels-mean : Exactly (five (given .labels) (given .path) (given .count)) 5 (given .count) (λ word. given .labels ≤ labelAt (given .path) word)
   labels-mean = ids-mean (given .path) (given .count) (given .labels)
 
   abbrev fives : Group

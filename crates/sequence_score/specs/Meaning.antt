@@ -9,8 +9,8 @@ use Rattle.refusals.specs.declared.Checked.the-variants.{Accepted}
 use Rattle.refusals.specs.Refusals.{numbered, refusedAt}
 use Rattle.refusals.specs.Said.{accepted, refused}
 use Rattle.refusals.specs.Meaning.{FirstBad}
-use Rattle.best_path.specs.Scores.{at}
-use Rattle.score_tables.specs.Sound.{LabelsIn, WordsIn, Room}
+use Rattle.best_path.specs.Scores.{labelAt}
+use Rattle.score_tables.specs.Sound.{LabelsIn, WordsIn, ScoresRoom}
 use Rattle.score_tables.specs.Meaning.{SixAt}
 use Rattle.refusal_rows.specs.Given.{AtZero, OneOf}
 use Rattle.sequence_score.specs.declared.PathScore.{PathScore}
@@ -23,11 +23,11 @@ LengthsIn given = WordsIn (given .words) × (given .count ≤ given .words)
 
 -- each table has its entries, and the path its labels
 abbrev pub AllRoom : Given → Type 0
-AllRoom given = Room (given .labels) (given .words) (given .transitions) (given .states) × (given .count ≤ length (given .path))
+AllRoom given = ScoresRoom (given .labels) (given .words) (given .transitions) (given .states) × (given .count ≤ length (given .path))
 
 -- "label at or above L", at the first such word
 abbrev pub FiveAt : Given → ℕ → Type 0
-FiveAt given place = FirstBad (λ word. given .labels ≤ at (given .path) word) (given .count) place
+FiveAt given place = FirstBad (λ word. given .labels ≤ labelAt (given .path) word) (given .count) place
 
 -- `Refuses number place` says how a refusal is answered, `Accepts` how none is; before each number stands what was tested and found fine
 pub record Meaning (Refuses : ℕ → ℕ → Type 0) (Accepts : Type 0) (given : Given) : Type 0 where

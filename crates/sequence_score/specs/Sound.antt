@@ -3,18 +3,18 @@ use mathlib.Core.List.{List}
 use Prim.Native.Nat.{ℕ, _*_, _<_, _≤_}
 use lib.ListN.{length}
 use lib.Ieee.{Float}
-use Rattle.best_path.specs.Scores.{at, tabled, AllFinite}
-use Rattle.score_tables.specs.Sound.{Sized}
+use Rattle.best_path.specs.Scores.{labelAt, tabled, AllFinite}
+use Rattle.score_tables.specs.Sound.{ScoresSized}
 
 -- 1, 4 and 2 do not apply
 pub record SizedPath (labels words : ℕ) (transitions states : List Float) (path : List ℕ) (count : ℕ) : Type 0 where
-  pub sized : Sized labels words transitions states
+  pub sized : ScoresSized labels words transitions states
   pub not-longer : count ≤ words
   pub long-path : count ≤ length path
 
 -- 5 does not apply: the first so many labels of the path are below L
 abbrev pub LabelsBelow : ℕ → List ℕ → ℕ → Type 0
-LabelsBelow labels path count = (word : ℕ) → word < count → at path word < labels
+LabelsBelow labels path count = (word : ℕ) → word < count → labelAt path word < labels
 
 -- nor does 6
 pub record SoundPath (labels words : ℕ) (transitions states : List Float) (path : List ℕ) (count : ℕ) : Type 0 where

@@ -12,7 +12,7 @@ use Rattle.refusals.specs.declared.Checked.the-variants.{Accepted, Refused}
 use Rattle.refusals.proofs.Meant.{numbers-finite}
 use Rattle.fronts.specs.Finite.{FiniteTo}
 use Rattle.score_tables.proofs.Meant.{to-finite}
-use Rattle.sheet.specs.File.{Sheet, littleEndian, numbers, encoded, Finite64, Sound}
+use Rattle.sheet.specs.File.{Sheet, littleEndian, numbers, encoded, Finite64, SoundSheet}
 use Rattle.sheet.specs.Fields.{labelsIn, wordsIn, statesFrom, wholeLength, numbersIn, transitionsIn, statesIn}
 use Rattle.sheet.specs.Rows.{Given, Lent, sheetChecked}
 use Rattle.sheet.specs.RowsMeaning.{RightHead, RightFile}
@@ -24,7 +24,7 @@ use Rattle.sheet.proofs.RowsMeant.{mark-byte, sheets-mean}
 
 -- ---- the fields of an encoded sheet
 
-module _ (s : Sheet) (sound : Sound s) where
+module _ (s : Sheet) (sound : SoundSheet s) where
   body : List ℕ
   body = numbers (s .transitions) ++ numbers (s .states)
 
@@ -113,7 +113,7 @@ module _ (bytes : List ℕ) (all : Bytes bytes) (right : RightFile bytes) where
       let e = length-numbers n (drop at bytes) in
       record { finite64 = λ i l. f i (omega arith); binary = λ i l. rw (number-at bytes at n i (omega arith)) (ofBits-fits binary64 _) }
 
-  pub sound-in : Sound (sheetIn bytes)
+  pub sound-in : SoundSheet (sheetIn bytes)
   unfolding transitionsIn statesIn
   sound-in =
       record {
@@ -181,7 +181,7 @@ accepted-if-read given before labels words h = go (sheetChecked given before) h
     go Accepted e = refl
     go (Refused why) e = let z : _≡_ {A = ℕ} 0 1 = cc in absurd (omega arith)
 
-only-files : (given : Given) → Bytes (given .bytes) → (before : Lent) (outcome : Outcome) → Promised given before outcome → (labels words : ℕ) → said (outcome .answer) ≡ read labels words → (s : Sheet) × Sound s × (given .bytes ≡ encoded s) × RoomFor s before × ReadFrom s before outcome
+only-files : (given : Given) → Bytes (given .bytes) → (before : Lent) (outcome : Outcome) → Promised given before outcome → (labels words : ℕ) → said (outcome .answer) ≡ read labels words → (s : Sheet) × SoundSheet s × (given .bytes ≡ encoded s) × RoomFor s before × ReadFrom s before outcome
 only-files given all before outcome p labels words e =
     let h = accepted-if-read given before labels words (sym (p .answers) ∙ e) in
     let a = sheets-mean given before .accepted .0 h in (

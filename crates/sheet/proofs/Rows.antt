@@ -11,7 +11,7 @@ use Rattle.refusals.specs.Refusals.{refuse, orNext, first}
 use Rattle.refusals.specs.Tables.{numbersChecked}
 use Rattle.refusals.proofs.Laws.{settled, both, all-accepted, neither, passes}
 use Rattle.score_tables.specs.Rows.{one, four, boundsChecked}
-use Rattle.score_tables.specs.Sound.{Sized}
+use Rattle.score_tables.specs.Sound.{ScoresSized}
 use Rattle.score_tables.proofs.Laws.{sized}
 use Rattle.sheet.specs.Fields.{labelsIn, wordsIn, wholeLength, transitionsIn, statesIn}
 use Rattle.sheet.specs.Rows.{Lent, wrongHead, wrongLength, headRows, sizeRows, entryRows, sizesChecked, fileChecked, tablesShort, sheetChecked}
@@ -54,7 +54,7 @@ module _ (bytes : List ℕ) (before : Lent) where
   -- what accepted sizes give
   pub record Sizes : Type 0 where
     pub long : 8 ≤ length bytes
-    pub room : Sized (labelsIn bytes) (wordsIn bytes) (before .transitions) (before .states)
+    pub room : ScoresSized (labelsIn bytes) (wordsIn bytes) (before .transitions) (before .states)
     pub exact : length bytes ≡ wholeLength bytes
 
   pub sizes : sizesChecked bytes (tablesShort bytes before) ≡ Accepted → Sizes

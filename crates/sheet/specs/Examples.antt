@@ -4,19 +4,17 @@ use mathlib.Core.Bool.{false}
 use mathlib.Core.List.{[], _∷_}
 use lib.IntN.{pos}
 use lib.ListN.{length, take}
-use lib.Ieee.{Float, fin, toBits}
+use lib.Ieee.{fin, toBits}
+use Rattle.binary64.specs.Numbers.{nought}
 use Rattle.sheet.specs.File.{Sheet, littleEndian, numbers, encoded}
-
-abbrev zero64 : Float
-zero64 = fin false 0 (pos 0)
 
 -- "P4: L=2, T=2, states 1,0 / 0,0, transitions 0,2 / 0,0"
 abbrev p4 : Sheet
 p4 = record {
   labels = 2;
   words = 2;
-  transitions = zero64 ∷ fin false 1 (pos 1) ∷ zero64 ∷ zero64 ∷ [];
-  states = fin false 1 (pos 0) ∷ zero64 ∷ zero64 ∷ zero64 ∷ [];
+  transitions = nought ∷ fin false 1 (pos 1) ∷ nought ∷ nought ∷ [];
+  states = fin false 1 (pos 0) ∷ nought ∷ nought ∷ nought ∷ [];
 }
 
 -- "For case P4 the input has 72 bytes"

@@ -37,7 +37,7 @@ pub record Finite64 (table : List Float) : Type 0 where
   pub binary : (i : ℕ) → i < length table → T (fits binary64 (getD table i nan))
 
 -- a sheet that nothing is refused in: L and T in their bounds, L·L transitions, T·L states, all of them finite
-pub record Sound (s : Sheet) : Type 0 where
+pub record SoundSheet (s : Sheet) : Type 0 where
   pub labels-in : LabelsIn (s .labels)
   pub words-in : WordsIn (s .words)
   pub all-transitions : length (s .transitions) ≡ s .labels * s .labels

@@ -4,11 +4,11 @@ use mathlib.Core.List.{List, _++_}
 use mathlib.Core.Logic.{_↔_}
 use Prim.Native.Nat.{ℕ, _<_}
 use lib.ListN.{length, getD, drop}
-use Rattle.score_tables.specs.Sound.{Room}
+use Rattle.score_tables.specs.Sound.{ScoresRoom}
 use Rattle.sheet.specs.Fields.{labelsIn, wordsIn, transitionsIn, statesIn}
 use Rattle.sheet.specs.Rows.{Given, Lent}
 use Rattle.sheet.specs.RowsMeaning.{RightFile}
-use Rattle.sheet.specs.File.{Sheet, encoded, Sound}
+use Rattle.sheet.specs.File.{Sheet, encoded, SoundSheet}
 use Rattle.sheet.specs.Promise.{Outcome, said, read, Promised}
 
 -- the sheet that bytes say
@@ -26,11 +26,11 @@ pub record Bytes (bytes : List ℕ) : Type 0 where
 
 -- there is room for the tables of a sheet
 abbrev pub RoomFor : Sheet → Lent → Type 0
-RoomFor s before = Room (s .labels) (s .words) (before .transitions) (before .states)
+RoomFor s before = ScoresRoom (s .labels) (s .words) (before .transitions) (before .states)
 
 -- bytes in which nothing is refused are the file of a sound sheet, and the other way round
 abbrev pub RightFilesAreSheets : Type 0
-RightFilesAreSheets = (bytes : List ℕ) → Bytes bytes → RightFile bytes ↔ ((s : Sheet) × Sound s × (bytes ≡ encoded s))
+RightFilesAreSheets = (bytes : List ℕ) → Bytes bytes → RightFile bytes ↔ ((s : Sheet) × SoundSheet s × (bytes ≡ encoded s))
 
 -- what is read from the file of a sheet: L, T, and its tables in front of the lent ones' tails
 pub record ReadFrom (s : Sheet) (before : Lent) (outcome : Outcome) : Type 0 where
@@ -40,7 +40,7 @@ pub record ReadFrom (s : Sheet) (before : Lent) (outcome : Outcome) : Type 0 whe
 
 pub record ExactlyTheFiles : Type 0 where
   -- the file of every sound sheet is read
-  pub every : (s : Sheet) → Sound s → (before : Lent) → RoomFor s before → (outcome : Outcome) → Promised (record { bytes = encoded s }) before outcome → ReadFrom s before outcome
+  pub every : (s : Sheet) → SoundSheet s → (before : Lent) → RoomFor s before → (outcome : Outcome) → Promised (record { bytes = encoded s }) before outcome → ReadFrom s before outcome
   -- and nothing else is
   pub only :
       (given : Given) →
@@ -49,4 +49,4 @@ pub record ExactlyTheFiles : Type 0 where
       Promised given before outcome →
       (labels words : ℕ) →
       said (outcome .answer) ≡ read labels words →
-      (s : Sheet) × Sound s × (given .bytes ≡ encoded s) × RoomFor s before × ReadFrom s before outcome
+      (s : Sheet) × SoundSheet s × (given .bytes ≡ encoded s) × RoomFor s before × ReadFrom s before outcome

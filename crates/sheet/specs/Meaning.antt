@@ -1,6 +1,6 @@
 -- What `read_sheet` answers in plain terms, of whatever satisfies its promise: each number exactly when document 01 gives it. The proof is in proofs/Meant.
 use mathlib.Core.Path.{_≡_}
-use Rattle.score_tables.specs.Sound.{Room}
+use Rattle.score_tables.specs.Sound.{ScoresRoom}
 use Rattle.refusals.specs.Refusals.{numbered}
 use Rattle.refusals.specs.Said.{refused}
 use Rattle.sheet.specs.Fields.{labelsIn, wordsIn}
@@ -13,4 +13,4 @@ ReadingMeans =
     (given : Given) (before : Lent) (outcome : Outcome) → Promised given before outcome →
     let bytes = given .bytes in
     Meaning (λ number place. said (outcome .answer) ≡ refused (numbered number place)) (said (outcome .answer) ≡ read (labelsIn bytes) (wordsIn bytes)) bytes
-    (Room (labelsIn bytes) (wordsIn bytes) (before .transitions) (before .states))
+    (ScoresRoom (labelsIn bytes) (wordsIn bytes) (before .transitions) (before .states))

@@ -6,7 +6,7 @@ use Prim.Native.Nat.{ℕ, _*_, _≤_}
 use lib.ListN.{length, take}
 use Rattle.refusals.specs.declared.Checked.the-variants.{Accepted}
 use Rattle.refusals.specs.Refusals.{refusedAt}
-use Rattle.score_tables.specs.Sound.{LabelsIn, WordsIn, Room}
+use Rattle.score_tables.specs.Sound.{LabelsIn, WordsIn, ScoresRoom}
 use Rattle.score_tables.specs.Meaning.{SixAt}
 use Rattle.fronts.specs.Finite.{FiniteTo}
 use Rattle.refusal_rows.specs.Given.{OneOf}
@@ -54,4 +54,4 @@ SheetsMean =
     (given : Given) (before : Lent) →
     let bytes = given .bytes in
     Meaning (λ number place. sheetChecked given before ≡ refusedAt number place) (sheetChecked given before ≡ Accepted) bytes
-    (Room (labelsIn bytes) (wordsIn bytes) (before .transitions) (before .states))
+    (ScoresRoom (labelsIn bytes) (wordsIn bytes) (before .transitions) (before .states))

@@ -3,7 +3,7 @@ use mathlib.Core.Path.{_≡_}
 use lib.ListN.{take, drop, replicate, length-replicate}
 use lib.Seq.{take-at}
 use Rattle.refusals.specs.declared.Checked.the-variants.{Accepted}
-use Rattle.lines.specs.Passes.{nought}
+use Rattle.binary64.specs.Numbers.{nought}
 use Rattle.trainers.specs.Promise.{Call, Given, Buffers, Outcome, checkedOf, trainedOf, ruleFor, settingsFor, holding, buffersAfter, Promised}
 use Rattle.trainers.proofs.Trained.{trained-long}
 

@@ -10,7 +10,8 @@ use lib.Ieee.{Float}
 use Rattle.refusals.specs.declared.Refusal.{Refusal}
 use Rattle.refusal_rows.specs.Given.{OneOf}
 use Rattle.shuffle.specs.Shuffle.{shuffled}
-use Rattle.lines.specs.Passes.{through, nought}
+use Rattle.lines.specs.Passes.{through}
+use Rattle.binary64.specs.Numbers.{nought, whole}
 use Rattle.lines.specs.Tables.{Model}
 use Rattle.lines.specs.Scored.{statesOf, transitionsOf}
 use Rattle.lines.specs.Counted.{countsOf}
@@ -18,10 +19,10 @@ use Rattle.training.specs.declared.Visit.{Visit}
 use Rattle.training.specs.declared.Visit.the-variants.{Unchanged, Updated, Refused}
 use Rattle.training.specs.declared.Training.{Training}
 use Rattle.training.specs.declared.Trained.{Trained}
-use Rattle.training.specs.Data.{Data, firstWord, wordsOf, referenceOf, whole}
+use Rattle.lines.specs.Data.{Data, firstWord, wordsOf, referenceOf}
 use Rattle.fronts.specs.Finite.{allFinite}
 use Rattle.training.specs.Rules.{Rule, Update, stops, averagedBy}
-use Rattle.training.specs.Visits.{State, refusedAs, unchanged, changedTo, finiteState, heldTo, corrected, compared, visited}
+use Rattle.training.specs.Visits.{TrainingState, refusedAs, unchanged, changedTo, finiteState, heldTo, corrected, compared, visited}
 use Rattle.training.specs.Epochs.{Settings, Run, Result, isRefused, opened, visitedAt, epochOver, epoch, epochUnlessOver, begun, ran, refusedWith, averaged, finished, trained}
 use Rattle.training.specs.OneVisit.{predictedFor}
 use Rattle.training.proofs.OneVisit.{wrongIn}
@@ -37,11 +38,11 @@ Late Unchanged = Unit
 Late Updated = Unit
 Late (Refused why) = OneOf (8 ∷ 9 ∷ []) (why .number)
 
-abbrev LateIn : State → Type 0
-LateIn s = Late (s .step .visit)
+abbrev LateIn : TrainingState → Type 0
+LateIn s = Late (s .progress .visit)
 
 -- what its four ends have, a visit has
-visit-by : (P : State → Type 0) (rule : Rule) (m : Model) (d : Data) (i : ℕ) (s : State) → P (refusedAs 8 s) → P (refusedAs 9 s) → P (unchanged s) → ((u : Update) → P (changedTo u s)) → P (visited rule m d i s)
+visit-by : (P : TrainingState → Type 0) (rule : Rule) (m : Model) (d : Data) (i : ℕ) (s : TrainingState) → P (refusedAs 8 s) → P (refusedAs 9 s) → P (unchanged s) → ((u : Update) → P (changedTo u s)) → P (visited rule m d i s)
 unfolding predictedFor visited compared corrected heldTo
 visit-by P rule m d i s eight nine same changed =
     let w = s .learned .weights in
@@ -53,17 +54,17 @@ visit-by P rule m d i s eight nine same changed =
     (by-test P (eqb (wrongIn rule m d i s) 0) _ _ same (by-test P (allFinite truly f && allFinite predicted f) _ _ (held _ (changed _)) eight))
     eight
   where
-    held : (after : State) → P after → P (heldTo (m .features .count) s after)
+    held : (after : TrainingState) → P after → P (heldTo (m .features .count) s after)
     held after x = by-test P (finiteState (m .features .count) after) _ _ x nine
 
-visit-late : (rule : Rule) (m : Model) (d : Data) (i : ℕ) (s : State) → LateIn (visited rule m d i s)
+visit-late : (rule : Rule) (m : Model) (d : Data) (i : ℕ) (s : TrainingState) → LateIn (visited rule m d i s)
 unfolding refusedAs unchanged changedTo
 visit-late rule m d i s = visit-by LateIn rule m d i s (inl refl) (inr (inl refl)) tt (λ u. tt)
 
-module _ (visit : ℕ → State → State) (late : (i : ℕ) (s : State) → LateIn (visit i s)) where
-  at-late : (order : List ℕ) (j : ℕ) (s : State) → LateIn s → LateIn (visitedAt visit order j s)
+module _ (visit : ℕ → TrainingState → TrainingState) (late : (i : ℕ) (s : TrainingState) → LateIn (visit i s)) where
+  at-late : (order : List ℕ) (j : ℕ) (s : TrainingState) → LateIn s → LateIn (visitedAt visit order j s)
   unfolding visitedAt
-  at-late order j s h = by-test LateIn (isRefused (s .step .visit)) s (visit (getD order j 0) s) h (late (getD order j 0) s)
+  at-late order j s h = by-test LateIn (isRefused (s .progress .visit)) s (visit (getD order j 0) s) h (late (getD order j 0) s)
 
   unless-late : (stop : Float → Bool) (instances e : ℕ) (r : Run) → LateIn (r .state) → LateIn (epochUnlessOver visit stop instances e r .state)
   unfolding epochUnlessOver epoch epochOver opened
@@ -104,8 +105,8 @@ module _ (rule : Rule) (set : Settings) (m : Model) (d : Data) where
   unfolding averaged
   averaged-told r h =
       let n = m .features .count in
-      let w = averagedBy rule n (whole (r .state .step .visits + 1)) (r .state .learned) in
-      by-test Told (allFinite w n) _ _ (accepted-told _ w (average-long n rule n _ (r .state .learned) h)) (refused-told (record { number = 9; place = r .state .step .visits }) (inr (inl refl)))
+      let w = averagedBy rule n (whole (r .state .progress .visits + 1)) (r .state .learned) in
+      by-test Told (allFinite w n) _ _ (accepted-told _ w (average-long n rule n _ (r .state .learned) h)) (refused-told (record { number = 9; place = r .state .progress .visits }) (inr (inl refl)))
 
   finished-told : (v : Visit) (r : Run) → Late v → Long (m .features .count) (r .state .learned) → Told (finished rule set m d v r)
   unfolding finished
@@ -119,7 +120,7 @@ module _ (rule : Rule) (set : Settings) (m : Model) (d : Data) where
       let n = m .features .count in
       let stop = stops rule (set .epsilon) in
       let first = begun rule set m d in
-      finished-told (ran rule set m d .state .step .visit) (ran rule set m d)
+      finished-told (ran rule set m d .state .progress .visit) (ran rule set m d)
       (run-late (visited rule m d) (visit-late rule m d) stop (d .instances) (set .epochs) first tt)
       (run-long (visited rule m d) n (visit-long rule m d n) stop (d .instances) (set .epochs) first (length-replicate n nought))
 

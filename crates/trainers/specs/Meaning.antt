@@ -10,7 +10,7 @@ use lib.Ieee.Scale.{finite}
 use Rattle.refusals.specs.Refusals.{numbered, refusedAt}
 use Rattle.refusals.specs.Said.{refused}
 use Rattle.refusal_rows.specs.Given.{OneOf}
-use Rattle.lines.specs.Passes.{nought}
+use Rattle.binary64.specs.Numbers.{nought}
 use Rattle.training.specs.declared.Visit.{Visit}
 use Rattle.training.specs.Epochs.{isRefused}
 use Rattle.training.specs.Accepted.{isUpdated, howMany, ends}

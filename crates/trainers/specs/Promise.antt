@@ -7,12 +7,12 @@ use lib.Ieee.{Float}
 use Rattle.refusals.specs.declared.Checked.{Checked}
 use Rattle.refusals.specs.declared.Checked.the-variants.{Accepted, Refused}
 use Rattle.refusals.specs.Said.{Said, orRefused}
-use Rattle.lines.specs.Passes.{nought}
+use Rattle.binary64.specs.Numbers.{nought}
 use Rattle.lines.specs.Tables.{Model}
 use Rattle.fronts.specs.Cleared.{cleared}
 use Rattle.training.specs.declared.Training.{Training}
 use Rattle.training.specs.declared.Trained.{Trained}
-use Rattle.training.specs.Data.{Data}
+use Rattle.lines.specs.Data.{Data}
 use Rattle.training.specs.Rules.{Rule, perceptron, passive, arow}
 use Rattle.training.specs.Epochs.{Settings, Result, trained}
 pub use Rattle.training.specs.Said.{trainedWith, said}

@@ -3,11 +3,12 @@
 ghost use mathlib.Core.Path.{_≡_};
 ghost use Rattle.refusals.specs.declared.Checked.the-variants.{Accepted};
 ghost use Rattle.feature_gen.specs.Lent.{modelAt, modelWas};
-ghost use Rattle.training_check.specs.Lent.{dataAt, dataWas};
+ghost use Rattle.lines.specs.Entry.{dataAt, dataWas};
 ghost use Rattle.parameters.specs.Trainers.{ruleOf};
 ghost use Rattle.trainers.specs.Promise.{averagedPerceptron, passiveAggressive, adaptive, Given, Buffers, Promised};
 ghost use Rattle.trainers.specs.Inside.{Ready, Kept};
 use feature_gen::Counts;
+use lines::Totals;
 use parameters::Arow;
 use parameters::Passive;
 use parameters::Perceptron;
@@ -16,7 +17,6 @@ use prediction::Sizes;
 use refusals::Checked;
 use training::Training;
 use training_check::Lent;
-use training_check::Totals;
 
 // Training in the fronts of the buffers, unless the checks refuse.
 fn train_checked(

@@ -16,13 +16,14 @@ use Rattle.training.specs.declared.Trained.{Trained}
 use Rattle.training.specs.declared.Training.{Training}
 use Rattle.training.specs.declared.Training.the-variants.{Accepted, Refused as NotTrained}
 use Rattle.shuffle.specs.Shuffle.{shuffled}
-use Rattle.lines.specs.Passes.{through, nought}
+use Rattle.lines.specs.Passes.{through}
+use Rattle.binary64.specs.Numbers.{nought, whole}
 use Rattle.lines.specs.Tables.{Model}
-use Rattle.training.specs.Data.{Data, whole}
+use Rattle.lines.specs.Data.{Data}
 use Rattle.fronts.specs.Finite.{allFinite}
 use Rattle.fronts.proofs.Finite.{all-finite-at}
 use Rattle.training.specs.Rules.{Rule, stops, averagedBy}
-use Rattle.training.specs.Visits.{State, refusedAs, unchanged, changedTo, visited}
+use Rattle.training.specs.Visits.{TrainingState, refusedAs, unchanged, changedTo, visited}
 use Rattle.training.specs.Epochs.{Settings, Run, Result, isRefused, opened, visitedAt, epochOver, epoch, epochUnlessOver, begun, ran, refusedWith, averaged, finished, trained}
 use Rattle.training.specs.Accepted.{isUpdated, howMany, endsOver, endsWithin, ends, AcceptedWith, AnswersTrue}
 use Rattle.training.proofs.OneVisit.{visit-cases}
@@ -34,28 +35,28 @@ how-many-append test [] ys = sym (zero-add _)
 how-many-append test (x ∷ xs) ys = omega (arith, how-many-append test xs ys)
 
 -- ---- one visit
-pub record CountsOne (s t : State) : Type 0 where
-  pub visits : t .step .visits ≡ s .step .visits + 1
-  pub updates : t .step .updates ≡ s .step .updates + cond (isUpdated (t .step .visit)) 1 0
+pub record CountsOne (s t : TrainingState) : Type 0 where
+  pub visits : t .progress .visits ≡ s .progress .visits + 1
+  pub updates : t .progress .updates ≡ s .progress .updates + cond (isUpdated (t .progress .visit)) 1 0
 
 module _ (rule : Rule) (m : Model) (d : Data) where
-  pub visit-counts : (i : ℕ) (s : State) → isRefused (visited rule m d i s .step .visit) ≡ false → CountsOne s (visited rule m d i s)
+  pub visit-counts : (i : ℕ) (s : TrainingState) → isRefused (visited rule m d i s .progress .visit) ≡ false → CountsOne s (visited rule m d i s)
   unfolding refusedAs unchanged changedTo
   visit-counts i s =
-      visit-cases rule m d i s (λ t. isRefused (t .step .visit) ≡ false → CountsOne s t)
+      visit-cases rule m d i s (λ t. isRefused (t .progress .visit) ≡ false → CountsOne s t)
       (λ number r. absurd (true≢false r))
       (λ z r. record { visits = refl; updates = omega arith })
       (λ z k r. record { visits = refl; updates = refl })
 
 -- ---- the visits of an epoch: from s to t there are n, which ended so
-pub record Counted (s t : State) (n : ℕ) (vs : List Visit) : Type 0 where
-  pub visits : t .step .visits ≡ s .step .visits + n
+pub record Counted (s t : TrainingState) (n : ℕ) (vs : List Visit) : Type 0 where
+  pub visits : t .progress .visits ≡ s .progress .visits + n
   pub made : length vs ≡ n
   pub sound : howMany isRefused vs ≡ 0
-  pub updates : t .step .updates ≡ s .step .updates + howMany isUpdated vs
+  pub updates : t .progress .updates ≡ s .progress .updates + howMany isUpdated vs
 
-one-more : (s t u : State) (n : ℕ) (vs : List Visit) → (isRefused (t .step .visit) ≡ false → Counted s t n vs) → (isRefused (u .step .visit) ≡ false → CountsOne t u) →
-    (b : Bool) → isRefused (t .step .visit) ≡ b → isRefused (cond b t u .step .visit) ≡ false → Counted s (cond b t u) (suc n) (vs ++ cond b [] (u .step .visit ∷ []))
+one-more : (s t u : TrainingState) (n : ℕ) (vs : List Visit) → (isRefused (t .progress .visit) ≡ false → Counted s t n vs) → (isRefused (u .progress .visit) ≡ false → CountsOne t u) →
+    (b : Bool) → isRefused (t .progress .visit) ≡ b → isRefused (cond b t u .progress .visit) ≡ false → Counted s (cond b t u) (suc n) (vs ++ cond b [] (u .progress .visit ∷ []))
 unfolding howMany
 one-more s t u n vs c o true e r = absurd (true≢false (sym e ∙ r))
 one-more s t u n vs c o false e r =
@@ -68,13 +69,13 @@ one-more s t u n vs c o false e r =
       updates = rw (how-many-append isUpdated vs) (omega (arith, k .updates, l .updates));
     }
 
-module _ (visit : ℕ → State → State) (counts : (i : ℕ) (s : State) → isRefused (visit i s .step .visit) ≡ false → CountsOne s (visit i s)) where
-  pub visits-counted : (order : List ℕ) (n : ℕ) (s : State) → isRefused (through (visitedAt visit order) 0 n s .step .visit) ≡ false → Counted s (through (visitedAt visit order) 0 n s) n (endsOver visit order n s)
+module _ (visit : ℕ → TrainingState → TrainingState) (counts : (i : ℕ) (s : TrainingState) → isRefused (visit i s .progress .visit) ≡ false → CountsOne s (visit i s)) where
+  pub visits-counted : (order : List ℕ) (n : ℕ) (s : TrainingState) → isRefused (through (visitedAt visit order) 0 n s .progress .visit) ≡ false → Counted s (through (visitedAt visit order) 0 n s) n (endsOver visit order n s)
   unfolding through endsOver howMany visitedAt
   visits-counted order zero s r = record { visits = omega arith; made = refl; sound = refl; updates = omega arith }
   visits-counted order (suc n) s r =
       let t = through (visitedAt visit order) 0 n s in
-      rw (zero-add n) (one-more s t (visit (getD order n 0) t) n (endsOver visit order n s) (visits-counted order n s) (counts (getD order n 0) t) (isRefused (t .step .visit)) refl (rw (zero-add n) at r))
+      rw (zero-add n) (one-more s t (visit (getD order n 0) t) n (endsOver visit order n s) (visits-counted order n s) (counts (getD order n 0) t) (isRefused (t .progress .visit)) refl (rw (zero-add n) at r))
 
 -- ---- the epochs of a run: after e that were allowed, and visits that ended so
 pub or-left : (a b : Bool) → a || b ≡ false → a ≡ false
@@ -83,16 +84,16 @@ or-left false b e = refl
 
 pub record RunCounted (instances e : ℕ) (r : Run) (vs : List Visit) : Type 0 where
   -- a run that goes on was not refused, and one that is over has run an epoch
-  pub going : r .over ≡ false → isRefused (r .state .step .visit) ≡ false
+  pub going : r .over ≡ false → isRefused (r .state .progress .visit) ≡ false
   pub ended : r .over ≡ true → 1 ≤ r .epochs
   pub least : 1 ≤ e → 1 ≤ r .epochs
   pub most : r .epochs ≤ e
-  pub visits : isRefused (r .state .step .visit) ≡ false → r .state .step .visits ≡ r .epochs * instances
-  pub made : isRefused (r .state .step .visit) ≡ false → r .state .step .visits ≡ length vs
-  pub sound : isRefused (r .state .step .visit) ≡ false → howMany isRefused vs ≡ 0
-  pub updates : isRefused (r .state .step .visit) ≡ false → r .state .step .updates ≡ howMany isUpdated vs
+  pub visits : isRefused (r .state .progress .visit) ≡ false → r .state .progress .visits ≡ r .epochs * instances
+  pub made : isRefused (r .state .progress .visit) ≡ false → r .state .progress .visits ≡ length vs
+  pub sound : isRefused (r .state .progress .visit) ≡ false → howMany isRefused vs ≡ 0
+  pub updates : isRefused (r .state .progress .visit) ≡ false → r .state .progress .updates ≡ howMany isUpdated vs
 
-module _ (visit : ℕ → State → State) (counts : (i : ℕ) (s : State) → isRefused (visit i s .step .visit) ≡ false → CountsOne s (visit i s)) (stop : Float → Bool) (instances : ℕ) where
+module _ (visit : ℕ → TrainingState → TrainingState) (counts : (i : ℕ) (s : TrainingState) → isRefused (visit i s .progress .visit) ≡ false → CountsOne s (visit i s)) (stop : Float → Bool) (instances : ℕ) where
   one-epoch-more : (e : ℕ) (r : Run) (vs : List Visit) → RunCounted instances e r vs → (b : Bool) → r .over ≡ b →
       RunCounted instances (suc e) (cond b r (epoch visit stop instances r)) (vs ++ cond b [] (endsOver visit (shuffled instances (r .deal) .order) instances (opened (r .state))))
   unfolding epoch epochOver opened howMany
@@ -133,10 +134,10 @@ module _ (visit : ℕ → State → State) (counts : (i : ℕ) (s : State) → i
 module _ (rule : Rule) (set : Settings) (m : Model) (d : Data) where
   -- what the final averaging makes of a run
   abbrev last : Run → List Float
-  last r = averagedBy rule (m .features .count) (whole (r .state .step .visits + 1)) (r .state .learned)
+  last r = averagedBy rule (m .features .count) (whole (r .state .progress .visits + 1)) (r .state .learned)
 
   record Finished (r : Run) (t : Trained) (w : List Float) : Type 0 where
-    told : t ≡ record { epochs = r .epochs; visits = r .state .step .visits; updates = r .state .step .updates }
+    told : t ≡ record { epochs = r .epochs; visits = r .state .progress .visits; updates = r .state .progress .updates }
     kept : w ≡ last r
     sound : allFinite (last r) (m .features .count) ≡ true
 
@@ -147,7 +148,7 @@ module _ (rule : Rule) (set : Settings) (m : Model) (d : Data) where
 
   -- accepted by that test
   abbrev tested : Run → Bool → Result
-  tested r b = cond b (record { answer = Accepted (record { epochs = r .epochs; visits = r .state .step .visits; updates = r .state .step .updates }); weights = last r }) (refusedWith rule set m d (record { number = 9; place = r .state .step .visits }))
+  tested r b = cond b (record { answer = Accepted (record { epochs = r .epochs; visits = r .state .progress .visits; updates = r .state .progress .updates }); weights = last r }) (refusedWith rule set m d (record { number = 9; place = r .state .progress .visits }))
 
   averaged-so : (r : Run) (t : Trained) → averaged rule set m d r .answer ≡ Accepted t → Finished r t (averaged rule set m d r .weights)
   unfolding averaged refusedWith
@@ -164,7 +165,7 @@ module _ (rule : Rule) (set : Settings) (m : Model) (d : Data) where
   finished-so (Refused why) r t e = absurd (true≢false (sym (ap isAccepted e)))
 
 -- what the run and its last averaging give, put together
-put-together : (rule : Rule) (set : Settings) (m : Model) (d : Data) (t : Trained) → 1 ≤ set .epochs → isRefused (ran rule set m d .state .step .visit) ≡ false →
+put-together : (rule : Rule) (set : Settings) (m : Model) (d : Data) (t : Trained) → 1 ≤ set .epochs → isRefused (ran rule set m d .state .progress .visit) ≡ false →
     RunCounted (d .instances) (set .epochs) (ran rule set m d) (ends rule set m d) → Long (m .features .count) (ran rule set m d .state .learned) → Finished rule set m d (ran rule set m d) t (trained rule set m d .weights) →
     AcceptedWith rule set m d t
 put-together rule set m d t h v c l f =
@@ -201,7 +202,7 @@ answers-true rule set m d t h e =
     let r = ran rule set m d in
     let visit = visited rule m d in
     let stop = stops rule (set .epsilon) in
-    let f = finished-so rule set m d (r .state .step .visit) r t e in
+    let f = finished-so rule set m d (r .state .progress .visit) r t e in
     put-together rule set m d t h (f .0)
     (run-counted visit (visit-counts rule m d) stop (d .instances) (set .epochs) (begun rule set m d) (begun-counted rule set m d))
     (run-long visit n (visit-long rule m d n) stop (d .instances) (set .epochs) (begun rule set m d) (length-replicate n nought))

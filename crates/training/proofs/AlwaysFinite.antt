@@ -9,11 +9,12 @@ use lib.Ieee.{Float, nan}
 use lib.Ieee.Scale.{finite}
 use Rattle.fronts.specs.Finite.{FiniteTo}
 use Rattle.shuffle.specs.Shuffle.{shuffled}
-use Rattle.lines.specs.Passes.{through, nought}
+use Rattle.lines.specs.Passes.{through}
+use Rattle.binary64.specs.Numbers.{nought}
 use Rattle.lines.specs.Tables.{Model}
-use Rattle.training.specs.Data.{Data}
+use Rattle.lines.specs.Data.{Data}
 use Rattle.training.specs.Rules.{Rule, besideAtFirst, stops}
-use Rattle.training.specs.Visits.{State, unchanged, heldTo, visited}
+use Rattle.training.specs.Visits.{TrainingState, unchanged, heldTo, visited}
 use Rattle.training.specs.Epochs.{Settings, Run, isRefused, opened, visitedAt, epochOver, epoch, epochUnlessOver, begun}
 use Rattle.training.specs.Orders.{ranFor}
 use Rattle.training.specs.Reasons.{TablesFinite}
@@ -24,14 +25,14 @@ use Rattle.training.proofs.Reasons.{by-test, held-finite, visit-keeps-f
 filled-finite : (n : ℕ) (v : Float) → T (finite v) → FiniteTo (replicate n v) n
 filled-finite n v h i l = rw (getD-replicate n i v nan l) h
 
-module _ (features : ℕ) (visit : ℕ → State → State) (keeps : (i : ℕ) (s : State) → TablesFinite features s → TablesFinite features (visit i s)) where
-  at-finite : (order : List ℕ) (j : ℕ) (s : State) → TablesFinite features s → TablesFinite features (visitedAt visit order j s)
+module _ (features : ℕ) (visit : ℕ → TrainingState → TrainingState) (keeps : (i : ℕ) (s : TrainingState) → TablesFinite features s → TablesFinite features (visit i s)) where
+  at-finite : (order : List ℕ) (j : ℕ) (s : TrainingState) → TablesFinite features s → TablesFinite features (visitedAt visit order j s)
   unfolding visitedAt
   at-finite order j s h =
-      by-test (isRefused (s .step .visit)) (λ e. rw e h) (λ e. rw e (keeps (getD order j 0) s h))
+      by-test (isRefused (s .progress .visit)) (λ e. rw e h) (λ e. rw e (keeps (getD order j 0) s h))
 
   -- an epoch opens with a loss of +0
-  opened-finite : (order : List ℕ) (n : ℕ) (s : State) → TablesFinite features s → TablesFinite features (through (visitedAt visit order) 0 n (opened s))
+  opened-finite : (order : List ℕ) (n : ℕ) (s : TrainingState) → TablesFinite features s → TablesFinite features (through (visitedAt visit order) 0 n (opened s))
   unfolding opened
   opened-finite order n s h = through-keeps (TablesFinite features) (visitedAt visit order) (at-finite order) 0 n (opened s) (record { weights = h .weights; beside = h .beside; loss = tt })
 
@@ -56,7 +57,7 @@ module _ (rule : Rule) (set : Settings) (m : Model) (d : Data) (start : T (finit
   before-finite e j = opened-finite (m .features .count) (visited rule m d) (visit-keeps-finite rule m d) (orderIn rule set m d e) j (ranFor rule set m d e .state) (ran-finite e)
 
 -- a visit that ends as unchanged leaves what 9 would look at
-held-unchanged : (features : ℕ) (s : State) → TablesFinite features s → heldTo features s (unchanged s) ≡ unchanged s
+held-unchanged : (features : ℕ) (s : TrainingState) → TablesFinite features s → heldTo features s (unchanged s) ≡ unchanged s
 unfolding heldTo unchanged
 held-unchanged features s h = rw (held-finite features (unchanged s) (record { weights = h .weights; beside = h .beside; loss = h .loss }))
 

@@ -5,7 +5,7 @@ use native.Mathlib.Nat.{mul-le-mul}
 use native.Mathlib.Omega.{arith}
 use lib.Dec.{lit≤}
 use lib.Ieee.{Float}
-use Rattle.training.specs.Data.{whole}
+use Rattle.binary64.specs.Numbers.{whole}
 use Rattle.training.specs.Rules.{_⊕_}
 use Rattle.training.specs.Counter.{counterAfter, CounterExact, CounterExactInTraining}
 use Rattle.training.proofs.Whole.{whole-add}

@@ -10,7 +10,7 @@ use lib.Ieee.{Float}
 use Rattle.lines.specs.Passes.{through}
 use Rattle.lines.proofs.Laws.{through-next, through-end}
 use Rattle.shuffle.specs.Shuffle.{Deal, shuffled}
-use Rattle.training.specs.Visits.{State}
+use Rattle.training.specs.Visits.{TrainingState}
 use Rattle.training.specs.Epochs.{Run, isRefused, endsAfter, opened, visitedAt, epochOver, epoch, epochUnlessOver}
 
 -- ---- a step that changes nothing from some point on
@@ -26,33 +26,33 @@ module _ {S : Type 0} (step : ℕ → S → S) where
       ap (λ (z : ℕ). through step 0 z s) e ∙ stays i (n - i) s h
 
 -- ---- a loop over an epoch's visits
-module _ (visit : ℕ → State → State) (order : List ℕ) where
-  pub visit-made : (j : ℕ) (s : State) → isRefused (s .step .visit) ≡ false → visitedAt visit order j s ≡ visit (getD order j 0) s
+module _ (visit : ℕ → TrainingState → TrainingState) (order : List ℕ) where
+  pub visit-made : (j : ℕ) (s : TrainingState) → isRefused (s .progress .visit) ≡ false → visitedAt visit order j s ≡ visit (getD order j 0) s
   unfolding visitedAt
   visit-made j s e = rw e
 
-  pub visit-left-out : (j : ℕ) (s : State) → isRefused (s .step .visit) ≡ true → visitedAt visit order j s ≡ s
+  pub visit-left-out : (j : ℕ) (s : TrainingState) → isRefused (s .progress .visit) ≡ true → visitedAt visit order j s ≡ s
   unfolding visitedAt
   visit-left-out j s e = rw e
 
   -- one visit more: t is the state before it, and u after it
-  pub epoch-next : (j i : ℕ) (s : State) {t u : State} → i ≡ getD order j 0 → isRefused (t .step .visit) ≡ false → t ≡ through (visitedAt visit order) 0 j s → u ≡ visit i t → u ≡ through (visitedAt visit order) 0 (j + 1) s
+  pub epoch-next : (j i : ℕ) (s : TrainingState) {t u : TrainingState} → i ≡ getD order j 0 → isRefused (t .progress .visit) ≡ false → t ≡ through (visitedAt visit order) 0 j s → u ≡ visit i t → u ≡ through (visitedAt visit order) 0 (j + 1) s
   epoch-next j i s {t} k r p q = through-next (visitedAt visit order) j s p (q ∙ ap (λ (z : ℕ). visit z t) k ∙ sym (visit-made j t r))
 
   -- every instance was visited
-  pub epoch-end : (j n : ℕ) (s : State) {u : State} → j ≤ n → n ≤ j → u ≡ through (visitedAt visit order) 0 j (opened s) → u ≡ epochOver visit order n s
+  pub epoch-end : (j n : ℕ) (s : TrainingState) {u : TrainingState} → j ≤ n → n ≤ j → u ≡ through (visitedAt visit order) 0 j (opened s) → u ≡ epochOver visit order n s
   unfolding epochOver
   epoch-end j n s a b p = p ∙ through-end (visitedAt visit order) j n (opened s) a b
 
   -- a visit was refused, and no later one is made
-  pub epoch-cut : (j n : ℕ) (s : State) {u : State} → j ≤ n → isRefused (u .step .visit) ≡ true → u ≡ through (visitedAt visit order) 0 j (opened s) → u ≡ epochOver visit order n s
+  pub epoch-cut : (j n : ℕ) (s : TrainingState) {u : TrainingState} → j ≤ n → isRefused (u .progress .visit) ≡ true → u ≡ through (visitedAt visit order) 0 j (opened s) → u ≡ epochOver visit order n s
   unfolding epochOver
   epoch-cut j n s {u} h r p =
-      let e : isRefused (through (visitedAt visit order) 0 j (opened s) .step .visit) ≡ true = ap (λ (x : State). isRefused (x .step .visit)) (sym p) ∙ r in
+      let e : isRefused (through (visitedAt visit order) 0 j (opened s) .progress .visit) ≡ true = ap (λ (x : TrainingState). isRefused (x .progress .visit)) (sym p) ∙ r in
       p ∙ sym (through-stayed (visitedAt visit order) j n (opened s) h (λ k. visit-left-out k (through (visitedAt visit order) 0 j (opened s)) e))
 
 -- ---- a loop over epochs
-module _ (visit : ℕ → State → State) (stop : Float → Bool) (instances : ℕ) where
+module _ (visit : ℕ → TrainingState → TrainingState) (stop : Float → Bool) (instances : ℕ) where
   pub epoch-run : (e : ℕ) (t : Run) → t .over ≡ false → epochUnlessOver visit stop instances e t ≡ epoch visit stop instances t
   unfolding epochUnlessOver
   epoch-run e t o = rw o
@@ -62,7 +62,7 @@ module _ (visit : ℕ → State → State) (stop : Float → Bool) (instances : 
   epoch-left-out e t o = rw o
 
   -- an epoch from its parts: the deal, the visits, and whether training ends
-  pub epoch-made : (r : Run) (k : Deal) (s : State) (o : Bool) → k ≡ shuffled instances (r .deal) → s ≡ epochOver visit (k .order) instances (r .state) → o ≡ endsAfter stop instances (s .step) → _≡_ {A = Run} (record { state = s; deal = k; epochs = r .epochs + 1; over = o }) (epoch visit stop instances r)
+  pub epoch-made : (r : Run) (k : Deal) (s : TrainingState) (o : Bool) → k ≡ shuffled instances (r .deal) → s ≡ epochOver visit (k .order) instances (r .state) → o ≡ endsAfter stop instances (s .progress) → _≡_ {A = Run} (record { state = s; deal = k; epochs = r .epochs + 1; over = o }) (epoch visit stop instances r)
   unfolding epoch
   epoch-made r k s o a b c = rw (c, b, a)
 

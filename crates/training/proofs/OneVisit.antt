@@ -14,10 +14,11 @@ use Rattle.lines.specs.Passes.{through}
 use Rattle.lines.specs.Tables.{Model}
 use Rattle.lines.specs.Scored.{statesOf, transitionsOf}
 use Rattle.lines.specs.Counted.{countsOf}
-use Rattle.training.specs.Data.{Data, firstWord, wordsOf, referenceOf, wrongAt, wrongOf}
+use Rattle.lines.specs.Data.{Data, firstWord, wordsOf, referenceOf}
+use Rattle.training.specs.Wrong.{wrongAt, wrongOf}
 use Rattle.fronts.specs.Finite.{allFinite}
 use Rattle.training.specs.Rules.{Rule, Mistake, updatedBy}
-use Rattle.training.specs.Visits.{State, refusedAs, unchanged, changedTo, finiteState, heldTo, corrected, compared, visited}
+use Rattle.training.specs.Visits.{TrainingState, refusedAs, unchanged, changedTo, finiteState, heldTo, corrected, compared, visited}
 use Rattle.training.specs.Epochs.{isRefused}
 use Rattle.training.specs.Accepted.{isUpdated}
 use Rattle.training.specs.OneVisit.{predictedFor, LabelsAgree, NothingLearned, VisitsEndByLabels, AgreeingChangesNothing, RefusedChangesNothing}
@@ -42,18 +43,18 @@ module _ (p q : List ℕ) where
       go true t r z (inr before) = r z word before
 
 -- ---- the ends of a visit
-module _ (P : State → Type 0) where
-  by-test : (b : Bool) (x y : State) → (b ≡ true → P x) → (b ≡ false → P y) → P (cond b x y)
+module _ (P : TrainingState → Type 0) where
+  by-test : (b : Bool) (x y : TrainingState) → (b ≡ true → P x) → (b ≡ false → P y) → P (cond b x y)
   by-test true x y f g = f refl
   by-test false x y f g = g refl
 
-module _ (rule : Rule) (m : Model) (d : Data) (i : ℕ) (s : State) where
+module _ (rule : Rule) (m : Model) (d : Data) (i : ℕ) (s : TrainingState) where
   -- in how many words the predicted labels are wrong
   abbrev pub wrongIn : ℕ
   wrongIn = wrongOf (predictedFor m d i s) (referenceOf d i) (wordsOf d i)
 
   -- what refused, unchanged and updated states have, each as far as a visit can end so, a visit has
-  pub visit-cases : (P : State → Type 0) → ((number : ℕ) → P (refusedAs number s)) → (wrongIn ≡ 0 → P (unchanged s)) → ((wrongIn ≡ 0 → ⊥) → (k : Mistake) → P (changedTo (updatedBy rule (m .features .count) k (s .learned)) s)) → P (visited rule m d i s)
+  pub visit-cases : (P : TrainingState → Type 0) → ((number : ℕ) → P (refusedAs number s)) → (wrongIn ≡ 0 → P (unchanged s)) → ((wrongIn ≡ 0 → ⊥) → (k : Mistake) → P (changedTo (updatedBy rule (m .features .count) k (s .learned)) s)) → P (visited rule m d i s)
   unfolding predictedFor visited compared corrected heldTo
   visit-cases P refused same changed =
       let w = s .learned .weights in
@@ -67,26 +68,26 @@ module _ (rule : Rule) (m : Model) (d : Data) (i : ℕ) (s : State) where
       by-test P (allFinite truly f && allFinite predicted f) _ _ (λ _. held _ (changed (eqb-false wrongIn 0 e) _)) (λ _. refused 8)))
       (λ _. refused 8)
     where
-      held : (after : State) → P after → P (heldTo (m .features .count) s after)
+      held : (after : TrainingState) → P after → P (heldTo (m .features .count) s after)
       held after x = by-test P (finiteState (m .features .count) after) _ _ (λ _. x) (λ _. refused 9)
 
 -- the counters rise by one at most
-pub visit-rises : (rule : Rule) (m : Model) (d : Data) (i : ℕ) (s : State) → (visited rule m d i s .step .visits ≤ s .step .visits + 1) × (visited rule m d i s .step .updates ≤ s .step .updates + 1)
+pub visit-rises : (rule : Rule) (m : Model) (d : Data) (i : ℕ) (s : TrainingState) → (visited rule m d i s .progress .visits ≤ s .progress .visits + 1) × (visited rule m d i s .progress .updates ≤ s .progress .updates + 1)
 unfolding refusedAs unchanged changedTo
 visit-rises rule m d i s =
-    visit-cases rule m d i s (λ t. (t .step .visits ≤ s .step .visits + 1) × (t .step .updates ≤ s .step .updates + 1)) (λ number. (omega arith, omega arith)) (λ z. (omega arith, omega arith)) (λ z k. (omega arith, omega arith))
+    visit-cases rule m d i s (λ t. (t .progress .visits ≤ s .progress .visits + 1) × (t .progress .updates ≤ s .progress .updates + 1)) (λ number. (omega arith, omega arith)) (λ z. (omega arith, omega arith)) (λ z k. (omega arith, omega arith))
 
 -- ---- what is claimed
 pub visits-end-by-labels : VisitsEndByLabels
 unfolding refusedAs unchanged changedTo
 visits-end-by-labels rule m d i s = record {
   agree =
-      visit-cases rule m d i s (λ t. t .step .visit ≡ Unchanged → LabelsAgree m d i s)
+      visit-cases rule m d i s (λ t. t .progress .visit ≡ Unchanged → LabelsAgree m d i s)
       (λ number e. absurd (true≢false (ap isRefused e)))
       (λ z e. none-agree (predictedFor m d i s) (referenceOf d i) (wordsOf d i) z)
       (λ z k e. absurd (true≢false (ap isUpdated e)));
   differ =
-      visit-cases rule m d i s (λ t. t .step .visit ≡ Updated → LabelsAgree m d i s → ⊥)
+      visit-cases rule m d i s (λ t. t .progress .visit ≡ Updated → LabelsAgree m d i s → ⊥)
       (λ number e h. true≢false (ap isRefused e))
       (λ z e h. true≢false (ap isUpdated (sym e)))
       (λ z k e h. z (agree-none (predictedFor m d i s) (referenceOf d i) (wordsOf d i) h));
@@ -103,7 +104,7 @@ agreeing-changes-nothing rule m d i s h =
 pub refused-changes-nothing : RefusedChangesNothing
 unfolding refusedAs unchanged changedTo
 refused-changes-nothing rule m d i s =
-    visit-cases rule m d i s (λ t. isRefused (t .step .visit) ≡ true → NothingLearned s t)
+    visit-cases rule m d i s (λ t. isRefused (t .progress .visit) ≡ true → NothingLearned s t)
     (λ number r. record { tables = refl; updates = refl; loss = refl })
     (λ z r. absurd (true≢false (sym r)))
     (λ z k r. absurd (true≢false (sym r)))

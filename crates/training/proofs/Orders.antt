@@ -15,9 +15,9 @@ use Rattle.shuffle.specs.Permutation.{times, FrontPermuted}
 use Rattle.shuffle.proofs.Permutes.{shuffle-permutes}
 use Rattle.lines.specs.Passes.{through}
 use Rattle.lines.specs.Tables.{Model}
-use Rattle.training.specs.Data.{Data}
+use Rattle.lines.specs.Data.{Data}
 use Rattle.training.specs.Rules.{Rule, stops}
-use Rattle.training.specs.Visits.{State, visited}
+use Rattle.training.specs.Visits.{TrainingState, visited}
 use Rattle.training.specs.Epochs.{Settings, Run, countedFrom, upTo, epoch, epochUnlessOver, begun}
 use Rattle.training.specs.Orders.{OrderOf, PlacesBelow, OrdersKept, ranFor}
 
@@ -68,7 +68,7 @@ shuffle-long zero d l = l
 shuffle-long (suc n) d l = shuffle-permutes (suc n) d (omega arith) (omega arith) .long ∙ l
 
 -- ---- what every shuffle keeps holds from epoch to epoch
-module _ (visit : ℕ → State → State) (stop : Float → Bool) (instances : ℕ) (P : List ℕ → Type 0) (keeps : (d : Deal) → P (d .order) → P (shuffled instances d .order)) where
+module _ (visit : ℕ → TrainingState → TrainingState) (stop : Float → Bool) (instances : ℕ) (P : List ℕ → Type 0) (keeps : (d : Deal) → P (d .order) → P (shuffled instances d .order)) where
   unless-keeps : (e : ℕ) (r : Run) → P (r .deal .order) → P (epochUnlessOver visit stop instances e r .deal .order)
   unfolding epochUnlessOver epoch
   unless-keeps e r o = go (r .over)

@@ -8,9 +8,9 @@ use native.Mathlib.Omega.{arith}
 use lib.Ieee.{Float}
 use Rattle.lines.specs.Passes.{through}
 use Rattle.lines.specs.Tables.{Model}
-use Rattle.training.specs.Data.{Data}
+use Rattle.lines.specs.Data.{Data}
 use Rattle.training.specs.Rules.{Rule, stops}
-use Rattle.training.specs.Visits.{State, visited}
+use Rattle.training.specs.Visits.{TrainingState, visited}
 use Rattle.training.specs.Epochs.{Settings, Run, isRefused, opened, epochOver, epoch, epochUnlessOver, begun, ran}
 use Rattle.training.specs.Accepted.{endsWithin}
 use Rattle.training.specs.Orders.{ranFor}
@@ -20,7 +20,7 @@ use Rattle.training.proofs.Accepted.{or-left, visit-counts, visits-coun
 use Rattle.training.proofs.Reasons.{by-test, refuted}
 
 module _ (rule : Rule) (set : Settings) (m : Model) (d : Data) where
-  abbrev visit : ℕ → State → State
+  abbrev visit : ℕ → TrainingState → TrainingState
   visit = visited rule m d
 
   abbrev stop : Float → Bool
@@ -28,7 +28,7 @@ module _ (rule : Rule) (set : Settings) (m : Model) (d : Data) where
 
   -- ---- the visits of an epoch
   -- where none was refused, the state before the next is of no refused visit
-  going-before : (e j : ℕ) → ((k : ℕ) → k < j → isRefused (endAt rule set m d e k) ≡ false) → isRefused (stateBefore rule set m d e j .step .visit) ≡ false
+  going-before : (e j : ℕ) → ((k : ℕ) → k < j → isRefused (endAt rule set m d e k) ≡ false) → isRefused (stateBefore rule set m d e j .progress .visit) ≡ false
   unfolding stateBefore through opened
   going-before e zero h = refl
   going-before e (suc j) h =
@@ -70,7 +70,7 @@ module _ (rule : Rule) (set : Settings) (m : Model) (d : Data) where
   goes-on : (e : ℕ) → Looked e (d .instances) → epoch visit stop (d .instances) (ranFor rule set m d e) .over ≡ false → GoesOn rule set m d e
   unfolding epoch epochOver stateBefore
   goes-on e (all-well h) o = record { none-refused = h; not-low = rw (going-before e (d .instances) h) at o }
-  goes-on e (refused-at j l h t) o = absurd (true≢false (sym (ap (λ (s : State). isRefused (s .step .visit)) (sym (epoch-refused e j l h t)) ∙ t) ∙ or-left _ _ o))
+  goes-on e (refused-at j l h t) o = absurd (true≢false (sym (ap (λ (s : TrainingState). isRefused (s .progress .visit)) (sym (epoch-refused e j l h t)) ∙ t) ∙ or-left _ _ o))
 
   not-over : (e : ℕ) → GoesOn rule set m d e → epoch visit stop (d .instances) (ranFor rule set m d e) .over ≡ false
   unfolding epoch epochOver stateBefore
@@ -110,14 +110,14 @@ module _ (rule : Rule) (set : Settings) (m : Model) (d : Data) where
   counted-to e = run-counted visit (visit-counts rule m d) stop (d .instances) e (begun rule set m d) (begun-counted rule set m d)
 
   -- the visits done before a visit that is reached
-  pub visits-before : (e j n : ℕ) → Reached rule set m d e j n → stateBefore rule set m d e j .step .visits ≡ n
+  pub visits-before : (e j n : ℕ) → Reached rule set m d e j n → stateBefore rule set m d e j .progress .visits ≡ n
   unfolding stateBefore opened
   visits-before e j n r =
       let c = counted-to e in
       let g = going-before e j (r .none-refused) in
       let a = visits-counted visit (visit-counts rule m d) (orderIn rule set m d e) j (opened (ranFor rule set m d e .state)) g .visits in
       let o = not-over-yet e (r .going) in
-      let b : ranFor rule set m d e .state .step .visits ≡ e * d .instances = c .visits (c .going o) ∙ ap (λ (z : ℕ). z * d .instances) (epochs-run e o) in
+      let b : ranFor rule set m d e .state .progress .visits ≡ e * d .instances = c .visits (c .going o) ∙ ap (λ (z : ℕ). z * d .instances) (epochs-run e o) in
       omega (arith, a, b, r .number)
 
   -- a visit that is reached and refused is the last of the training
@@ -128,13 +128,13 @@ module _ (rule : Rule) (set : Settings) (m : Model) (d : Data) where
       let after = epoch visit stop (d .instances) before in
       let first = begun rule set m d in
       let s : visit (instanceAt rule set m d e j) (stateBefore rule set m d e j) ≡ after .state = epoch-refused e j (r .inside) (r .none-refused) t in
-      let refused : isRefused (after .state .step .visit) ≡ true = ap (λ (x : State). isRefused (x .step .visit)) (sym s) ∙ t in
+      let refused : isRefused (after .state .progress .visit) ≡ true = ap (λ (x : TrainingState). isRefused (x .progress .visit)) (sym s) ∙ t in
       let over : after .over ≡ true = rw refused in
       let l : e + 1 ≤ set .epochs = omega (arith, r .allowed) in
       ap (λ (x : Run). x .state) (sym (run-cut visit stop (d .instances) (e + 1) (set .epochs) first l over (run-next visit stop (d .instances) e first (not-over-yet e (r .going)) refl refl))) ∙ sym s
 
   -- and a training that ends refused was refused at a visit that was reached
-  pub record RefusedVisit (s : State) : Type 0 where
+  pub record RefusedVisit (s : TrainingState) : Type 0 where
     pub epoch-at : ℕ
     pub turn : ℕ
     pub before : ℕ
@@ -142,7 +142,7 @@ module _ (rule : Rule) (set : Settings) (m : Model) (d : Data) where
     pub refused : isRefused (endAt rule set m d epoch-at turn) ≡ true
     pub last : s ≡ visit (instanceAt rule set m d epoch-at turn) (stateBefore rule set m d epoch-at turn)
 
-  found-in : (e : ℕ) → e < set .epochs → ranFor rule set m d e .over ≡ false → Looked e (d .instances) → isRefused (epoch visit stop (d .instances) (ranFor rule set m d e) .state .step .visit) ≡ true → RefusedVisit (epoch visit stop (d .instances) (ranFor rule set m d e) .state)
+  found-in : (e : ℕ) → e < set .epochs → ranFor rule set m d e .over ≡ false → Looked e (d .instances) → isRefused (epoch visit stop (d .instances) (ranFor rule set m d e) .state .progress .visit) ≡ true → RefusedVisit (epoch visit stop (d .instances) (ranFor rule set m d e) .state)
   unfolding epoch epochOver stateBefore
   found-in e l o (all-well h) t = absurd (true≢false (sym t ∙ going-before e (d .instances) h))
   found-in e l o (refused-at j k h r) t = record {
@@ -154,7 +154,7 @@ module _ (rule : Rule) (set : Settings) (m : Model) (d : Data) where
     last = sym (epoch-refused e j k h r);
   }
 
-  found : (e : ℕ) → e ≤ set .epochs → isRefused (ranFor rule set m d e .state .step .visit) ≡ true → RefusedVisit (ranFor rule set m d e .state)
+  found : (e : ℕ) → e ≤ set .epochs → isRefused (ranFor rule set m d e .state .progress .visit) ≡ true → RefusedVisit (ranFor rule set m d e .state)
   unfolding through begun
   found zero l t = absurd (true≢false (sym t))
   found (suc e) l t =
@@ -167,22 +167,22 @@ module _ (rule : Rule) (set : Settings) (m : Model) (d : Data) where
       let q = epoch-run visit stop (d .instances) (0 + e) before o in
       rw q (found-in e (omega arith) o (look e (d .instances)) (rw q at t)))
 
-  pub ran-found : isRefused (ran rule set m d .state .step .visit) ≡ true → RefusedVisit (ran rule set m d .state)
+  pub ran-found : isRefused (ran rule set m d .state .progress .visit) ≡ true → RefusedVisit (ran rule set m d .state)
   unfolding ran
   ran-found t = found (set .epochs) (omega arith) t
 
-  pub none-refused-so : NoneRefused rule set m d → isRefused (ran rule set m d .state .step .visit) ≡ false
+  pub none-refused-so : NoneRefused rule set m d → isRefused (ran rule set m d .state .progress .visit) ≡ false
   none-refused-so h =
-      refuted (isRefused (ran rule set m d .state .step .visit)) (λ t.
+      refuted (isRefused (ran rule set m d .state .progress .visit)) (λ t.
       let f = ran-found t in
       true≢false (sym (f .refused) ∙ h (f .epoch-at) (f .turn) (f .before) (f .reached)))
 
-  pub so-none-refused : isRefused (ran rule set m d .state .step .visit) ≡ false → NoneRefused rule set m d
+  pub so-none-refused : isRefused (ran rule set m d .state .progress .visit) ≡ false → NoneRefused rule set m d
   so-none-refused h e j n r =
       refuted (isRefused (endAt rule set m d e j)) (λ t.
-      true≢false (sym t ∙ ap (λ (s : State). isRefused (s .step .visit)) (sym (ran-refused e j n r t)) ∙ h))
+      true≢false (sym t ∙ ap (λ (s : TrainingState). isRefused (s .progress .visit)) (sym (ran-refused e j n r t)) ∙ h))
 
-  pub all-visits : isRefused (ran rule set m d .state .step .visit) ≡ false → ran rule set m d .state .step .visits ≡ ran rule set m d .epochs * d .instances
+  pub all-visits : isRefused (ran rule set m d .state .progress .visit) ≡ false → ran rule set m d .state .progress .visits ≡ ran rule set m d .epochs * d .instances
   unfolding ran
   all-visits h = counted-to (set .epochs) .visits h
 

@@ -17,9 +17,9 @@ use Rattle.training.specs.declared.Visit.{Visit}
 use Rattle.training.specs.declared.Visit.the-variants.{Unchanged, Updated, Refused}
 use Rattle.best_path.specs.Scores.{tabled}
 use Rattle.lines.specs.Tables.{Model}
-use Rattle.training.specs.Data.{Data, wordsOf, referenceOf}
+use Rattle.lines.specs.Data.{Data, wordsOf, referenceOf}
 use Rattle.training.specs.Rules.{Rule, perceptron, passive, arow, Learned, Mistake, pulled, byPassive, updatedBy}
-use Rattle.training.specs.Visits.{State, refusedAs, unchanged, changedTo, finiteState, heldTo, corrected, compared, visited}
+use Rattle.training.specs.Visits.{TrainingState, refusedAs, unchanged, changedTo, finiteState, heldTo, corrected, compared, visited}
 use Rattle.training.specs.Epochs.{isRefused}
 use Rattle.training.specs.OneVisit.{predictedFor, LabelsAgree}
 use Rattle.training.specs.Reasons.{SomeNotFinite, stateScores, transitionScores, trueCounts, predictedCounts, ScoresFinite, EightIn, state-score, transition-score, true-count, predicted-count, ComesToUpdate, NineAfter, weight, running-sum, covariance, epoch-loss, TablesFinite, afterUpdate, VisitsMean}
@@ -56,7 +56,7 @@ unfolding updatedBy byPassive pulled
 same-beside variant c sensitive features k s = through-keeps (λ (t : Learned). t .beside ≡ s .beside) _ (λ j t e. e) 0 features s refl
 
 -- a table beside the weights that is no longer finite is a running sum or the covariance
-beside-lost : (rule : Rule) (features : ℕ) (k : Mistake) (s : State) → FiniteTo (s .learned .beside) features → SomeNotFinite (updatedBy rule features k (s .learned) .learned .beside) features → NineAfter rule features (changedTo (updatedBy rule features k (s .learned)) s)
+beside-lost : (rule : Rule) (features : ℕ) (k : Mistake) (s : TrainingState) → FiniteTo (s .learned .beside) features → SomeNotFinite (updatedBy rule features k (s .learned) .learned .beside) features → NineAfter rule features (changedTo (updatedBy rule features k (s .learned)) s)
 unfolding changedTo
 beside-lost perceptron features k s f h = running-sum tt h
 beside-lost (passive variant c sensitive true) features k s f h = running-sum refl h
@@ -65,22 +65,22 @@ beside-lost (passive variant c sensitive false) features k s f h =
 beside-lost (arow variance gamma) features k s f h = covariance tt h
 
 -- ---- what 9 looks at, found or not
-pub finite-held : (features : ℕ) (s : State) → finiteState features s ≡ true → TablesFinite features s
+pub finite-held : (features : ℕ) (s : TrainingState) → finiteState features s ≡ true → TablesFinite features s
 unfolding finiteState
 finite-held features s e =
-    let a = and-eq-true-iff (allFinite (s .learned .weights) features) (allFinite (s .learned .beside) features && finite (s .step .loss)) .0 e in
-    let b = and-eq-true-iff (allFinite (s .learned .beside) features) (finite (s .step .loss)) .0 (a .1) in
+    let a = and-eq-true-iff (allFinite (s .learned .weights) features) (allFinite (s .learned .beside) features && finite (s .progress .loss)) .0 e in
+    let b = and-eq-true-iff (allFinite (s .learned .beside) features) (finite (s .progress .loss)) .0 (a .1) in
     record {
       weights = all-finite-at (s .learned .weights) features (a .0);
       beside = all-finite-at (s .learned .beside) features (b .0);
       loss = rw (b .1) tt;
     }
 
-pub held-finite : (features : ℕ) (s : State) → TablesFinite features s → finiteState features s ≡ true
+pub held-finite : (features : ℕ) (s : TrainingState) → TablesFinite features s → finiteState features s ≡ true
 unfolding finiteState
-held-finite features s h = rw (all-finite-if (s .learned .weights) features (h .weights), all-finite-if (s .learned .beside) features (h .beside), is-true (finite (s .step .loss)) (h .loss))
+held-finite features s h = rw (all-finite-if (s .learned .weights) features (h .weights), all-finite-if (s .learned .beside) features (h .beside), is-true (finite (s .progress .loss)) (h .loss))
 
-nine-lost : (rule : Rule) (features : ℕ) (after : State) → NineAfter rule features after → finiteState features after ≡ false
+nine-lost : (rule : Rule) (features : ℕ) (after : TrainingState) → NineAfter rule features after → finiteState features after ≡ false
 unfolding finiteState
 nine-lost rule features after (weight h) = rw (none-of (after .learned .weights) features h)
 nine-lost rule features after (running-sum k h) = rw (none-of (after .learned .beside) features h, and-false)
@@ -88,7 +88,7 @@ nine-lost rule features after (covariance k h) = rw (none-of (after .learned .be
 nine-lost rule features after (epoch-loss e) = rw (e, and-false, and-false)
 
 -- of a state whose tables were finite
-lost-nine : (rule : Rule) (features : ℕ) (k : Mistake) (s : State) → TablesFinite features s → finiteState features (changedTo (updatedBy rule features k (s .learned)) s) ≡ false → NineAfter rule features (changedTo (updatedBy rule features k (s .learned)) s)
+lost-nine : (rule : Rule) (features : ℕ) (k : Mistake) (s : TrainingState) → TablesFinite features s → finiteState features (changedTo (updatedBy rule features k (s .learned)) s) ≡ false → NineAfter rule features (changedTo (updatedBy rule features k (s .learned)) s)
 unfolding finiteState changedTo
 lost-nine rule features k s f e =
     let u = updatedBy rule features k (s .learned) in
@@ -99,7 +99,7 @@ lost-nine rule features k s f e =
     (λ a. weight (some-of (u .learned .weights) features a))
 
 -- ---- each end, where its reason is there
-module _ (rule : Rule) (m : Model) (d : Data) (i : ℕ) (s : State) where
+module _ (rule : Rule) (m : Model) (d : Data) (i : ℕ) (s : TrainingState) where
   -- what scores that are not finite make of a visit, and what finite scores do
   scores-refused : allFinite (stateScores m d i s) (wordsOf d i * m .labels) && allFinite (transitionScores m d i s) (m .labels * m .labels) ≡ false → visited rule m d i s ≡ refusedAs 8 s
   unfolding visited
@@ -178,7 +178,7 @@ module _ (rule : Rule) (m : Model) (d : Data) (i : ℕ) (s : State) where
       (λ a. for-eight (state-score (some-of _ _ a)))
 
   -- how it ends, by its reason
-  abbrev endBy : Reason → State
+  abbrev endBy : Reason → TrainingState
   endBy (for-eight h) = refusedAs 8 s
   endBy (for-same f h) = unchanged s
   endBy (for-nine c h) = refusedAs 9 s
@@ -197,43 +197,43 @@ told Unchanged = 0
 told Updated = 1
 told (Refused why) = why .number
 
-module _ (rule : Rule) (m : Model) (d : Data) (i : ℕ) (s : State) where
+module _ (rule : Rule) (m : Model) (d : Data) (i : ℕ) (s : TrainingState) where
   -- the end of a visit is the one that its reason gives
-  end-is : (r : Reason rule m d i s) → visited rule m d i s .step .visit ≡ endBy rule m d i s r .step .visit
-  end-is r = ap (λ (t : State). t .step .visit) (ends-by rule m d i s r)
+  end-is : (r : Reason rule m d i s) → visited rule m d i s .progress .visit ≡ endBy rule m d i s r .progress .visit
+  end-is r = ap (λ (t : TrainingState). t .progress .visit) (ends-by rule m d i s r)
 
-  same-end : (r : Reason rule m d i s) {v : Visit} → visited rule m d i s .step .visit ≡ v → told (endBy rule m d i s r .step .visit) ≡ told v
+  same-end : (r : Reason rule m d i s) {v : Visit} → visited rule m d i s .progress .visit ≡ v → told (endBy rule m d i s r .progress .visit) ≡ told v
   same-end r e = ap told (sym (end-is r) ∙ e)
 
-  eight-told : {p : ℕ} → Reason rule m d i s → visited rule m d i s .step .visit ≡ Refused (record { number = 8; place = p }) → EightIn m d i s
+  eight-told : {p : ℕ} → Reason rule m d i s → visited rule m d i s .progress .visit ≡ Refused (record { number = 8; place = p }) → EightIn m d i s
   unfolding refusedAs unchanged afterUpdate changedTo
   eight-told (for-eight h) e = h
   eight-told (for-same f h) e = absurd (omega (arith, same-end (for-same f h) e))
   eight-told (for-nine c h) e = absurd (omega (arith, same-end (for-nine c h) e))
   eight-told (for-update c h) e = absurd (omega (arith, same-end (for-update c h) e))
 
-  nine-told : {p : ℕ} → Reason rule m d i s → visited rule m d i s .step .visit ≡ Refused (record { number = 9; place = p }) → ComesToUpdate m d i s × NineAfter rule (m .features .count) (afterUpdate rule m d i s)
+  nine-told : {p : ℕ} → Reason rule m d i s → visited rule m d i s .progress .visit ≡ Refused (record { number = 9; place = p }) → ComesToUpdate m d i s × NineAfter rule (m .features .count) (afterUpdate rule m d i s)
   unfolding refusedAs unchanged afterUpdate changedTo
   nine-told (for-eight h) e = absurd (omega (arith, same-end (for-eight h) e))
   nine-told (for-same f h) e = absurd (omega (arith, same-end (for-same f h) e))
   nine-told (for-nine c h) e = (c, h)
   nine-told (for-update c h) e = absurd (omega (arith, same-end (for-update c h) e))
 
-  unchanged-told : Reason rule m d i s → visited rule m d i s .step .visit ≡ Unchanged → ScoresFinite m d i s × LabelsAgree m d i s
+  unchanged-told : Reason rule m d i s → visited rule m d i s .progress .visit ≡ Unchanged → ScoresFinite m d i s × LabelsAgree m d i s
   unfolding refusedAs unchanged afterUpdate changedTo
   unchanged-told (for-eight h) e = absurd (omega (arith, same-end (for-eight h) e))
   unchanged-told (for-same f h) e = (f, h)
   unchanged-told (for-nine c h) e = absurd (omega (arith, same-end (for-nine c h) e))
   unchanged-told (for-update c h) e = absurd (omega (arith, same-end (for-update c h) e))
 
-  updated-told : Reason rule m d i s → visited rule m d i s .step .visit ≡ Updated → ComesToUpdate m d i s × TablesFinite (m .features .count) (afterUpdate rule m d i s)
+  updated-told : Reason rule m d i s → visited rule m d i s .progress .visit ≡ Updated → ComesToUpdate m d i s × TablesFinite (m .features .count) (afterUpdate rule m d i s)
   unfolding refusedAs unchanged afterUpdate changedTo
   updated-told (for-eight h) e = absurd (omega (arith, same-end (for-eight h) e))
   updated-told (for-same f h) e = absurd (omega (arith, same-end (for-same f h) e))
   updated-told (for-nine c h) e = absurd (omega (arith, same-end (for-nine c h) e))
   updated-told (for-update c h) e = (c, h)
 
-  only-told : Reason rule m d i s → (why : Refusal) → visited rule m d i s .step .visit ≡ Refused why → ((why .number ≡ 8) ⊎ (why .number ≡ 9)) × (why .place ≡ s .step .visits)
+  only-told : Reason rule m d i s → (why : Refusal) → visited rule m d i s .progress .visit ≡ Refused why → ((why .number ≡ 8) ⊎ (why .number ≡ 9)) × (why .place ≡ s .progress .visits)
   unfolding refusedAs unchanged afterUpdate changedTo
   only-told (for-eight h) why e = let q = sym e ∙ end-is (for-eight h) in (inl (cc), cc)
   only-told (for-same f h) why e = absurd (true≢false (ap isRefused (sym e ∙ end-is (for-same f h))))
@@ -253,14 +253,14 @@ visits-mean rule m d i s h =
     }
 
 -- from a state in which 9 would find nothing to another one, whatever the end
-keeps-by : (rule : Rule) (m : Model) (d : Data) (i : ℕ) (s : State) → TablesFinite (m .features .count) s → (r : Reason rule m d i s) → TablesFinite (m .features .count) (endBy rule m d i s r)
+keeps-by : (rule : Rule) (m : Model) (d : Data) (i : ℕ) (s : TrainingState) → TablesFinite (m .features .count) s → (r : Reason rule m d i s) → TablesFinite (m .features .count) (endBy rule m d i s r)
 unfolding refusedAs unchanged
 keeps-by rule m d i s h (for-eight e) = record { weights = h .weights; beside = h .beside; loss = h .loss }
 keeps-by rule m d i s h (for-same f a) = record { weights = h .weights; beside = h .beside; loss = h .loss }
 keeps-by rule m d i s h (for-nine c n) = record { weights = h .weights; beside = h .beside; loss = h .loss }
 keeps-by rule m d i s h (for-update c u) = u
 
-pub visit-keeps-finite : (rule : Rule) (m : Model) (d : Data) (i : ℕ) (s : State) → TablesFinite (m .features .count) s → TablesFinite (m .features .count) (visited rule m d i s)
+pub visit-keeps-finite : (rule : Rule) (m : Model) (d : Data) (i : ℕ) (s : TrainingState) → TablesFinite (m .features .count) s → TablesFinite (m .features .count) (visited rule m d i s)
 visit-keeps-finite rule m d i s h =
     let r = reason rule m d i s h in
     rw (ends-by rule m d i s r) (keeps-by rule m d i s h r)

@@ -13,11 +13,11 @@ use Rattle.training.specs.declared.Visit.the-variants.{Unchanged, Update
 use Rattle.training.specs.declared.Trained.{Trained}
 use Rattle.training.specs.declared.Training.the-variants.{Accepted, Refused as NotTrained}
 use Rattle.lines.specs.Tables.{Model}
-use Rattle.training.specs.Data.{Data}
+use Rattle.lines.specs.Data.{Data}
 use Rattle.fronts.specs.Finite.{allFinite}
 use Rattle.fronts.proofs.Finite.{all-finite-if}
 use Rattle.training.specs.Rules.{Rule, perceptron, passive, arow, besideAtFirst, averagedBy}
-use Rattle.training.specs.Visits.{State, refusedAs, visited}
+use Rattle.training.specs.Visits.{TrainingState, refusedAs, visited}
 use Rattle.training.specs.Epochs.{Settings, Run, isRefused, ran, refusedWith, averaged, finished, trained}
 use Rattle.training.specs.Reasons.{SomeNotFinite, KeepsSums, TablesFinite, VisitMeans}
 use Rattle.training.specs.Reached.{instanceAt, stateBefore, endAt, Reached, EightAt, averagedWeights, NineAt, in-visit, in-averaging, RefusedExactly}
@@ -28,11 +28,11 @@ use Rattle.training.proofs.Reached.{visits-before, ran-refused, ran-fou
 module _ (rule : Rule) (set : Settings) (m : Model) (d : Data) where
   -- ---- the answer: from a refused visit, from the averaging, or accepted
   data Answered : Type 0 where
-    by-visit : (why : Refusal) → ran rule set m d .state .step .visit ≡ Refused why → trained rule set m d .answer ≡ NotTrained why → Answered
-    by-averaging : isRefused (ran rule set m d .state .step .visit) ≡ false → allFinite (averagedWeights rule set m d) (m .features .count) ≡ false → trained rule set m d .answer ≡ NotTrained (record { number = 9; place = ran rule set m d .epochs * d .instances }) → Answered
+    by-visit : (why : Refusal) → ran rule set m d .state .progress .visit ≡ Refused why → trained rule set m d .answer ≡ NotTrained why → Answered
+    by-averaging : isRefused (ran rule set m d .state .progress .visit) ≡ false → allFinite (averagedWeights rule set m d) (m .features .count) ≡ false → trained rule set m d .answer ≡ NotTrained (record { number = 9; place = ran rule set m d .epochs * d .instances }) → Answered
     by-success : (t : Trained) → trained rule set m d .answer ≡ Accepted t → Answered
 
-  refused-so : (why : Refusal) → ran rule set m d .state .step .visit ≡ Refused why → trained rule set m d .answer ≡ NotTrained why
+  refused-so : (why : Refusal) → ran rule set m d .state .progress .visit ≡ Refused why → trained rule set m d .answer ≡ NotTrained why
   unfolding trained finished refusedWith
   refused-so why e = rw e
 
@@ -42,31 +42,31 @@ module _ (rule : Rule) (set : Settings) (m : Model) (d : Data) where
   averages Updated r e = refl
   averages (Refused why) r e = absurd (true≢false e)
 
-  averaging-refused : isRefused (ran rule set m d .state .step .visit) ≡ false → allFinite (averagedWeights rule set m d) (m .features .count) ≡ false → trained rule set m d .answer ≡ NotTrained (record { number = 9; place = ran rule set m d .epochs * d .instances })
+  averaging-refused : isRefused (ran rule set m d .state .progress .visit) ≡ false → allFinite (averagedWeights rule set m d) (m .features .count) ≡ false → trained rule set m d .answer ≡ NotTrained (record { number = 9; place = ran rule set m d .epochs * d .instances })
   unfolding trained averaged refusedWith
-  averaging-refused h e = rw (averages (ran rule set m d .state .step .visit) (ran rule set m d) h, e, all-visits rule set m d h)
+  averaging-refused h e = rw (averages (ran rule set m d .state .progress .visit) (ran rule set m d) h, e, all-visits rule set m d h)
 
-  averaging-accepted : isRefused (ran rule set m d .state .step .visit) ≡ false → allFinite (averagedWeights rule set m d) (m .features .count) ≡ true →
-      trained rule set m d .answer ≡ Accepted (record { epochs = ran rule set m d .epochs; visits = ran rule set m d .state .step .visits; updates = ran rule set m d .state .step .updates })
+  averaging-accepted : isRefused (ran rule set m d .state .progress .visit) ≡ false → allFinite (averagedWeights rule set m d) (m .features .count) ≡ true →
+      trained rule set m d .answer ≡ Accepted (record { epochs = ran rule set m d .epochs; visits = ran rule set m d .state .progress .visits; updates = ran rule set m d .state .progress .updates })
   unfolding trained averaged
-  averaging-accepted h e = rw (averages (ran rule set m d .state .step .visit) (ran rule set m d) h, e)
+  averaging-accepted h e = rw (averages (ran rule set m d .state .progress .visit) (ran rule set m d) h, e)
 
   answered : Answered
-  answered = go (ran rule set m d .state .step .visit) refl
+  answered = go (ran rule set m d .state .progress .visit) refl
     where
-      averaging : isRefused (ran rule set m d .state .step .visit) ≡ false → Answered
+      averaging : isRefused (ran rule set m d .state .progress .visit) ≡ false → Answered
       averaging h =
           by-test (allFinite (averagedWeights rule set m d) (m .features .count))
           (λ e. by-success _ (averaging-accepted h e))
           (λ e. by-averaging h e (averaging-refused h e))
 
-      go : (v : Visit) → ran rule set m d .state .step .visit ≡ v → Answered
+      go : (v : Visit) → ran rule set m d .state .progress .visit ≡ v → Answered
       go Unchanged e = averaging (ap isRefused e)
       go Updated e = averaging (ap isRefused e)
       go (Refused why) e = by-visit why e (refused-so why e)
 
 -- only an averaging that takes running sums can lose what was finite
-averaging-lost : (rule : Rule) (features : ℕ) (counter : Float) (s : State) → TablesFinite features s → SomeNotFinite (averagedBy rule features counter (s .learned)) features → KeepsSums rule
+averaging-lost : (rule : Rule) (features : ℕ) (counter : Float) (s : TrainingState) → TablesFinite features s → SomeNotFinite (averagedBy rule features counter (s .learned)) features → KeepsSums rule
 unfolding averagedBy
 averaging-lost perceptron features counter s f h = tt
 averaging-lost (passive variant c sensitive true) features counter s f h = refl
@@ -79,9 +79,9 @@ module _ (rule : Rule) (set : Settings) (m : Model) (d : Data) (start : T (finit
   visit-answers : (e j n number : ℕ) → Reached rule set m d e j n → visited rule m d (instanceAt rule set m d e j) (stateBefore rule set m d e j) ≡ refusedAs number (stateBefore rule set m d e j) → trained rule set m d .answer ≡ NotTrained (record { number = number; place = n })
   unfolding refusedAs
   visit-answers e j n number r q =
-      let t : isRefused (endAt rule set m d e j) ≡ true = ap (λ (s : State). isRefused (s .step .visit)) q in
+      let t : isRefused (endAt rule set m d e j) ≡ true = ap (λ (s : TrainingState). isRefused (s .progress .visit)) q in
       let l = ran-refused rule set m d e j n r t ∙ q in
-      refused-so rule set m d _ (ap (λ (s : State). s .step .visit) l)
+      refused-so rule set m d _ (ap (λ (s : TrainingState). s .progress .visit) l)
       ∙ ap (λ (p : ℕ). NotTrained (record { number = number; place = p })) (visits-before rule set m d e j n r)
 
   eight-answers : (place : ℕ) → EightAt rule set m d place → trained rule set m d .answer ≡ NotTrained (record { number = 8; place = place })
@@ -97,16 +97,16 @@ module _ (rule : Rule) (set : Settings) (m : Model) (d : Data) (start : T (finit
     epoch-at : ℕ
     turn : ℕ
     reached : Reached rule set m d epoch-at turn (why .place)
-    ended : endAt rule set m d epoch-at turn ≡ Refused (record { number = why .number; place = stateBefore rule set m d epoch-at turn .step .visits })
+    ended : endAt rule set m d epoch-at turn ≡ Refused (record { number = why .number; place = stateBefore rule set m d epoch-at turn .progress .visits })
     means : VisitMeans rule m d (instanceAt rule set m d epoch-at turn) (stateBefore rule set m d epoch-at turn)
 
-  refused-for : (why : Refusal) → ran rule set m d .state .step .visit ≡ Refused why → RefusedFor why
+  refused-for : (why : Refusal) → ran rule set m d .state .progress .visit ≡ Refused why → RefusedFor why
   refused-for why e =
       let f = ran-found rule set m d (ap isRefused e) in
       let s = stateBefore rule set m d (f .epoch-at) (f .turn) in
       let v = visits-mean rule m d (instanceAt rule set m d (f .epoch-at) (f .turn)) s (before-finite rule set m d start (f .epoch-at) (f .turn)) in
-      let q : endAt rule set m d (f .epoch-at) (f .turn) ≡ Refused why = ap (λ (t : State). t .step .visit) (sym (f .last)) ∙ e in
-      let p : why .place ≡ s .step .visits = v .only why q .1 in
+      let q : endAt rule set m d (f .epoch-at) (f .turn) ≡ Refused why = ap (λ (t : TrainingState). t .progress .visit) (sym (f .last)) ∙ e in
+      let p : why .place ≡ s .progress .visits = v .only why q .1 in
       let b : f .before ≡ why .place = sym (visits-before rule set m d (f .epoch-at) (f .turn) (f .before) (f .reached)) ∙ sym p in
       record {
         epoch-at = f .epoch-at;
@@ -116,18 +116,18 @@ module _ (rule : Rule) (set : Settings) (m : Model) (d : Data) (start : T (finit
         means = v;
       }
 
-  visit-eight : (place : ℕ) → ran rule set m d .state .step .visit ≡ Refused (record { number = 8; place = place }) → EightAt rule set m d place
+  visit-eight : (place : ℕ) → ran rule set m d .state .progress .visit ≡ Refused (record { number = 8; place = place }) → EightAt rule set m d place
   visit-eight place e =
       let f = refused-for _ e in
       record { epoch = f .epoch-at; turn = f .turn; reached = f .reached; found = f .means .eight .0 (f .ended) }
 
-  visit-nine : (place : ℕ) → ran rule set m d .state .step .visit ≡ Refused (record { number = 9; place = place }) → NineAt rule set m d place
+  visit-nine : (place : ℕ) → ran rule set m d .state .progress .visit ≡ Refused (record { number = 9; place = place }) → NineAt rule set m d place
   visit-nine place e =
       let f = refused-for _ e in
       let h = f .means .nine .0 (f .ended) in
       in-visit (f .epoch-at) (f .turn) (f .reached) (h .0) (h .1)
 
-  averaging-nine : isRefused (ran rule set m d .state .step .visit) ≡ false → allFinite (averagedWeights rule set m d) (m .features .count) ≡ false → NineAt rule set m d (ran rule set m d .epochs * d .instances)
+  averaging-nine : isRefused (ran rule set m d .state .progress .visit) ≡ false → allFinite (averagedWeights rule set m d) (m .features .count) ≡ false → NineAt rule set m d (ran rule set m d .epochs * d .instances)
   unfolding ran
   averaging-nine h e =
       let lost = some-of (averagedWeights rule set m d) (m .features .count) e in

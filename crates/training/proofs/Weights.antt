@@ -8,9 +8,9 @@ use lib.Ieee.{Float}
 use Rattle.shuffle.specs.Shuffle.{shuffled}
 use Rattle.lines.specs.Passes.{through, raised}
 use Rattle.lines.specs.Tables.{Model}
-use Rattle.training.specs.Data.{Data}
+use Rattle.lines.specs.Data.{Data}
 use Rattle.training.specs.Rules.{Rule, perceptron, passive, arow, Learned, Mistake, pushed, pulled, narrowed, byPerceptron, byPassive, byArow, updatedBy, averagedAt, averagedBy}
-use Rattle.training.specs.Visits.{State, refusedAs, unchanged, changedTo, visited}
+use Rattle.training.specs.Visits.{TrainingState, refusedAs, unchanged, changedTo, visited}
 use Rattle.training.specs.Epochs.{Run, isRefused, opened, visitedAt, epochOver, epoch, epochUnlessOver}
 use Rattle.training.proofs.OneVisit.{visit-cases}
 
@@ -47,16 +47,16 @@ average-long n (passive variant c sensitive false) features counter s h = h
 average-long n (arow variance gamma) features counter s h = h
 
 -- ---- a visit
-pub visit-long : (rule : Rule) (m : Model) (d : Data) (n i : ℕ) (s : State) → Long n (s .learned) → Long n (visited rule m d i s .learned)
+pub visit-long : (rule : Rule) (m : Model) (d : Data) (n i : ℕ) (s : TrainingState) → Long n (s .learned) → Long n (visited rule m d i s .learned)
 unfolding refusedAs unchanged changedTo
 visit-long rule m d n i s h =
     visit-cases rule m d i s (λ t. Long n (t .learned)) (λ number. h) (λ z. h) (λ z k. update-long n (m .features .count) rule k (s .learned) h)
 
 -- ---- a run
-module _ (visit : ℕ → State → State) (n : ℕ) (keeps : (i : ℕ) (s : State) → Long n (s .learned) → Long n (visit i s .learned)) where
-  at-long : (order : List ℕ) (j : ℕ) (s : State) → Long n (s .learned) → Long n (visitedAt visit order j s .learned)
+module _ (visit : ℕ → TrainingState → TrainingState) (n : ℕ) (keeps : (i : ℕ) (s : TrainingState) → Long n (s .learned) → Long n (visit i s .learned)) where
+  at-long : (order : List ℕ) (j : ℕ) (s : TrainingState) → Long n (s .learned) → Long n (visitedAt visit order j s .learned)
   unfolding visitedAt
-  at-long order j s h = go (isRefused (s .step .visit))
+  at-long order j s h = go (isRefused (s .progress .visit))
     where
       go : (b : Bool) → Long n (cond b s (visit (getD order j 0) s) .learned)
       go true = h
@@ -68,7 +68,7 @@ module _ (visit : ℕ → State → State) (n : ℕ) (keeps : (i : ℕ) (s : Sta
     where
       go : (b : Bool) → Long n (cond b r (epoch visit stop instances r) .state .learned)
       go true = h
-      go false = through-keeps (λ (s : State). Long n (s .learned)) _ (at-long (shuffled instances (r .deal) .order)) 0 instances (opened (r .state)) h
+      go false = through-keeps (λ (s : TrainingState). Long n (s .learned)) _ (at-long (shuffled instances (r .deal) .order)) 0 instances (opened (r .state)) h
 
   pub run-long : (stop : Float → Bool) (instances e : ℕ) (r : Run) → Long n (r .state .learned) → Long n (through (epochUnlessOver visit stop instances) 0 e r .state .learned)
   run-long stop instances e r h = through-keeps (λ (x : Run). Long n (x .state .learned)) (epochUnlessOver visit stop instances) (unless-long stop instances) 0 e r h

@@ -10,10 +10,10 @@ use lib.Dec.{eqb, ltb, lit≤}
 use lib.ListN.{length, getD, replicate, length-replicate, getD-replicate, length-set}
 use lib.Seq.{getD-set-same, getD-set-other}
 use lib.Ieee.{Float, nan, binary64, add, ofInt}
-use Rattle.lines.specs.Passes.{through, start, size, nought, raised}
+use Rattle.lines.specs.Passes.{through, start, size, raised}
+use Rattle.binary64.specs.Numbers.{nought, whole}
 use Rattle.lines.specs.Tables.{Model, Words, State, Transition}
-use Rattle.lines.specs.Counted.{one, stateCount, countedAttribute, countedAt, countedWord, transitionCount, countedTransition, countsOf}
-use Rattle.training.specs.Data.{whole}
+use Rattle.lines.specs.Counted.{stateCount, countedAttribute, countedAt, countedWord, transitionCount, countedTransition, countsOf}
 use Rattle.training.specs.WholeCounts.{total, timesInList, timesFor, timesAt, matching, StateCountsWhole, MatchingFits}
 use Rattle.training.proofs.Whole.{whole-add}
 
@@ -39,10 +39,10 @@ module _ (features i : ℕ) where
   by-none true change c = c refl
   by-none false change c = nothing
 
-  here : i < features → CountsBy (λ s. raised s i one) 1
+  here : i < features → CountsBy (λ s. raised s i (whole 1)) 1
   unfolding raised
   here f s k l e h =
-      (length-set s i _ ∙ l, getD-set-same s i _ nan (omega arith) ∙ ap (λ (x : Float). add binary64 x one) e ∙ whole-add k 1 (omega arith) (lit≤ tt))
+      (length-set s i _ ∙ l, getD-set-same s i _ nan (omega arith) ∙ ap (λ (x : Float). add binary64 x (whole 1)) e ∙ whole-add k 1 (omega arith) (lit≤ tt))
 
   elsewhere : (j : ℕ) (v : Float) → (j ≡ i → ⊥) → CountsBy (λ s. raised s j v) 0
   unfolding raised
@@ -65,12 +65,12 @@ module _ (features i : ℕ) where
   spared test j v h = by-none test (λ s. raised s j v) (λ t. elsewhere j v (λ p. true≢false (sym t ∙ h p)))
 
   -- and under one that i passes
-  met : i < features → (test : Bool) (j : ℕ) → (j ≡ i → test ≡ true) → CountsBy (λ s. cond test (raised s j one) s) (cond (eqb j i) 1 0)
+  met : i < features → (test : Bool) (j : ℕ) → (j ≡ i → test ≡ true) → CountsBy (λ s. cond test (raised s j (whole 1)) s) (cond (eqb j i) 1 0)
   met f test j h = go (eqb j i) (eqb-true j i) (eqb-false j i)
     where
-      go : (b : Bool) → (b ≡ true → j ≡ i) → (b ≡ false → j ≡ i → ⊥) → CountsBy (λ s. cond test (raised s j one) s) (cond b 1 0)
+      go : (b : Bool) → (b ≡ true → j ≡ i) → (b ≡ false → j ≡ i → ⊥) → CountsBy (λ s. cond test (raised s j (whole 1)) s) (cond b 1 0)
       go true p q = rw (h (p refl), p refl) (here f)
-      go false p q = by-none test (λ s. raised s j one) (λ _. elsewhere j one (q refl))
+      go false p q = by-none test (λ s. raised s j (whole 1)) (λ _. elsewhere j (whole 1) (q refl))
 
 module _ (m : Model) (i : ℕ) (f : i < m .features .count) (kind : getD (m .features .kinds) i 0 ≡ State) where
   abbrev Adds : (List Float → List Float) → ℕ → Type 0
@@ -93,11 +93,11 @@ module _ (m : Model) (i : ℕ) (f : i < m .features .count) (kind : getD (m .fea
   follows-not previous label j p = rw (p, kind)
 
   -- a word of the feature's own label, and of another
-  attribute-adds : (d : Words) (label a : ℕ) → eqb destination label ≡ true → getD (d .values) a nan ≡ one → Adds (countedAt m d label a) (timesFor m i d a)
+  attribute-adds : (d : Words) (label a : ℕ) → eqb destination label ≡ true → getD (d .values) a nan ≡ whole 1 → Adds (countedAt m d label a) (timesFor m i d a)
   unfolding countedAt countedAttribute timesFor timesInList stateCount
   attribute-adds d label a t v =
       rw v (by-test (m .features .count) i (ltb (getD (d .ids) a 0) (m .attributeLists .count)) _ _ (λ _.
-      pass (m .features .count) i (stateCount m label one) (λ place. cond (eqb (getD (m .attributeLists .entries) place 0) i) 1 0) _ _ (λ j _.
+      pass (m .features .count) i (stateCount m label (whole 1)) (λ place. cond (eqb (getD (m .attributeLists .entries) place 0) i) 1 0) _ _ (λ j _.
       met (m .features .count) i f _ _ (counted-by label _ true t))))
 
   attribute-idle : (d : Words) (label a : ℕ) → eqb destination label ≡ false → Adds (countedAt m d label a) 0
@@ -106,7 +106,7 @@ module _ (m : Model) (i : ℕ) (f : i < m .features .count) (kind : getD (m .fea
       by-none (m .features .count) i (ltb (getD (d .ids) a 0) (m .attributeLists .count)) _ (λ _.
       idle (m .features .count) i (stateCount m label (getD (d .values) a nan)) _ _ (λ j _. spared (m .features .count) i _ _ _ (counted-by label _ false t)))
 
-  word-adds : (d : Words) (first : ℕ) (labels : List ℕ) (word : ℕ) → ((a : ℕ) → start (d .starts) (first + word) ≤ a → a < start (d .starts) (first + word + 1) → getD (d .values) a nan ≡ one) →
+  word-adds : (d : Words) (first : ℕ) (labels : List ℕ) (word : ℕ) → ((a : ℕ) → start (d .starts) (first + word) ≤ a → a < start (d .starts) (first + word + 1) → getD (d .values) a nan ≡ (whole 1)) →
       Adds (countedWord m d first labels word) (cond (eqb destination (getD labels word 0)) (timesAt m i d (first + word)) 0)
   unfolding countedWord timesAt
   word-adds d first labels word v = go (eqb destination (getD labels word 0)) refl

@@ -14,9 +14,9 @@ use Rattle.training.specs.declared.Training.the-variants.{Accepted}
 use Rattle.shuffle.specs.Shuffle.{shuffled}
 use Rattle.lines.specs.Passes.{through}
 use Rattle.lines.specs.Tables.{Model}
-use Rattle.training.specs.Data.{Data}
+use Rattle.lines.specs.Data.{Data}
 use Rattle.training.specs.Rules.{Rule, stops}
-use Rattle.training.specs.Visits.{State, visited}
+use Rattle.training.specs.Visits.{TrainingState, visited}
 use Rattle.training.specs.Epochs.{Settings, Run, isRefused, opened, visitedAt, epochUnlessOver, begun, trained}
 
 abbrev pub isUpdated : Visit → Bool
@@ -30,15 +30,15 @@ howMany test [] = 0
 howMany test (x ∷ xs) = cond (test x) 1 0 + howMany test xs
 
 -- ---- how the visits of a training ended, one by one; the counters have no part in this
-module _ (visit : ℕ → State → State) (order : List ℕ) where
+module _ (visit : ℕ → TrainingState → TrainingState) (order : List ℕ) where
   -- of the first n visits of an epoch that begins with s, in order; after a refusal none is made
-  unfoldable pub endsOver : ℕ → State → List Visit
+  unfoldable pub endsOver : ℕ → TrainingState → List Visit
   endsOver zero s = []
   endsOver (suc n) s =
       let before = through (visitedAt visit order) 0 n s in
-      endsOver n s ++ cond (isRefused (before .step .visit)) [] (visit (getD order n 0) before .step .visit ∷ [])
+      endsOver n s ++ cond (isRefused (before .progress .visit)) [] (visit (getD order n 0) before .progress .visit ∷ [])
 
-module _ (visit : ℕ → State → State) (stop : Float → Bool) (instances : ℕ) where
+module _ (visit : ℕ → TrainingState → TrainingState) (stop : Float → Bool) (instances : ℕ) where
   -- of the first e epochs allowed, in order; when training is over none is run
   unfoldable pub endsWithin : ℕ → Run → List Visit
   endsWithin zero r = []

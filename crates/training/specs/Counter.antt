@@ -2,7 +2,7 @@
 use mathlib.Core.Path.{_≡_}
 use Prim.Native.Nat.{ℕ, zero, suc, _+_, _*_, _^_, _≤_}
 use lib.Ieee.{Float}
-use Rattle.training.specs.Data.{whole}
+use Rattle.binary64.specs.Numbers.{whole}
 use Rattle.training.specs.Rules.{_⊕_}
 
 -- the Rust's `c` and `update_counter` after so many visits: `let mut c = 1.0;`, `c += 1.0;`

@@ -8,17 +8,18 @@ use Rattle.refusals.specs.Refusals.{numbered}
 use Rattle.refusals.specs.declared.Refusal.{Refusal}
 use Rattle.training.specs.declared.Visit.{Visit}
 use Rattle.training.specs.declared.Visit.the-variants.{Unchanged, Updated, Refused}
-use Rattle.training.specs.declared.Step.{Step}
+use Rattle.training.specs.declared.Progress.{Progress}
 use Rattle.training.specs.declared.Trained.{Trained}
 use Rattle.training.specs.declared.Training.{Training}
 use Rattle.training.specs.declared.Training.the-variants.{Accepted, Refused as NotTrained}
 use Rattle.shuffle.specs.Shuffle.{Deal, shuffled}
-use Rattle.lines.specs.Passes.{through, nought}
+use Rattle.lines.specs.Passes.{through}
+use Rattle.binary64.specs.Numbers.{nought, whole}
 use Rattle.lines.specs.Tables.{Model}
-use Rattle.training.specs.Data.{Data, whole}
+use Rattle.lines.specs.Data.{Data}
 use Rattle.fronts.specs.Finite.{allFinite}
 use Rattle.training.specs.Rules.{Rule, Learned, besideAtFirst, stops, averagedBy, _⊘_}
-use Rattle.training.specs.Visits.{State, visited}
+use Rattle.training.specs.Visits.{TrainingState, visited}
 
 pub record Settings : Type 0 where
   pub epochs : ℕ
@@ -27,7 +28,7 @@ pub record Settings : Type 0 where
 
 -- what goes from epoch to epoch
 pub record Run : Type 0 where
-  pub state : State
+  pub state : TrainingState
   pub deal : Deal
   pub epochs : ℕ
   pub over : Bool
@@ -52,33 +53,33 @@ abbrev pub upTo : ℕ → List ℕ
 upTo n = countedFrom 0 n
 
 -- an epoch begins with a loss of +0
-unfoldable pub opened : State → State
+unfoldable pub opened : TrainingState → TrainingState
 opened s = record {
-  step = record { visit = Unchanged; visits = s .step .visits; updates = s .step .updates; loss = nought };
+  progress = record { visit = Unchanged; visits = s .progress .visits; updates = s .progress .updates; loss = nought };
   learned = s .learned;
 }
 
 -- an epoch's visits, whatever a visit is
-module _ (visit : ℕ → State → State) (order : List ℕ) where
+module _ (visit : ℕ → TrainingState → TrainingState) (order : List ℕ) where
   -- the instance at a place of the order, unless a visit was refused
-  unfoldable pub visitedAt : ℕ → State → State
-  visitedAt place s = cond (isRefused (s .step .visit)) s (visit (getD order place 0) s)
+  unfoldable pub visitedAt : ℕ → TrainingState → TrainingState
+  visitedAt place s = cond (isRefused (s .progress .visit)) s (visit (getD order place 0) s)
 
-  unfoldable pub epochOver : ℕ → State → State
+  unfoldable pub epochOver : ℕ → TrainingState → TrainingState
   epochOver instances s = through visitedAt 0 instances (opened s)
 
 -- training ends after an epoch in which a visit was refused, or whose loss/N is low enough
-abbrev pub endsAfter : (Float → Bool) → ℕ → Step → Bool
+abbrev pub endsAfter : (Float → Bool) → ℕ → Progress → Bool
 endsAfter stop instances s = isRefused (s .visit) || stop (s .loss ⊘ whole instances)
 
 -- epochs, whatever a visit is and whichever rate of loss ends training
-module _ (visit : ℕ → State → State) (stop : Float → Bool) (instances : ℕ) where
+module _ (visit : ℕ → TrainingState → TrainingState) (stop : Float → Bool) (instances : ℕ) where
   -- "shuffled before each epoch, keeping the order of the epoch before"; "The generator's state goes from epoch to epoch"
   unfoldable pub epoch : Run → Run
   epoch r =
       let deal = shuffled instances (r .deal) in
       let s = epochOver visit (deal .order) instances (r .state) in
-      record { state = s; deal = deal; epochs = r .epochs + 1; over = endsAfter stop instances (s .step) }
+      record { state = s; deal = deal; epochs = r .epochs + 1; over = endsAfter stop instances (s .progress) }
 
   unfoldable pub epochUnlessOver : ℕ → Run → Run
   epochUnlessOver e r = cond (r .over) r (epoch r)
@@ -88,7 +89,7 @@ module _ (rule : Rule) (set : Settings) (m : Model) (d : Data) where
   unfoldable pub begun : Run
   begun = record {
     state = record {
-      step = record { visit = Unchanged; visits = 0; updates = 0; loss = nought };
+      progress = record { visit = Unchanged; visits = 0; updates = 0; loss = nought };
       learned = record {
         weights = replicate (m .features .count) nought;
         beside = replicate (m .features .count) (besideAtFirst rule);
@@ -109,11 +110,11 @@ module _ (rule : Rule) (set : Settings) (m : Model) (d : Data) where
   -- the final averaging; 9 has "all visits for the averaging" as place
   unfoldable pub averaged : Run → Result
   averaged r =
-      let step = r .state .step in
-      let w = averagedBy rule (m .features .count) (whole (step .visits + 1)) (r .state .learned) in
+      let progress = r .state .progress in
+      let w = averagedBy rule (m .features .count) (whole (progress .visits + 1)) (r .state .learned) in
       cond (allFinite w (m .features .count))
-      (record { answer = Accepted (record { epochs = r .epochs; visits = step .visits; updates = step .updates }); weights = w })
-      (refusedWith (numbered 9 (step .visits)))
+      (record { answer = Accepted (record { epochs = r .epochs; visits = progress .visits; updates = progress .updates }); weights = w })
+      (refusedWith (numbered 9 (progress .visits)))
 
   unfoldable pub finished : Visit → Run → Result
   finished Unchanged r = averaged r
@@ -122,4 +123,4 @@ module _ (rule : Rule) (set : Settings) (m : Model) (d : Data) where
 
   -- what is trained on tables that are not refused under 1 to 7
   unfoldable pub trained : Result
-  trained = let r = ran in finished (r .state .step .visit) r
+  trained = let r = ran in finished (r .state .progress .visit) r

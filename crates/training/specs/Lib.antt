@@ -1,5 +1,5 @@
--- To read in this order. The instances; the three rules; one visit; epochs and the result; how an answer is said.
-pub mod Data
+-- To read in this order. How many labels are wrong; the three rules; one visit; epochs and the result; how an answer is said.
+pub mod Wrong
 pub mod Rules
 pub mod Visits
 pub mod Epochs

@@ -9,12 +9,12 @@ use Rattle.best_path.specs.Scores.{tabled}
 use Rattle.best_path.specs.Decoded.{decodedPath}
 use Rattle.lines.specs.Tables.{Model}
 use Rattle.lines.specs.Scored.{statesOf, transitionsOf}
-use Rattle.training.specs.Data.{Data, firstWord, wordsOf, referenceOf}
+use Rattle.lines.specs.Data.{Data, firstWord, wordsOf, referenceOf}
 use Rattle.training.specs.Rules.{Rule}
-use Rattle.training.specs.Visits.{State, visited}
+use Rattle.training.specs.Visits.{TrainingState, visited}
 use Rattle.training.specs.Epochs.{isRefused}
 
-module _ (m : Model) (d : Data) (i : ℕ) (s : State) where
+module _ (m : Model) (d : Data) (i : ℕ) (s : TrainingState) where
   -- the labels that the present weights predict for instance i
   unfoldable pub predictedFor : List ℕ
   predictedFor =
@@ -27,23 +27,23 @@ module _ (m : Model) (d : Data) (i : ℕ) (s : State) where
   LabelsAgree = (word : ℕ) → word < wordsOf d i → getD predictedFor word 0 ≡ getD (referenceOf d i) word 0
 
 -- "Updated: labels differ": an unchanged visit's labels agree, an updated visit's do not
-pub record EndsByLabels (rule : Rule) (m : Model) (d : Data) (i : ℕ) (s : State) : Type 0 where
-  pub agree : visited rule m d i s .step .visit ≡ Unchanged → LabelsAgree m d i s
-  pub differ : visited rule m d i s .step .visit ≡ Updated → LabelsAgree m d i s → ⊥
+pub record EndsByLabels (rule : Rule) (m : Model) (d : Data) (i : ℕ) (s : TrainingState) : Type 0 where
+  pub agree : visited rule m d i s .progress .visit ≡ Unchanged → LabelsAgree m d i s
+  pub differ : visited rule m d i s .progress .visit ≡ Updated → LabelsAgree m d i s → ⊥
 
 abbrev pub VisitsEndByLabels : Type 0
-VisitsEndByLabels = (rule : Rule) (m : Model) (d : Data) (i : ℕ) (s : State) → EndsByLabels rule m d i s
+VisitsEndByLabels = (rule : Rule) (m : Model) (d : Data) (i : ℕ) (s : TrainingState) → EndsByLabels rule m d i s
 
 -- from one state to another nothing was learned: no table changed, no update was counted, no loss added
-pub record NothingLearned (before after : State) : Type 0 where
+pub record NothingLearned (before after : TrainingState) : Type 0 where
   pub tables : after .learned ≡ before .learned
-  pub updates : after .step .updates ≡ before .step .updates
-  pub loss : after .step .loss ≡ before .step .loss
+  pub updates : after .progress .updates ≡ before .progress .updates
+  pub loss : after .progress .loss ≡ before .progress .loss
 
 -- a visit whose labels agree changes nothing, refused for its scores or not
 abbrev pub AgreeingChangesNothing : Type 0
-AgreeingChangesNothing = (rule : Rule) (m : Model) (d : Data) (i : ℕ) (s : State) → LabelsAgree m d i s → NothingLearned s (visited rule m d i s)
+AgreeingChangesNothing = (rule : Rule) (m : Model) (d : Data) (i : ℕ) (s : TrainingState) → LabelsAgree m d i s → NothingLearned s (visited rule m d i s)
 
 -- and neither does a visit that is refused
 abbrev pub RefusedChangesNothing : Type 0
-RefusedChangesNothing = (rule : Rule) (m : Model) (d : Data) (i : ℕ) (s : State) → isRefused (visited rule m d i s .step .visit) ≡ true → NothingLearned s (visited rule m d i s)
+RefusedChangesNothing = (rule : Rule) (m : Model) (d : Data) (i : ℕ) (s : TrainingState) → isRefused (visited rule m d i s .progress .visit) ≡ true → NothingLearned s (visited rule m d i s)

@@ -7,7 +7,7 @@ use Rattle.shuffle.specs.Permutation.{Permutation}
 use Rattle.shuffle.specs.Shuffle.{shuffled}
 use Rattle.lines.specs.Passes.{through}
 use Rattle.lines.specs.Tables.{Model}
-use Rattle.training.specs.Data.{Data}
+use Rattle.lines.specs.Data.{Data}
 use Rattle.training.specs.Rules.{Rule, stops}
 use Rattle.training.specs.Visits.{visited}
 use Rattle.training.specs.Epochs.{Settings, Run, upTo, epochUnlessOver, begun}

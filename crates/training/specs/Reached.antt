@@ -14,9 +14,10 @@ use Rattle.training.specs.declared.Training.the-variants.{Accepted, Refu
 use Rattle.shuffle.specs.Shuffle.{shuffled}
 use Rattle.lines.specs.Passes.{through}
 use Rattle.lines.specs.Tables.{Model}
-use Rattle.training.specs.Data.{Data, whole}
+use Rattle.lines.specs.Data.{Data}
+use Rattle.binary64.specs.Numbers.{whole}
 use Rattle.training.specs.Rules.{Rule, besideAtFirst, stops, averagedBy, _⊘_}
-use Rattle.training.specs.Visits.{State, unchanged, heldTo, visited}
+use Rattle.training.specs.Visits.{TrainingState, unchanged, heldTo, visited}
 use Rattle.training.specs.Epochs.{Settings, isRefused, opened, visitedAt, begun, ran, trained}
 use Rattle.training.specs.Orders.{ranFor}
 use Rattle.training.specs.Reasons.{SomeNotFinite, EightIn, ComesToUpdate, KeepsSums, NineAfter, TablesFinite, afterUpdate}
@@ -30,16 +31,16 @@ module _ (rule : Rule) (set : Settings) (m : Model) (d : Data) where
   abbrev pub instanceAt : ℕ → ℕ → ℕ
   instanceAt epoch turn = getD (orderIn epoch) turn 0
 
-  unfoldable pub stateBefore : ℕ → ℕ → State
+  unfoldable pub stateBefore : ℕ → ℕ → TrainingState
   stateBefore epoch turn = through (visitedAt (visited rule m d) (orderIn epoch)) 0 turn (opened (ranFor rule set m d epoch .state))
 
   abbrev pub endAt : ℕ → ℕ → Visit
-  endAt epoch turn = visited rule m d (instanceAt epoch turn) (stateBefore epoch turn) .step .visit
+  endAt epoch turn = visited rule m d (instanceAt epoch turn) (stateBefore epoch turn) .progress .visit
 
   -- an epoch after which training goes on: none of its visits is refused, and its loss/N is not low enough to stop
   pub record GoesOn (epoch : ℕ) : Type 0 where
     pub none-refused : (turn : ℕ) → turn < d .instances → isRefused (endAt epoch turn) ≡ false
-    pub not-low : stops rule (set .epsilon) (stateBefore epoch (d .instances) .step .loss ⊘ whole (d .instances)) ≡ false
+    pub not-low : stops rule (set .epsilon) (stateBefore epoch (d .instances) .progress .loss ⊘ whole (d .instances)) ≡ false
 
   -- the visit at a turn of an epoch is made, and so many visits before it
   pub record Reached (epoch turn before : ℕ) : Type 0 where
@@ -56,7 +57,7 @@ module _ (rule : Rule) (set : Settings) (m : Model) (d : Data) where
     pub next : (epoch turn before : ℕ) → Reached epoch turn before → stateBefore epoch (turn + 1) ≡ visited rule m d (instanceAt epoch turn) (stateBefore epoch turn)
     pub opens : (epoch before : ℕ) → Reached (epoch + 1) 0 before → stateBefore (epoch + 1) 0 ≡ opened (stateBefore epoch (d .instances))
     -- and each has counted the visits before it
-    pub counted : (epoch turn before : ℕ) → Reached epoch turn before → stateBefore epoch turn .step .visits ≡ before
+    pub counted : (epoch turn before : ℕ) → Reached epoch turn before → stateBefore epoch turn .progress .visits ≡ before
 
   -- 8 | "a finished state or transition score or feature count is not finite" | "in training: visits done"
   pub record EightAt (place : ℕ) : Type 0 where
@@ -67,7 +68,7 @@ module _ (rule : Rule) (set : Settings) (m : Model) (d : Data) where
 
   -- the weights that the final averaging makes
   abbrev pub averagedWeights : List Float
-  averagedWeights = let s = ran rule set m d .state in averagedBy rule (m .features .count) (whole (s .step .visits + 1)) (s .learned)
+  averagedWeights = let s = ran rule set m d .state in averagedBy rule (m .features .count) (whole (s .progress .visits + 1)) (s .learned)
 
   -- every visit that is made ends as unchanged or updated
   abbrev pub NoneRefused : Type 0

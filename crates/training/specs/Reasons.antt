@@ -14,9 +14,10 @@ use Rattle.best_path.specs.Scores.{tabled}
 use Rattle.lines.specs.Tables.{Model}
 use Rattle.lines.specs.Scored.{statesOf, transitionsOf}
 use Rattle.lines.specs.Counted.{countsOf}
-use Rattle.training.specs.Data.{Data, firstWord, wordsOf, referenceOf, wrongOf}
+use Rattle.lines.specs.Data.{Data, firstWord, wordsOf, referenceOf}
+use Rattle.training.specs.Wrong.{wrongOf}
 use Rattle.training.specs.Rules.{Rule, perceptron, passive, arow, updatedBy}
-use Rattle.training.specs.Visits.{State, changedTo, mistakeIn, visited}
+use Rattle.training.specs.Visits.{TrainingState, changedTo, mistakeIn, visited}
 use Rattle.training.specs.OneVisit.{predictedFor, LabelsAgree}
 
 -- "not finite", somewhere among the first n of a table
@@ -26,7 +27,7 @@ pub record SomeNotFinite (table : List Float) (n : ℕ) : Type 0 where
   pub bad : NotFinite table place
 
 -- ---- what 8 looks at: the scores of instance i under the present weights, and its feature counts
-module _ (m : Model) (d : Data) (i : ℕ) (s : State) where
+module _ (m : Model) (d : Data) (i : ℕ) (s : TrainingState) where
   abbrev pub stateScores : List Float
   stateScores = statesOf m (s .learned .weights) (d .words) (firstWord d i) (wordsOf d i)
 
@@ -72,22 +73,22 @@ KeepsCovariance (passive variant c sensitive averaging) = ⊥
 KeepsCovariance (arow variance gamma) = Unit
 
 -- 9 | "after a visit .. a weight, running sum, covariance or epoch loss is not finite"
-pub data NineAfter (rule : Rule) (features : ℕ) (after : State) : Type 0 where
+pub data NineAfter (rule : Rule) (features : ℕ) (after : TrainingState) : Type 0 where
   weight : SomeNotFinite (after .learned .weights) features → NineAfter rule features after
   running-sum : KeepsSums rule → SomeNotFinite (after .learned .beside) features → NineAfter rule features after
   covariance : KeepsCovariance rule → SomeNotFinite (after .learned .beside) features → NineAfter rule features after
-  epoch-loss : finite (after .step .loss) ≡ false → NineAfter rule features after
+  epoch-loss : finite (after .progress .loss) ≡ false → NineAfter rule features after
 
 -- nothing for 9 to find: F weights, F entries of the table beside them, and the epoch's loss are finite
-pub record TablesFinite (features : ℕ) (s : State) : Type 0 where
+pub record TablesFinite (features : ℕ) (s : TrainingState) : Type 0 where
   pub weights : FiniteTo (s .learned .weights) features
   pub beside : FiniteTo (s .learned .beside) features
-  pub loss : T (finite (s .step .loss))
+  pub loss : T (finite (s .progress .loss))
 
 -- ---- one visit
-module _ (rule : Rule) (m : Model) (d : Data) (i : ℕ) (s : State) where
+module _ (rule : Rule) (m : Model) (d : Data) (i : ℕ) (s : TrainingState) where
   -- the state that the update of instance i makes, before 9 looks at it
-  unfoldable pub afterUpdate : State
+  unfoldable pub afterUpdate : TrainingState
   afterUpdate =
       let path = predictedFor m d i s in
       let scores = tabled (m .labels) (transitionScores m d i s) (stateScores m d i s) in
@@ -96,15 +97,15 @@ module _ (rule : Rule) (m : Model) (d : Data) (i : ℕ) (s : State) where
 
   -- each of the ends of a visit exactly when; the place of 8 and 9 is "visits done before it"
   pub record VisitMeans : Type 0 where
-    pub eight : visited rule m d i s .step .visit ≡ Refused (record { number = 8; place = s .step .visits }) ↔ EightIn m d i s
+    pub eight : visited rule m d i s .progress .visit ≡ Refused (record { number = 8; place = s .progress .visits }) ↔ EightIn m d i s
     -- "9 comes after"
-    pub nine : visited rule m d i s .step .visit ≡ Refused (record { number = 9; place = s .step .visits }) ↔ ComesToUpdate m d i s × NineAfter rule (m .features .count) afterUpdate
+    pub nine : visited rule m d i s .progress .visit ≡ Refused (record { number = 9; place = s .progress .visits }) ↔ ComesToUpdate m d i s × NineAfter rule (m .features .count) afterUpdate
     -- no other number is given, and no other place
-    pub only : (why : Refusal) → visited rule m d i s .step .visit ≡ Refused why → ((why .number ≡ 8) ⊎ (why .number ≡ 9)) × (why .place ≡ s .step .visits)
-    pub unchanged : visited rule m d i s .step .visit ≡ Unchanged ↔ ScoresFinite m d i s × LabelsAgree m d i s
+    pub only : (why : Refusal) → visited rule m d i s .progress .visit ≡ Refused why → ((why .number ≡ 8) ⊎ (why .number ≡ 9)) × (why .place ≡ s .progress .visits)
+    pub unchanged : visited rule m d i s .progress .visit ≡ Unchanged ↔ ScoresFinite m d i s × LabelsAgree m d i s
     -- "Updated: labels differ"
-    pub updated : visited rule m d i s .step .visit ≡ Updated ↔ ComesToUpdate m d i s × TablesFinite (m .features .count) afterUpdate
+    pub updated : visited rule m d i s .progress .visit ≡ Updated ↔ ComesToUpdate m d i s × TablesFinite (m .features .count) afterUpdate
 
 -- from any state in which 9 would find nothing
 abbrev pub VisitsMean : Type 0
-VisitsMean = (rule : Rule) (m : Model) (d : Data) (i : ℕ) (s : State) → TablesFinite (m .features .count) s → VisitMeans rule m d i s
+VisitsMean = (rule : Rule) (m : Model) (d : Data) (i : ℕ) (s : TrainingState) → TablesFinite (m .features .count) s → VisitMeans rule m d i s

@@ -6,8 +6,8 @@ use lib.ListN.{getD, set}
 use lib.Ieee.{Float, nan, binary64, add, sub, mul, div, lt, le}
 use Rattle.binary64.specs.Smaller.{smaller}
 use Rattle.roots.specs.Root.{nearestRoot}
-use Rattle.lines.specs.Passes.{through, nought, raised}
-use Rattle.training.specs.Data.{whole}
+use Rattle.lines.specs.Passes.{through, raised}
+use Rattle.binary64.specs.Numbers.{nought, whole}
 
 -- a trainer with its own parameters; "variants 0 Pa, 1 PaI, 2 PaII"
 pub data Rule : Type 0 where

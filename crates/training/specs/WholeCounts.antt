@@ -8,8 +8,8 @@ use lib.ListN.{getD}
 use lib.Ieee.{nan}
 use Rattle.lines.specs.Passes.{start, size}
 use Rattle.lines.specs.Tables.{Model, Words, State}
-use Rattle.lines.specs.Counted.{one, countsOf}
-use Rattle.training.specs.Data.{whole}
+use Rattle.lines.specs.Counted.{countsOf}
+use Rattle.binary64.specs.Numbers.{whole}
 
 -- f first + f (first + 1) + ..: n of them
 unfoldable pub total : (ℕ → ℕ) → ℕ → ℕ → ℕ
@@ -35,7 +35,7 @@ module _ (m : Model) (i : ℕ) where
 
 -- every attribute of a line has the value 1
 abbrev pub AllOnes : Words → ℕ → ℕ → Type 0
-AllOnes d first words = (word a : ℕ) → word < words → start (d .starts) (first + word) ≤ a → a < start (d .starts) (first + word + 1) → getD (d .values) a nan ≡ one
+AllOnes d first words = (word a : ℕ) → word < words → start (d .starts) (first + word) ≤ a → a < start (d .starts) (first + word + 1) → getD (d .values) a nan ≡ whole 1
 
 abbrev pub StateCountsWhole : Type 0
 StateCountsWhole =

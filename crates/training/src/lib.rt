@@ -9,7 +9,7 @@ pub enum Visit {
 }
 
 // A training step: how the last visit ended, beside the counters and the epoch's loss.
-pub struct Step {
+pub struct Progress {
     pub visit: Visit,
     pub visits: u64,
     pub updates: u64,

@@ -20,7 +20,7 @@ use Rattle.feature_gen.specs.Rows.{modelCounts, modelRooms, featureTests, entry
 use Rattle.feature_gen.proofs.Laws.{sized}
 use Rattle.line_check.specs.Rows.{lineRooms, valueTests}
 use Rattle.line_check.proofs.Laws.{line-sized}
-use Rattle.training.specs.Data.{Data}
+use Rattle.lines.specs.Data.{Data}
 use Rattle.parameters.specs.Parameters.{Parameter, sevens}
 use Rattle.training_check.specs.Rows.{Input, dataCounts, dataRooms, lentRooms, inputCounts, inputRooms, inputStarts, lengthTests, inputIds, inputNumbers, trainingChecked, inputChecked, inputSized}
 use Rattle.training_check.specs.Sound.{DataSized, LentSized, InputFits}

@@ -9,7 +9,7 @@ use Rattle.refusals.specs.Meaning.{Starts}
 use Rattle.refusals.proofs.Meant.{within}
 use Rattle.score_tables.specs.Sound.{WordsIn}
 use Rattle.score_tables.proofs.Meant.{one-means}
-use Rattle.refusal_rows.specs.Tests.{linesFit, startsRise, idsBelow, numbersFinite, AllGood, Good, wordsIn}
+use Rattle.refusal_rows.specs.Tests.{linesFit, startsRise, idsBelow, numbersFinite, AllGood, Good, lineLength}
 use Rattle.refusal_rows.proofs.Means.{two-means, good-parts, fitting}
 use Rattle.refusal_rows.proofs.Groups.{Group, single, tested, given-first, given-after, accepted-when, given-only}
 use Rattle.refusal_rows.proofs.TableGroups.{pair}
@@ -17,7 +17,7 @@ use Rattle.lines.specs.Sound.{SoundWords}
 use Rattle.feature_gen.specs.Rows.{startTests, idTests}
 use Rattle.feature_gen.proofs.Sound.{rising, below, all-finite, sound-words, sound}
 use Rattle.line_check.specs.Rows.{valueTests}
-use Rattle.training.specs.Data.{Data, firstWord, wordsOf}
+use Rattle.lines.specs.Data.{Data, firstWord, wordsOf}
 use Rattle.parameters.specs.Parameters.{Parameter}
 use Rattle.parameters.proofs.Means.{fitness}
 use Rattle.training_check.specs.Rows.{Input, inputCounts, inputRooms, inputStarts, lengthTests, inputIds, inputNumbers, trainingChecked}

@@ -8,8 +8,7 @@ use lib.Ieee.{Float, nan, inf, fin, ofInt, lt}
 use Rattle.refusals.specs.declared.Checked.the-variants.{Accepted}
 use Rattle.refusals.specs.Refusals.{refusedAt, refuse, orNext, lowest}
 use Rattle.refusal_rows.specs.Limits.{inOrder}
-use Rattle.lines.specs.Passes.{nought}
-use Rattle.lines.specs.Counted.{one}
+use Rattle.binary64.specs.Numbers.{nought, whole}
 use Rattle.parameters.specs.declared.Perceptron.{Perceptron}
 use Rattle.parameters.specs.declared.Passive.{Passive}
 use Rattle.parameters.specs.declared.Arow.{Arow}
@@ -30,7 +29,7 @@ p9 instances starts value = record {
     count = 1;
     words = record { starts = 0 ∷ 1 ∷ []; size = 1; ids = 0 ∷ []; values = value ∷ [] };
     references = 0 ∷ [];
-    weights = one ∷ one ∷ [];
+    weights = (whole 1) ∷ (whole 1) ∷ [];
   };
   lent = record { weights = 2; beside = 2; truly = 2; predicted = 2; order = 2 };
 }
@@ -45,12 +44,12 @@ abbrev minus-zero : Float
 minus-zero = fin true 0 (pos 0)
 
 -- P9, and "Epsilon of −0 is zero"
-accepted : perceptronChecked (p9 1 (0 ∷ 1 ∷ []) one) (perceptron 1 minus-zero) ≡ Accepted
+accepted : perceptronChecked (p9 1 (0 ∷ 1 ∷ []) (whole 1)) (perceptron 1 minus-zero) ≡ Accepted
 unfolding trainingChecked lowest orNext refuse ofInt lt
 accepted = refl
 
 -- "N of 0 is 2"
-no-instance : perceptronChecked (p9 0 (0 ∷ []) one) (perceptron 1 nought) ≡ refusedAt 2 0
+no-instance : perceptronChecked (p9 0 (0 ∷ []) (whole 1)) (perceptron 1 nought) ≡ refusedAt 2 0
 unfolding trainingChecked lowest orNext refuse ofInt lt
 no-instance = refl
 
@@ -65,17 +64,17 @@ unfolding trainingChecked lowest orNext refuse ofInt lt
 tables-first = refl
 
 -- "Epochs 0 and 1,001 are 7, place 1", also where epsilon is bad
-epochs : (perceptronChecked (p9 1 (0 ∷ 1 ∷ []) one) (perceptron 0 nan) ≡ refusedAt 7 1) × (perceptronChecked (p9 1 (0 ∷ 1 ∷ []) one) (perceptron 1001 nought) ≡ refusedAt 7 1)
+epochs : (perceptronChecked (p9 1 (0 ∷ 1 ∷ []) (whole 1)) (perceptron 0 nan) ≡ refusedAt 7 1) × (perceptronChecked (p9 1 (0 ∷ 1 ∷ []) (whole 1)) (perceptron 1001 nought) ≡ refusedAt 7 1)
 unfolding trainingChecked lowest orNext refuse ofInt lt
 epochs = (refl, refl)
 
 -- "C = 0, NaN": "tested for every variant"; "variant above 2"
-scales : (passiveChecked (p9 1 (0 ∷ 1 ∷ []) one) (passive nought 0) ≡ refusedAt 7 3) × (passiveChecked (p9 1 (0 ∷ 1 ∷ []) one) (passive nan 0) ≡ refusedAt 7 3) × (passiveChecked (p9 1 (0 ∷ 1 ∷ []) one) (passive one 3) ≡ refusedAt 7 5)
+scales : (passiveChecked (p9 1 (0 ∷ 1 ∷ []) (whole 1)) (passive nought 0) ≡ refusedAt 7 3) × (passiveChecked (p9 1 (0 ∷ 1 ∷ []) (whole 1)) (passive nan 0) ≡ refusedAt 7 3) × (passiveChecked (p9 1 (0 ∷ 1 ∷ []) (whole 1)) (passive (whole 1) 3) ≡ refusedAt 7 5)
 unfolding trainingChecked lowest orNext refuse ofInt lt
 scales = (refl, refl, refl)
 
 -- gamma not finite
-gammas : arowChecked (p9 1 (0 ∷ 1 ∷ []) one) (record { epochs = 1; epsilon = nought; seed = 0; variance = one; gamma = inf true }) ≡ refusedAt 7 4
+gammas : arowChecked (p9 1 (0 ∷ 1 ∷ []) (whole 1)) (record { epochs = 1; epsilon = nought; seed = 0; variance = (whole 1); gamma = inf true }) ≡ refusedAt 7 4
 unfolding trainingChecked lowest orNext refuse ofInt lt
 gammas = refl
 

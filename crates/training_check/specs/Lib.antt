@@ -1,4 +1,3 @@
-pub mod Lent
 pub mod Rows
 pub mod Sound
 pub mod Meaning

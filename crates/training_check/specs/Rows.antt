@@ -11,7 +11,7 @@ use Rattle.refusal_rows.specs.Tests.{Test, startsRise, linesFit, idsBelow, numb
 use Rattle.lines.specs.Tables.{Model}
 use Rattle.feature_gen.specs.Rows.{modelCounts, modelRooms, startTests, idTests}
 use Rattle.line_check.specs.Rows.{lineRooms, valueTests}
-use Rattle.training.specs.Data.{Data}
+use Rattle.lines.specs.Data.{Data}
 use Rattle.parameters.specs.declared.Perceptron.{Perceptron}
 use Rattle.parameters.specs.declared.Passive.{Passive}
 use Rattle.parameters.specs.declared.Arow.{Arow}

@@ -6,9 +6,9 @@ use Rattle.refusals.specs.Bounds.{theInstances, theWords, most}
 use Rattle.score_tables.specs.Sound.{WordsIn}
 use Rattle.fronts.specs.Finite.{FiniteTo}
 use Rattle.lines.specs.Sound.{SoundWords}
-use Rattle.feature_gen.specs.Sound.{Sized, Sound}
+use Rattle.feature_gen.specs.Sound.{ModelSized, SoundModel}
 use Rattle.line_check.specs.Sound.{LineSized}
-use Rattle.training.specs.Data.{Data, firstWord, wordsOf}
+use Rattle.lines.specs.Data.{Data, firstWord, wordsOf}
 use Rattle.training_check.specs.declared.Lent.{Lent}
 use Rattle.training_check.specs.Rows.{Input}
 
@@ -31,7 +31,7 @@ pub record LentSized (features instances : ℕ) (lent : Lent) : Type 0 where
   pub order : instances ≤ lent .order
 
 pub record InputFits (g : Input) : Type 0 where
-  pub model : Sized (g .model)
+  pub model : ModelSized (g .model)
   pub corpus : DataSized (g .corpus)
   pub lent : LentSized (g .model .features .count) (g .corpus .instances) (g .lent)
 
@@ -52,5 +52,5 @@ pub record SoundData (labels : ℕ) (d : Data) : Type 0 where
 -- what training may rely on
 pub record SoundInput (g : Input) : Type 0 where
   pub fits : InputFits g
-  pub model : Sound (g .model)
+  pub model : SoundModel (g .model)
   pub corpus : SoundData (g .model .labels) (g .corpus)

@@ -9,22 +9,15 @@ ghost use Rattle.refusals.specs.Bounds.{theLineWords, outsideIts};
 ghost use Rattle.refusal_rows.specs.Limits.{anyBroken};
 ghost use Rattle.refusal_rows.specs.Tests.{startsRise, linesFit, lengthsChecked, checks};
 ghost use Rattle.feature_gen.specs.Lent.{modelWas};
-ghost use Rattle.training_check.specs.Lent.{dataWas};
+ghost use Rattle.lines.specs.Entry.{dataWas};
 ghost use Rattle.training_check.specs.Rows.{totalLimits, dataRooms, lentRooms, inputSized, inputChecked};
 use feature_gen::Counts;
+use lines::Totals;
 use refusals::Checked;
 
 pub const MOST_INSTANCES: u32 = 16384;
 
 pub const MOST_WORDS_IN_ALL: u32 = 1048576;
-
-// Instances, words in all and attributes in all, which are numbers of their own beside the tables.
-#[repr(C)]
-pub struct Totals {
-    pub instances: u32,
-    pub words: u32,
-    pub attributes: u32,
-}
 
 // How long the lent result and work buffers are: the weights and the table beside them, the true and the predicted counts, and
 // the order of the instances.

@@ -1,14 +1,14 @@
 // The three trainers, for programs in C and Rust. Each is thin: one call of the crate trainers, and its answer as numbers.
 ghost use Rattle.feature_gen.specs.Lent.{modelWas};
-ghost use Rattle.training_check.specs.Lent.{dataWas};
+ghost use Rattle.lines.specs.Entry.{dataWas};
 ghost use Rattle.trainers.specs.Promise.{averagedPerceptron, passiveAggressive, adaptive, Given, Buffers};
 ghost use Rattle.training_exports.specs.Trains.{Trains};
 use answers::trainings::Trained;
 use feature_gen::Counts;
+use lines::Totals;
 use parameters::Arow;
 use parameters::Passive;
 use parameters::Perceptron;
-use training_check::Totals;
 
 // The averaged perceptron.
 #[no_mangle]

@@ -8,7 +8,8 @@ use native.Mathlib.Omega.{arith}
 use lib.ListN.{length, length-set, List·getD-append}
 use lib.Seq.{set-append-left}
 use lib.Ieee.{Float, nan}
-use Rattle.lines.specs.Passes.{through, raised, nought}
+use Rattle.lines.specs.Passes.{through, raised}
+use Rattle.binary64.specs.Numbers.{nought}
 use Rattle.training.specs.Rules.{perceptron, passive, arow, Learned, Mistake, difference, pushed, squared, pulled, spread, narrowed, byPerceptron, byPassive, byArow, updatedBy, averagedAt, averagedBy}
 use Rattle.training_tables.specs.Tables.{Both, Held}
 use Rattle.training_tables.specs.Fronts.{longer, SameLengths, UpdatesFront, UpdatesKeepLengths, AveragesFront}

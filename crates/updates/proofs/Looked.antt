@@ -4,25 +4,25 @@ use mathlib.Core.Bool.{Bool, true, false}
 use mathlib.Core.Logic.{_⊎_, inl, inr}
 use Prim.Native.Nat.{ℕ}
 use native.Mathlib.Omega.{arith}
-use Rattle.training.specs.declared.Step.{Step}
-use Rattle.training.specs.Visits.{State, refusedAs, unchanged}
+use Rattle.training.specs.declared.Progress.{Progress}
+use Rattle.training.specs.Visits.{TrainingState, refusedAs, unchanged}
 use Rattle.updates.specs.declared.Found.{Found}
 use Rattle.updates.specs.declared.Found.the-variants.{Ended, Differ}
 use Rattle.updates.specs.Looked.{looked}
 
-pub never : {r : Step} → Ended r ≡ Differ → ⊥
+pub never : {r : Progress} → Ended r ≡ Differ → ⊥
 never e = let z : _≡_ {A = ℕ} 0 1 = cc in omega arith
 
-pub same-step : {r t : Step} → Ended t ≡ Ended r → r ≡ t
+pub same-step : {r t : Progress} → Ended t ≡ Ended r → r ≡ t
 same-step e = cc
 
-module _ (s : State) where
+module _ (s : TrainingState) where
   -- each way through the two tests
-  pub not-scored : (scored agree : Bool) → scored ≡ false → {r : Step} → r ≡ refusedAs 8 s .step → Ended r ≡ looked scored agree s
+  pub not-scored : (scored agree : Bool) → scored ≡ false → {r : Progress} → r ≡ refusedAs 8 s .progress → Ended r ≡ looked scored agree s
   unfolding looked
   not-scored scored agree e p = rw (e, p)
 
-  pub agreeing : (scored agree : Bool) → scored ≡ true → agree ≡ true → {r : Step} → r ≡ unchanged s .step → Ended r ≡ looked scored agree s
+  pub agreeing : (scored agree : Bool) → scored ≡ true → agree ≡ true → {r : Progress} → r ≡ unchanged s .progress → Ended r ≡ looked scored agree s
   unfolding looked
   agreeing scored agree e d p = rw (e, d, p)
 
@@ -31,7 +31,7 @@ module _ (s : State) where
   differing scored agree e d = rw (e, d)
 
   -- it ends there: 8 for the scores, or the labels agree
-  pub ended : (scored agree : Bool) {r : Step} → looked scored agree s ≡ Ended r → ((scored ≡ false) × (r ≡ refusedAs 8 s .step)) ⊎ ((scored ≡ true) × (agree ≡ true) × (r ≡ unchanged s .step))
+  pub ended : (scored agree : Bool) {r : Progress} → looked scored agree s ≡ Ended r → ((scored ≡ false) × (r ≡ refusedAs 8 s .progress)) ⊎ ((scored ≡ true) × (agree ≡ true) × (r ≡ unchanged s .progress))
   unfolding looked
   ended false agree e = inl (refl, same-step e)
   ended true true e = inr (refl, refl, same-step e)

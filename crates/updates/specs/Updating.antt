@@ -1,32 +1,32 @@
--- What the code of a visit is held to: when a step and the two tables are as a definition has them. Assumes nothing.
+-- What the code of a visit is held to: when a progress and the two tables are as a definition has them. Assumes nothing.
 use mathlib.Core.Path.{_≡_}
 use mathlib.Core.Bool.{false, cond, _&&_}
 use mathlib.Core.List.{List}
 use Prim.Native.Nat.{ℕ, _+_, _≤_}
 use lib.ListN.{length}
 use lib.Ieee.{Float}
-use Rattle.training.specs.declared.Step.{Step}
+use Rattle.training.specs.declared.Progress.{Progress}
 use Rattle.fronts.specs.Finite.{allFinite}
 use Rattle.training.specs.Rules.{Rule, Learned, Mistake, updatedBy}
-use Rattle.training.specs.Visits.{State, refusedAs, changedTo, heldTo}
+use Rattle.training.specs.Visits.{TrainingState, refusedAs, changedTo, heldTo}
 use Rattle.training.specs.Epochs.{isRefused}
 
--- the state that a step and the two tables make
-abbrev pub stateOf : Step → List Float → List Float → State
-stateOf step weights beside = record { step = step; learned = record { weights = weights; beside = beside } }
+-- the state that a progress and the two tables make
+abbrev pub stateOf : Progress → List Float → List Float → TrainingState
+stateOf progress weights beside = record { progress = progress; learned = record { weights = weights; beside = beside } }
 
--- the step is the definition's, and so are the tables unless the visit was refused: then nobody reads them, since they are to be zero
-pub record Agreed (made meant : State) : Type 0 where
-  pub step : made .step ≡ meant .step
-  pub whole : isRefused (meant .step .visit) ≡ false → made ≡ meant
+-- the progress is the definition's, and so are the tables unless the visit was refused: then nobody reads them, since they are to be zero
+pub record Agreed (made meant : TrainingState) : Type 0 where
+  pub progress : made .progress ≡ meant .progress
+  pub whole : isRefused (meant .progress .visit) ≡ false → made ≡ meant
 
 -- the counters rise by one visit at most
-pub record Counted (before after : Step) : Type 0 where
+pub record Counted (before after : Progress) : Type 0 where
   pub visits : after .visits ≤ before .visits + 1
   pub updates : after .updates ≤ after .visits
 
 -- where labels differ: 8 for the counts, then the update and 9
-unfoldable pub settled : Rule → ℕ → Mistake → State → State
+unfoldable pub settled : Rule → ℕ → Mistake → TrainingState → TrainingState
 settled rule features k s =
     cond (allFinite (k .truly) features && allFinite (k .predicted) features)
     (heldTo features s (changedTo (updatedBy rule features k (s .learned)) s))

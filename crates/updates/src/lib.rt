@@ -11,20 +11,20 @@ ghost use Rattle.training.specs.Epochs.{isRefused, endsAfter};
 ghost use Rattle.parameters.specs.Trainers.{ruleOf};
 ghost use Rattle.updates.specs.Looked.{looked};
 ghost use lib.ListN.{length};
-ghost use Rattle.training.specs.Data.{whole};
+ghost use Rattle.binary64.specs.Numbers.{whole};
 ghost use Rattle.training_tables.specs.Tables.{Held, Updated};
 ghost use Rattle.updates.specs.Updating.{stateOf, Agreed, Counted, settled};
 use judging::Prediction;
 use parameters::Trainer;
-use training::Step;
+use training::Progress;
 use training::Visit;
 use training_tables::Outcome;
 
 // A visit that is refused: the counters stay.
-pub fn refuse(number: u32, s: Step) -> Step
-    ensures { λ r. ⌜ ((learned : Learned) → r ≡ (refusedAs number (record { step = s; learned = learned })) .step) ⌝ }
+pub fn refuse(number: u32, s: Progress) -> Progress
+    ensures { λ r. ⌜ ((learned : Learned) → r ≡ (refusedAs number (record { progress = s; learned = learned })) .progress) ⌝ }
 {
-    Step {
+    Progress {
         visit: Visit::Refused(refusals::numbered(number, s.visits)),
         visits: s.visits,
         updates: s.updates,
@@ -33,11 +33,11 @@ pub fn refuse(number: u32, s: Step) -> Step
 }
 
 // A visit whose labels agree: it counts, and nothing is learned.
-pub fn unchanged(s: Step) -> Step
+pub fn unchanged(s: Progress) -> Progress
     requires { ⌜ (s .visits < 2 ^ 53) × (s .updates ≤ s .visits) ⌝ }
-    ensures { λ r. ⌜ ((learned : Learned) → r ≡ (unchangedIn (record { step = s; learned = learned })) .step) ⌝ }
+    ensures { λ r. ⌜ ((learned : Learned) → r ≡ (unchangedIn (record { progress = s; learned = learned })) .progress) ⌝ }
 {
-    Step {
+    Progress {
         visit: Visit::Unchanged,
         visits: s.visits + 1,
         updates: s.updates,
@@ -47,14 +47,14 @@ pub fn unchanged(s: Step) -> Step
 
 // What a visit finds before it learns: it ends there, or labels differ.
 pub enum Found {
-    Ended(Step),
+    Ended(Progress),
     Differ,
 }
 
 // 8 for the scores, then whether the labels agree.
-fn look_at(scored: bool, agree: bool, s: Step) -> Found
+fn look_at(scored: bool, agree: bool, s: Progress) -> Found
     requires { ⌜ (s .visits < 2 ^ 53) × (s .updates ≤ s .visits) ⌝ }
-    ensures { λ r. ⌜ ((learned : Learned) → r ≡ looked scored agree (record { step = s; learned = learned })) ⌝ }
+    ensures { λ r. ⌜ ((learned : Learned) → r ≡ looked scored agree (record { progress = s; learned = learned })) ⌝ }
 {
     if !scored {
         return Found::Ended(refuse(8, s));
@@ -66,9 +66,9 @@ fn look_at(scored: bool, agree: bool, s: Step) -> Found
 }
 
 // The labels agree where none is wrong, whichever the epoch.
-pub fn look(scored: bool, wrong: u32, s: Step) -> Found
+pub fn look(scored: bool, wrong: u32, s: Progress) -> Found
     requires { ⌜ (s .visits < 2 ^ 53) × (s .updates ≤ s .visits) ⌝ }
-    ensures { λ r. ⌜ ((learned : Learned) → r ≡ looked scored (eqb wrong 0) (record { step = s; learned = learned })) ⌝ }
+    ensures { λ r. ⌜ ((learned : Learned) → r ≡ looked scored (eqb wrong 0) (record { progress = s; learned = learned })) ⌝ }
 {
     look_at(scored, wrong == 0, s)
 }
@@ -102,7 +102,7 @@ fn is_low(trainer: Trainer, epsilon: f64, rate: f64) -> bool
 }
 
 // Whether training ends after an epoch.
-pub fn ends(trainer: Trainer, epsilon: f64, instances: usize, s: Step) -> bool
+pub fn ends(trainer: Trainer, epsilon: f64, instances: usize, s: Progress) -> bool
     requires { ⌜ instances ≤ 16384 ⌝ }
     ensures { λ r. ⌜ r ≡ endsAfter (stops (ruleOf trainer) epsilon) instances s ⌝ }
 {
@@ -186,12 +186,12 @@ pub fn learn(
     words: u32,
     weight: f64,
     p: Prediction,
-    s: Step,
+    s: Progress,
     truly: &[f64],
     predicted: &[f64],
     weights: &mut [f64],
     beside: &mut [f64],
-) -> Step
+) -> Progress
     requires { ⌜ (p .wrong ≤ 128) × Held features (length (now truly)) (length (now predicted)) (length (now weights)) (length (now beside)) ⌝ }
     requires { ⌜ (s .visits < 2 ^ 53) × (s .updates ≤ s .visits) ⌝ }
     ensures { λ r. ⌜ Agreed (stateOf r (now (weights .exit)) (now (beside .exit))) (settled (ruleOf trainer) features (record { words = words; wrong = p .wrong; truly = now (truly .entry); predicted = now (predicted .entry); trueScore = p .wanted; predictedScore = p .reached; weight = weight; counter = whole (s .visits + 1) }) (stateOf s (now (weights .entry)) (now (beside .entry)))) ⌝ }
@@ -214,7 +214,7 @@ pub fn learn(
     let loss = s.loss + outcome.loss;
     if holds(outcome.finite, loss) {
         let updates = s.updates + 1;
-        return Step {
+        return Progress {
             visit: Visit::Updated,
             visits: visits,
             updates: updates,

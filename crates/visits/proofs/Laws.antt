@@ -17,11 +17,13 @@ use Rattle.lines.specs.Counted.{countsOf}
 use Rattle.best_path.specs.Scores.{tabled}
 use Rattle.best_path.specs.Decoded.{decodedPath}
 use Rattle.best_path.specs.PathScore.{pathScore}
-use Rattle.training.specs.declared.Step.{Step}
+use Rattle.training.specs.declared.Progress.{Progress}
 use Rattle.training.specs.declared.Visit.the-variants.{Unchanged}
-use Rattle.training.specs.Data.{Data, firstWord, wordsOf, referenceOf, whole, wrongOf}
+use Rattle.lines.specs.Data.{Data, firstWord, wordsOf, referenceOf}
+use Rattle.binary64.specs.Numbers.{whole}
+use Rattle.training.specs.Wrong.{wrongOf}
 use Rattle.training.specs.Rules.{Rule, Learned, Mistake}
-use Rattle.training.specs.Visits.{State, refusedAs, unchanged, corrected, compared, visited}
+use Rattle.training.specs.Visits.{TrainingState, refusedAs, unchanged, corrected, compared, visited}
 use Rattle.judging.specs.declared.Prediction.{Prediction}
 use Rattle.training_check.specs.Sound.{SoundData}
 use Rattle.prediction.specs.Tables.{SoundLine}
@@ -33,7 +35,7 @@ use Rattle.updates.specs.Updating.{Agreed, Counted, settled}
 use Rattle.updates.proofs.Laws.{exactly, refused, refused-counted, unchanged-counted}
 
 -- a visit that ends before it learns is counted once at most
-pub ended-counted : (s r : Step) (scored agree : Bool) → ((l : Learned) → looked scored agree (record { step = s; learned = l }) ≡ Ended r) → s .updates ≤ s .visits → Counted s r
+pub ended-counted : (s r : Progress) (scored agree : Bool) → ((l : Learned) → looked scored agree (record { progress = s; learned = l }) ≡ Ended r) → s .updates ≤ s .visits → Counted s r
 unfolding looked
 ended-counted s r false agree e h = refused-counted 8 s r (λ l. same-step (e l)) h
 ended-counted s r true true e h = unchanged-counted s r (λ l. same-step (e l)) h
@@ -70,17 +72,17 @@ module _ (d : Data) (i first end : ℕ) (f : first ≡ getD (d .starts) i 0) (g 
           below = λ k l. rw (getD-take (end - first) (drop first (d .references)) k 0 l, getD-drop) (v .below (first + k) (omega arith));
         }
 
-  module _ (rule : Rule) (m : Model) (s : State) {after : List ℕ} {p : Prediction} (j : Judged (m .labels) (end - first) (transitionsOf m (s .learned .weights)) (statesOf m (s .learned .weights) (d .words) first (end - first)) (take (end - first) (drop first (d .references))) after p) where
+  module _ (rule : Rule) (m : Model) (s : TrainingState) {after : List ℕ} {p : Prediction} (j : Judged (m .labels) (end - first) (transitionsOf m (s .learned .weights)) (statesOf m (s .learned .weights) (d .words) first (end - first)) (take (end - first) (drop first (d .references))) after p) where
     judged : Judged (m .labels) (wordsOf d i) (transitionsOf m (s .learned .weights)) (statesOf m (s .learned .weights) (d .words) (firstWord d i) (wordsOf d i)) (referenceOf d i) after p
     judged = rw (f, g) at j
 
     -- 8 for the scores
-    unscored : p .finite ≡ false → {r : Step} {l : Learned} → r ≡ (refusedAs 8 s) .step → Agreed (record { step = r; learned = l }) (visited rule m d i s)
+    unscored : p .finite ≡ false → {r : Progress} {l : Learned} → r ≡ (refusedAs 8 s) .progress → Agreed (record { progress = r; learned = l }) (visited rule m d i s)
     unfolding visited
     unscored e q = refused 8 s (rw (sym (judged .finite) ∙ e)) q
 
     -- the labels agree
-    same : p .finite ≡ true → p .wrong ≡ 0 → {r : Step} → r ≡ (unchanged s) .step → Agreed (record { step = r; learned = s .learned }) (visited rule m d i s)
+    same : p .finite ≡ true → p .wrong ≡ 0 → {r : Progress} → r ≡ (unchanged s) .progress → Agreed (record { progress = r; learned = s .learned }) (visited rule m d i s)
     unfolding visited compared unchanged
     same t z q = exactly (rw (sym (judged .finite) ∙ t, eq-eqb _ _ (sym (judged .wrong t) ∙ z), q))
 
@@ -94,7 +96,7 @@ module _ (d : Data) (i first end : ℕ) (f : first ≡ getD (d .starts) i 0) (g 
       trueScore = p .wanted;
       predictedScore = p .reached;
       weight = getD (d .weights) i nan;
-      counter = whole (s .step .visits + 1);
+      counter = whole (s .progress .visits + 1);
     }
 
     abbrev meant : Mistake
@@ -109,7 +111,7 @@ module _ (d : Data) (i first end : ℕ) (f : first ≡ getD (d .starts) i 0) (g 
           trueScore = pathScore scores (referenceOf d i) (wordsOf d i);
           predictedScore = pathScore scores path (wordsOf d i);
           weight = getD (d .weights) i nan;
-          counter = whole (s .step .visits + 1);
+          counter = whole (s .progress .visits + 1);
         }
 
     seen-meant : p .finite ≡ true → (p .wrong ≡ 0 → ⊥) → seen ≡ meant
@@ -119,15 +121,15 @@ module _ (d : Data) (i first end : ℕ) (f : first ≡ getD (d .starts) i 0) (g 
     unfolding visited compared corrected settled
     visited-settled t h = rw (sym (judged .finite) ∙ t, ne-eqb _ _ (λ z. h (judged .wrong t ∙ z)))
 
-    other : p .finite ≡ true → (p .wrong ≡ 0 → ⊥) → {made : State} → Agreed made (settled rule (m .features .count) seen s) → Agreed made (visited rule m d i s)
-    other t h {made} a = subst (λ (w : State). Agreed made w) (ap (λ (k : Mistake). settled rule (m .features .count) k s) (seen-meant t h) ∙ sym (visited-settled t h)) a
+    other : p .finite ≡ true → (p .wrong ≡ 0 → ⊥) → {made : TrainingState} → Agreed made (settled rule (m .features .count) seen s) → Agreed made (visited rule m d i s)
+    other t h {made} a = subst (λ (w : TrainingState). Agreed made w) (ap (λ (k : Mistake). settled rule (m .features .count) k s) (seen-meant t h) ∙ sym (visited-settled t h)) a
 
     -- what the look before learning found: the visit ends there
-    pub ended-there : {r : Step} → looked (p .finite) (eqb (p .wrong) 0) s ≡ Ended r → Agreed (record { step = r; learned = s .learned }) (visited rule m d i s)
+    pub ended-there : {r : Progress} → looked (p .finite) (eqb (p .wrong) 0) s ≡ Ended r → Agreed (record { progress = r; learned = s .learned }) (visited rule m d i s)
     ended-there e = ⊎-elim (λ w. unscored (w .0) (w .1)) (λ w. same (w .0) (eqb-true _ _ (w .1)) (w .2)) (ended s (p .finite) (eqb (p .wrong) 0) e)
 
     -- or labels differ, and the path stands in the front of an array
-    pub other-front : looked (p .finite) (eqb (p .wrong) 0) s ≡ Differ → length after ≡ end - first → (rest : List ℕ) → {made : State} → Agreed made (settled rule (m .features .count) (record { words = end - first; wrong = p .wrong; truly = countsOf m (d .words) first (end - first) (take (end - first) (drop first (d .references))); predicted = countsOf m (d .words) first (end - first) (take (end - first) (after ++ rest)); trueScore = p .wanted; predictedScore = p .reached; weight = getD (d .weights) i nan; counter = whole (s .step .visits + 1) }) s) → Agreed made (visited rule m d i s)
+    pub other-front : looked (p .finite) (eqb (p .wrong) 0) s ≡ Differ → length after ≡ end - first → (rest : List ℕ) → {made : TrainingState} → Agreed made (settled rule (m .features .count) (record { words = end - first; wrong = p .wrong; truly = countsOf m (d .words) first (end - first) (take (end - first) (drop first (d .references))); predicted = countsOf m (d .words) first (end - first) (take (end - first) (after ++ rest)); trueScore = p .wanted; predictedScore = p .reached; weight = getD (d .weights) i nan; counter = whole (s .progress .visits + 1) }) s) → Agreed made (visited rule m d i s)
     other-front e n rest {made} a =
         let w = differs s (p .finite) (eqb (p .wrong) 0) e in
         other (w .0) (eqb-false _ _ (w .1)) (rw (take-at after rest _ n) at a)

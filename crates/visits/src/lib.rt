@@ -4,18 +4,18 @@ ghost use mathlib.Core.Path.{_≡_};
 ghost use Prim.Native.Nat.{_+_, _≤_, _<_, _^_};
 ghost use lib.ListN.{length};
 ghost use Rattle.lines.specs.Counted.{countsOf};
-ghost use Rattle.training.specs.Data.{whole};
+ghost use Rattle.binary64.specs.Numbers.{whole};
 ghost use Rattle.training.specs.Rules.{Mistake};
 ghost use Rattle.training.specs.Visits.{visited};
-ghost use Rattle.feature_gen.specs.Sound.{Sound};
+ghost use Rattle.feature_gen.specs.Sound.{SoundModel};
 ghost use Rattle.training_check.specs.Sound.{SoundData};
-ghost use Rattle.prediction.specs.Tables.{modelOf, wordsIn, dataOf, SoundLine};
+ghost use Rattle.prediction.specs.Tables.{modelOf, wordsFrom, dataOf, SoundLine};
 ghost use Rattle.parameters.specs.Trainers.{ruleOf};
 ghost use Rattle.updates.specs.Updating.{stateOf, Agreed, Counted, settled, Exact};
 use judging::Prediction;
 use parameters::Trainer;
 use prediction::Sizes;
-use training::Step;
+use training::Progress;
 use updates::Found;
 
 // The labels differ: the true counts, the predicted counts, then the update.
@@ -38,18 +38,18 @@ fn correct(
     path: &[u32],
     weight: f64,
     p: Prediction,
-    s: Step,
+    s: Progress,
     weights: &mut [f64],
     beside: &mut [f64],
     truly: &mut [f64],
     predicted: &mut [f64],
-) -> Step
-    requires { ⌜ Sound (modelOf sizes (now kinds) (now destinations) (now sources) (now starts) (now entries) (now «label_starts») (now «label_entries»)) ⌝ }
-    requires { ⌜ SoundLine (sizes .labels) (wordsIn sizes (now begins) (now ids) (now values)) first words (now references) ⌝ }
+) -> Progress
+    requires { ⌜ SoundModel (modelOf sizes (now kinds) (now destinations) (now sources) (now starts) (now entries) (now «label_starts») (now «label_entries»)) ⌝ }
+    requires { ⌜ SoundLine (sizes .labels) (wordsFrom sizes (now begins) (now ids) (now values)) first words (now references) ⌝ }
     requires { ⌜ Exact (sizes .features) (now weights) (now beside) (now truly) (now predicted) ⌝ }
     requires { ⌜ (length (now path) ≡ words) × (p .wrong ≤ 128) ⌝ }
     requires { ⌜ (s .visits < 2 ^ 53) × (s .updates ≤ s .visits) ⌝ }
-    ensures { λ r. ⌜ Agreed (stateOf r (now (weights .exit)) (now (beside .exit))) (settled (ruleOf trainer) (sizes .features) (record { words = words; wrong = p .wrong; truly = countsOf (modelOf sizes (now (kinds .entry)) (now (destinations .entry)) (now (sources .entry)) (now (starts .entry)) (now (entries .entry)) (now («label_starts» .entry)) (now («label_entries» .entry))) (wordsIn sizes (now (begins .entry)) (now (ids .entry)) (now (values .entry))) first words (now (references .entry)); predicted = countsOf (modelOf sizes (now (kinds .entry)) (now (destinations .entry)) (now (sources .entry)) (now (starts .entry)) (now (entries .entry)) (now («label_starts» .entry)) (now («label_entries» .entry))) (wordsIn sizes (now (begins .entry)) (now (ids .entry)) (now (values .entry))) first words (now (path .entry)); trueScore = p .wanted; predictedScore = p .reached; weight = weight; counter = whole (s .visits + 1) }) (stateOf s (now (weights .entry)) (now (beside .entry)))) ⌝ }
+    ensures { λ r. ⌜ Agreed (stateOf r (now (weights .exit)) (now (beside .exit))) (settled (ruleOf trainer) (sizes .features) (record { words = words; wrong = p .wrong; truly = countsOf (modelOf sizes (now (kinds .entry)) (now (destinations .entry)) (now (sources .entry)) (now (starts .entry)) (now (entries .entry)) (now («label_starts» .entry)) (now («label_entries» .entry))) (wordsFrom sizes (now (begins .entry)) (now (ids .entry)) (now (values .entry))) first words (now (references .entry)); predicted = countsOf (modelOf sizes (now (kinds .entry)) (now (destinations .entry)) (now (sources .entry)) (now (starts .entry)) (now (entries .entry)) (now («label_starts» .entry)) (now («label_entries» .entry))) (wordsFrom sizes (now (begins .entry)) (now (ids .entry)) (now (values .entry))) first words (now (path .entry)); trueScore = p .wanted; predictedScore = p .reached; weight = weight; counter = whole (s .visits + 1) }) (stateOf s (now (weights .entry)) (now (beside .entry)))) ⌝ }
     ensures { λ r. ⌜ Counted s r ⌝ }
 {
     let features = sizes.features;
@@ -123,13 +123,13 @@ pub fn visit(
     references: &[u32],
     shares: &[f64],
     i: usize,
-    s: Step,
+    s: Progress,
     weights: &mut [f64],
     beside: &mut [f64],
     truly: &mut [f64],
     predicted: &mut [f64],
-) -> Step
-    requires { ⌜ Sound (modelOf sizes (now kinds) (now destinations) (now sources) (now starts) (now entries) (now «label_starts») (now «label_entries»)) ⌝ }
+) -> Progress
+    requires { ⌜ SoundModel (modelOf sizes (now kinds) (now destinations) (now sources) (now starts) (now entries) (now «label_starts») (now «label_entries»)) ⌝ }
     requires { ⌜ SoundData (sizes .labels) (dataOf sizes (now lines) (now begins) (now ids) (now values) (now references) (now shares)) ⌝ }
     requires { ⌜ Exact (sizes .features) (now weights) (now beside) (now truly) (now predicted) ⌝ }
     requires { ⌜ (i < sizes .instances) × (s .visits < 2 ^ 53) × (s .updates ≤ s .visits) ⌝ }
@@ -160,8 +160,8 @@ pub fn visit(
         &mut path[..words],
     );
     let found = updates::look(p.finite, p.wrong, s);
-    if let Found::Ended(step) = found {
-        return step;
+    if let Found::Ended(progress) = found {
+        return progress;
     }
     correct(
         trainer,

@@ -6,7 +6,7 @@ use lib.ListN.{length}
 use Rattle.refusals.specs.declared.Refusal.{Refusal}
 use Rattle.refusals.specs.declared.Checked.the-variants.{Accepted, Refused}
 use Rattle.best_path.specs.Scores.{AllFinite}
-use Rattle.score_tables.specs.Sound.{Sound}
+use Rattle.score_tables.specs.Sound.{SoundScores}
 use Rattle.viterbi_end.specs.declared.Found.{Found}
 use Rattle.viterbi.specs.declared.Decoding.{Decoding}
 use Rattle.viterbi.proofs.Meant.{decoding-means}
@@ -14,7 +14,7 @@ use Rattle.viterbi.specs.Answered.{Ready, Answered}
 use Rattle.viterbi.specs.Promise.{Given, scoresOf, checkedOf, answerTo, pathAfter, Promised}
 
 module _ (given : Given) (before : List ℕ) (accepted : checkedOf given before ≡ Accepted) where
-  abbrev fine : Sound (given .labels) (given .words) (given .transitions) (given .states) × (given .words ≤ length before)
+  abbrev fine : SoundScores (given .labels) (given .words) (given .transitions) (given .states) × (given .words ≤ length before)
   fine = decoding-means _ _ _ _ _ .accepted .0 accepted
 
   -- an accepted call meets what decoding relies on

@@ -12,7 +12,7 @@ use lib.ListN.{length, replicate}
 use lib.Ieee.{Float, nan, ofBits, binary64}
 use Rattle.best_path.specs.Scores.{Scores, tabled}
 use Rattle.best_path.specs.Decoded.{best, lastLabel, decodedPath}
-use Rattle.best_path.specs.Lead.{none, difference, rival, lead}
+use Rattle.best_path.specs.Lead.{none, leadBetween, rival, lead}
 use Rattle.best_path.proofs.Laws.{best-first, last-label-within, row-last, row-sum, row-rival}
 use Rattle.viterbi_steps.specs.declared.Row.{Row}
 use Rattle.viterbi_steps.specs.Rows.{Holds, StepsTo, Before, After, firstRow}
@@ -91,8 +91,8 @@ module _ (n words : ℕ) (transitions states row : List Float) (steps : List ℕ
   unfolding lead
   lead-is = go (ltb 1 n) (ltb-true 1 n)
     where
-      go : (b : Bool) → (b ≡ true → 1 < n) → cond b (difference (scoreAt row (lastLabel s words)) (rivalOf row n (lastLabel s words))) none ≡ cond b (difference (best s (words - 1) (lastLabel s words)) (rival s words)) none
-      go true h = rw (done .holds (lastLabel s words) (last-label-within s some words)) (ap (difference _) (row-rival s words (scoreAt row) (done .holds) (h refl)))
+      go : (b : Bool) → (b ≡ true → 1 < n) → cond b (leadBetween (scoreAt row (lastLabel s words)) (rivalOf row n (lastLabel s words))) none ≡ cond b (leadBetween (best s (words - 1) (lastLabel s words)) (rival s words)) none
+      go true h = rw (done .holds (lastLabel s words) (last-label-within s some words)) (ap (leadBetween _) (row-rival s words (scoreAt row) (done .holds) (h refl)))
       go false h = refl
 
   pub answered : (before after : List ℕ) (found : Found) → Ended row n words steps before found after → Answered n words transitions states before found after

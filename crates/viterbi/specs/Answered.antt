@@ -7,13 +7,13 @@ use lib.Ieee.{Float}
 use Rattle.best_path.specs.Scores.{tabled}
 use Rattle.best_path.specs.Decoded.{decodedPath, decodedSum}
 use Rattle.best_path.specs.Lead.{lead}
-use Rattle.score_tables.specs.Sound.{Sized}
+use Rattle.score_tables.specs.Sound.{ScoresSized}
 use Rattle.viterbi_end.specs.declared.Found.{Found}
 use Rattle.viterbi_end.specs.Ends.{leadSaid}
 
 -- what it relies on
 pub record Ready (labels words : ℕ) (transitions states : List Float) (path : List ℕ) : Type 0 where
-  pub sized : Sized labels words transitions states
+  pub sized : ScoresSized labels words transitions states
   pub long-path : words ≤ length path
 
 -- "The answer is the path and its rounded sum", with the lead; what lies after the path in its buffer stays

@@ -7,7 +7,7 @@ use lib.ListN.{length}
 use lib.Ieee.{Float}
 use Rattle.refusals.specs.declared.Checked.the-variants.{Accepted}
 use Rattle.refusals.specs.Refusals.{refusedAt, numbered}
-use Rattle.score_tables.specs.Sound.{LabelsIn, WordsIn, Room, Sound}
+use Rattle.score_tables.specs.Sound.{LabelsIn, WordsIn, ScoresRoom, SoundScores}
 use Rattle.score_tables.specs.Meaning.{SixAt}
 use Rattle.refusal_rows.specs.Given.{AtZero, OneOf}
 use Rattle.viterbi.specs.Rows.{decodeChecked}
@@ -17,7 +17,7 @@ use Rattle.viterbi.specs.Promise.{Given, Outcome, decoded, said, Promise
 
 -- each table has its entries, and the path's buffer has room for T labels
 abbrev pub AllRoom : ℕ → ℕ → List Float → List Float → List ℕ → Type 0
-AllRoom labels words transitions states path = Room labels words transitions states × (words ≤ length path)
+AllRoom labels words transitions states path = ScoresRoom labels words transitions states × (words ≤ length path)
 
 -- `Refuses number place` says how a refusal is answered, `Accepts` how none is; before each number stands what was tested and found fine
 pub record Meaning (Refuses : ℕ → ℕ → Type 0) (Accepts : Type 0) (labels words : ℕ) (transitions states : List Float) (path : List ℕ) : Type 0 where
@@ -26,7 +26,7 @@ pub record Meaning (Refuses : ℕ → ℕ → Type 0) (Accepts : Type 0) (labels
   pub two : (place : ℕ) → Refuses 2 place ↔ (LabelsIn labels × WordsIn words) × AtZero (AllRoom labels words transitions states path) place
   pub six : (place : ℕ) → Refuses 6 place ↔ (LabelsIn labels × (WordsIn words × AllRoom labels words transitions states path)) × SixAt labels words transitions states place
   pub only : (number place : ℕ) → Refuses number place → OneOf (1 ∷ 4 ∷ 2 ∷ 6 ∷ []) number
-  pub accepted : Accepts ↔ Sound labels words transitions states × (words ≤ length path)
+  pub accepted : Accepts ↔ SoundScores labels words transitions states × (words ≤ length path)
 
 abbrev pub DecodingMeans : Type 0
 DecodingMeans =

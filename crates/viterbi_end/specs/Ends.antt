@@ -7,7 +7,7 @@ use lib.Dec.{ltb}
 use lib.ListN.{drop}
 use lib.Ieee.{Float}
 use Rattle.best_path.specs.Decoded.{lastLargest}
-use Rattle.best_path.specs.Lead.{Lead, none, by, difference}
+use Rattle.best_path.specs.Lead.{Lead, none, by, leadBetween}
 use Rattle.viterbi_end.specs.Rival.{scoreAt, rivalOf}
 use Rattle.viterbi_end.specs.Walked.{walked}
 use Rattle.viterbi_end.specs.declared.Lead as code
@@ -24,7 +24,7 @@ lastOf row n = lastLargest (scoreAt row) (n - 1)
 
 -- "with L at least 2, the best final score minus the largest final score at any other last label"
 abbrev pub leadOf : List Float → ℕ → ℕ → Lead
-leadOf row n last = cond (ltb 1 n) (difference (scoreAt row last) (rivalOf row n last)) none
+leadOf row n last = cond (ltb 1 n) (leadBetween (scoreAt row last) (rivalOf row n last)) none
 
 -- what it gives: the path is walked back from the last label, and what lies after it in the buffer stays
 pub record Ended (row : List Float) (n words : ℕ) (steps before : List ℕ) (found : Found) (after : List ℕ) : Type 0 where

@@ -4,7 +4,7 @@ ghost use mathlib.Core.List.{_++_};
 ghost use Prim.Native.Nat.{_-_, _<_, _≤_};
 ghost use lib.ListN.{length, getD, drop};
 ghost use Rattle.viterbi_end.specs.Walked.{walked, Walk};
-ghost use Rattle.best_path.specs.Lead.{other, positiveZero, difference};
+ghost use Rattle.best_path.specs.Lead.{other, positiveZero, leadBetween};
 ghost use Rattle.viterbi_end.specs.Rival.{rivalOf};
 ghost use Rattle.viterbi_end.specs.Ends.{leadSaid, lastOf, leadOf, Ended};
 
@@ -70,7 +70,7 @@ pub fn positive_zero(x: f64) -> f64
 
 // "no lead .. when either score is not finite".
 fn lead_by(best: f64, rival: f64) -> Lead
-    ensures { λ r. ⌜ leadSaid r ≡ difference best rival ⌝ }
+    ensures { λ r. ⌜ leadSaid r ≡ leadBetween best rival ⌝ }
 {
     if binary64::is_finite(best) & binary64::is_finite(rival) {
         Lead::By(positive_zero(best - rival))

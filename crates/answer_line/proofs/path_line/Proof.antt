@@ -4,7 +4,7 @@ use mathlib.Core.List.{[], _∷_, _++_}
 use native.Mathlib.Omega.{arith}
 use lib.Ieee.{binary64, toBits}
 use Rattle.answer_line.specs.Digits.{digits}
-use Rattle.answer_line.specs.Line.{space, lineFeed, sumDigits, joinedLabels, pathLine, Room, Put}
+use Rattle.answer_line.specs.Line.{space, lineFeed, sumDigits, joinedLabels, pathLine, RoomFor, Put}
 use Rattle.answer_line.proofs.Laws.{put-then, put-length, put-line, room-first, room-next, length-digits}
 use Rattle.answer_line.proofs.path_line.Statement.{statement}
 use Rattle.answer_line.proofs.path_line.Tie as tie
@@ -12,21 +12,21 @@ use Rattle.answer_line.proofs.path_line.Tie as tie
 -- what is left to write, and the room for it, after each part
 room-1 : (c : tie.After-put-text) →
     let a = c .before .before .before .before .before .args in
-    Room (sumDigits (a .sum) ++ (space ∷ (joinedLabels (a .labels .now) ++ (lineFeed ∷ [])))) (c .put-text .last .0) (c .put-text .result)
+    RoomFor (sumDigits (a .sum) ++ (space ∷ (joinedLabels (a .labels .now) ++ (lineFeed ∷ [])))) (c .put-text .last .0) (c .put-text .result)
 unfolding pathLine
 room-1 c = room-next _ (c .put-text .ensures) (c .before .before .before .before .before .pre .1 .1)
 
 room-2 : (c : tie.After-put-digits) →
     let a = c .before .before .before .before .before .before .before .before .before .args in
-    Room (space ∷ (joinedLabels (a .labels .now) ++ (lineFeed ∷ []))) (c .put-digits .last .0) (c .put-digits .result)
+    RoomFor (space ∷ (joinedLabels (a .labels .now) ++ (lineFeed ∷ []))) (c .put-digits .last .0) (c .put-digits .result)
 room-2 c = room-next _ (c .put-digits .ensures) (room-1 (c .before .before .before .before))
 
 room-3 : (c : tie.After-put) →
     let a = c .before .before .before .before .before .before .before .before .before .before .before .before .before .args in
-    Room (joinedLabels (a .labels .now) ++ (lineFeed ∷ [])) (c .put .last .0) (c .put .result)
+    RoomFor (joinedLabels (a .labels .now) ++ (lineFeed ∷ [])) (c .put .last .0) (c .put .result)
 room-3 c = room-next _ (c .put .ensures) (room-2 (c .before .before .before .before))
 
-room-4 : (c : tie.After-put-labels) → Room (lineFeed ∷ []) (c .put-labels .last .0) (c .put-labels .result)
+room-4 : (c : tie.After-put-labels) → RoomFor (lineFeed ∷ []) (c .put-labels .last .0) (c .put-labels .result)
 room-4 c = room-next _ (c .put-labels .ensures) (room-3 (c .before .before .before .before))
 
 done : (c : tie.After-put2) →

@@ -3,14 +3,14 @@ use Prim.Native.Nat.{ℕ, _-_}
 use mathlib.Core.List.{List}
 use borrow.Author.Needs.{needs}
 use lib.ListN.{length, drop}
-use Rattle.answer_line.specs.Line.{furtherLabels, joinedLabels, Room, Put}
+use Rattle.answer_line.specs.Line.{furtherLabels, joinedLabels, RoomFor, Put}
 use Rattle.answer_line.proofs.Laws.{put-then, put-nothing, put-length, room-first, room-next, first-label, next-label, no-label}
 use Rattle.answer_line.proofs.put_labels.Statement.{statement}
 use Rattle.answer_line.proofs.put_labels.Tie as tie
 
 abbrev Inv-loop : tie.InvT-loop
 Inv-loop line₀ start labels at₀ i₀ line at i =
-    Room (furtherLabels (drop i labels)) line at
+    RoomFor (furtherLabels (drop i labels)) line at
     × ((end : ℕ) (after : List ℕ) → Put (furtherLabels (drop i labels)) line at end after → Put (furtherLabels (drop 1 labels)) line₀ at₀ end after)
 
 abbrev μ-loop : tie.MeasureT-loop

@@ -2,7 +2,7 @@
 use mathlib.Core.Path.{refl}
 use mathlib.Core.List.{[], _∷_, _++_}
 use Rattle.answer_line.specs.Digits.{decimal}
-use Rattle.answer_line.specs.Line.{space, lineFeed, refusedLine, Room, Put}
+use Rattle.answer_line.specs.Line.{space, lineFeed, refusedLine, RoomFor, Put}
 use Rattle.answer_line.proofs.Laws.{put-then, put-length, put-line, room-first, room-next}
 use Rattle.answer_line.proofs.refused_line.Statement.{statement}
 use Rattle.answer_line.proofs.refused_line.Tie as tie
@@ -10,7 +10,7 @@ use Rattle.answer_line.proofs.refused_line.Tie as tie
 -- what is left to write, and the room for it, after each part
 room-1 : (c : tie.After-put-text) →
     let a = c .before .before .before .before .args in
-    Room (decimal (a .number) ++ (space ∷ (decimal (a .place) ++ (lineFeed ∷ [])))) (c .put-text .last .0) (c .put-text .result)
+    RoomFor (decimal (a .number) ++ (space ∷ (decimal (a .place) ++ (lineFeed ∷ [])))) (c .put-text .last .0) (c .put-text .result)
 unfolding refusedLine
 room-1 c = room-next _ (c .put-text .ensures) (c .before .before .before .before .pre)
 
@@ -22,15 +22,15 @@ number c = rw (c .before .wide .ensures) at (c .put-decimal .ensures)
 
 room-2 : (c : tie.After-put-decimal) →
     let a = c .before .before .before .before .before .before .before .before .before .args in
-    Room (space ∷ (decimal (a .place) ++ (lineFeed ∷ []))) (c .put-decimal .last .0) (c .put-decimal .result)
+    RoomFor (space ∷ (decimal (a .place) ++ (lineFeed ∷ []))) (c .put-decimal .last .0) (c .put-decimal .result)
 room-2 c = room-next _ (number c) (room-1 (c .before .before .before .before .before))
 
 room-3 : (c : tie.After-put) →
     let a = c .before .before .before .before .before .before .before .before .before .before .before .before .before .args in
-    Room (decimal (a .place) ++ (lineFeed ∷ [])) (c .put .last .0) (c .put .result)
+    RoomFor (decimal (a .place) ++ (lineFeed ∷ [])) (c .put .last .0) (c .put .result)
 room-3 c = room-next _ (c .put .ensures) (room-2 (c .before .before .before .before))
 
-room-4 : (c : tie.After-put-decimal2) → Room (lineFeed ∷ []) (c .put-decimal2 .last .0) (c .put-decimal2 .result)
+room-4 : (c : tie.After-put-decimal2) → RoomFor (lineFeed ∷ []) (c .put-decimal2 .last .0) (c .put-decimal2 .result)
 room-4 c = room-next _ (c .put-decimal2 .ensures) (room-3 (c .before .before .before .before))
 
 done : (c : tie.After-put2) →

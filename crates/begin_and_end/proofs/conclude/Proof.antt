@@ -40,7 +40,7 @@ int-to-float-counter : tie.Need-int-to-float-counter
 unfolding inFloat
 int-to-float-counter c =
     let s : tie.Start = search in
-    le→leb (s .args .ran .step .visits + 1) 9007199254740992 (omega (arith, s .pre .2))
+    le→leb (s .args .ran .progress .visits + 1) 9007199254740992 (omega (arith, s .pre .2))
 
 average-requires : tie.Need-average-requires
 average-requires c κs = search needs
@@ -52,7 +52,7 @@ returns-2 : tie.Need-returns-2
 returns-2 c =
     let a : tie.After-average = search in
     let k : tie.At-match-keys2 = search in
-    λ set m d r e f. accepted _ set m d e f (not-refused (begun a .args .ran .step .visit) (k .match .keys2)) (a .average .ensures) (c .if1 .taken)
+    λ set m d r e f. accepted _ set m d e f (not-refused (begun a .args .ran .progress .visit) (k .match .keys2)) (a .average .ensures) (c .if1 .taken)
 
 fill-requires-2 : tie.Need-fill-requires-2
 fill-requires-2 c κs = search needs
@@ -71,7 +71,7 @@ returns-3 c =
     let a : tie.After-average = search in
     let k : tie.At-match-keys2 = search in
     λ set m d r e f.
-    averaging-refused _ set m d e f (not-refused (begun a .args .ran .step .visit) (k .match .keys2)) (a .average .ensures) (t .if1 .left) (c .numbered .ensures) (w .fill2 .ensures ∙ all-of _ _ _ (a .average .kept .1 .1 .1 .1 .0 ∙ begun a .pre .0))
+    averaging-refused _ set m d e f (not-refused (begun a .args .ran .progress .visit) (k .match .keys2)) (a .average .ensures) (t .if1 .left) (c .numbered .ensures) (w .fill2 .ensures ∙ all-of _ _ _ (a .average .kept .1 .1 .1 .1 .0 ∙ begun a .pre .0))
 
 pub conclude-spec : {M : Type 1} → statement M
 conclude-spec =

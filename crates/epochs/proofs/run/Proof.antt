@@ -21,17 +21,17 @@ use Rattle.epochs.proofs.run.Statement.{statement}
 use Rattle.epochs.proofs.run.Tie as tie
 
 abbrev Inv-loop : tie.InvT-loop
-Inv-loop trainer sizes kinds destinations sources starts entries label-starts label-entries lines begins ids values references shares allowed epsilon seed order₀ weights₀ beside₀ truly₀ predicted₀ n step₀ g₀ e₀ order weights beside truly predicted step g e =
+Inv-loop trainer sizes kinds destinations sources starts entries label-starts label-entries lines begins ids values references shares allowed epsilon seed order₀ weights₀ beside₀ truly₀ predicted₀ n progress₀ g₀ e₀ order weights beside truly predicted progress g e =
     (e ≤ allowed)
     × (length order ≡ length order₀)
     × Exact (sizes .features) weights beside truly predicted
-    × (step .visits ≤ e * 16384)
-    × (step .updates ≤ step .visits)
+    × (progress .visits ≤ e * 16384)
+    × (progress .updates ≤ progress .visits)
     × OrderOf (sizes .instances) order
-    × (_≡_ {A = Run} (record { state = stateOf step weights beside; deal = record { state = g; order = order }; epochs = e; over = false }) (through (epochUnlessOver (visited (ruleOf trainer) (modelOf sizes kinds destinations sources starts entries label-starts label-entries) (dataOf sizes lines begins ids values references shares)) (stops (ruleOf trainer) epsilon) (sizes .instances)) 0 e (record { state = stateOf step₀ weights₀ beside₀; deal = record { state = seed; order = order₀ }; epochs = 0; over = false })))
+    × (_≡_ {A = Run} (record { state = stateOf progress weights beside; deal = record { state = g; order = order }; epochs = e; over = false }) (through (epochUnlessOver (visited (ruleOf trainer) (modelOf sizes kinds destinations sources starts entries label-starts label-entries) (dataOf sizes lines begins ids values references shares)) (stops (ruleOf trainer) epsilon) (sizes .instances)) 0 e (record { state = stateOf progress₀ weights₀ beside₀; deal = record { state = seed; order = order₀ }; epochs = 0; over = false })))
 
 abbrev μ-loop : tie.MeasureT-loop
-μ-loop trainer sizes kinds destinations sources starts entries label-starts label-entries lines begins ids values references shares allowed epsilon seed order₀ weights₀ beside₀ truly₀ predicted₀ n step₀ g₀ e₀ order weights beside truly predicted step g e = allowed - e
+μ-loop trainer sizes kinds destinations sources starts entries label-starts label-entries lines begins ids values references shares allowed epsilon seed order₀ weights₀ beside₀ truly₀ predicted₀ n progress₀ g₀ e₀ order weights beside truly predicted progress g e = allowed - e
 
 -- the places that facts are taken from, each found from the one after it
 abbrev entry : tie.At-loop Inv-loop μ-loop → tie.Start Inv-loop μ-loop
@@ -179,7 +179,7 @@ unfolding ofBits
 returns-2 c =
     let l : tie.At-loop Inv-loop μ-loop = search in
     let i = l .loop .inv in
-    all-run _ _ _ _ (l .loop .e) _ (stateOf (l .loop .step) (l .loop .weights) (l .loop .beside)) (record { state = l .loop .g; order = l .loop .order }) (i .0) (c .loop-test .left) (omega (arith, i .3, i .0, entry l .pre .1 .1 .1 .0)) (i .6)
+    all-run _ _ _ _ (l .loop .e) _ (stateOf (l .loop .progress) (l .loop .weights) (l .loop .beside)) (record { state = l .loop .g; order = l .loop .order }) (i .0) (c .loop-test .left) (omega (arith, i .3, i .0, entry l .pre .1 .1 .1 .0)) (i .6)
 
 pub run-spec : {M : Type 1} → statement M
 run-spec =

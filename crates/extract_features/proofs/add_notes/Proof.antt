@@ -6,7 +6,7 @@ use borrow.Author.Needs.{needs}
 use lib.ListN.{length}
 use Rattle.lines.specs.Passes.{through}
 use Rattle.lines.proofs.Laws.{through-none, through-next, through-end}
-use Rattle.extract_features.specs.Noted.{noteAdded, settled}
+use Rattle.extract_features.specs.Noted.{noteAdded, notesAdded}
 use Rattle.extract_features.proofs.add_notes.Statement.{statement}
 use Rattle.extract_features.proofs.add_notes.Tie as tie
 
@@ -43,7 +43,7 @@ same-length : tie.Need-same-length Inv-loop μ-loop
 same-length c = search needs
 
 returns : tie.Need-returns Inv-loop μ-loop
-unfolding settled
+unfolding notesAdded
 returns c =
     let l = c .before in
     l .loop .inv .2 ∙ through-end _ _ _ _ (l .loop .inv .0) (c .loop-test .left)

@@ -7,7 +7,7 @@ use borrow.Author.Needs.{needs}
 use Rattle.lines.specs.Counted.{stateCount}
 use Rattle.lines.specs.Lent.{bare, withCounts}
 use Rattle.lines.proofs.Laws.{Passed, passed-none, passed-next, passed-end}
-use Rattle.extract_features.specs.Noted.{settled}
+use Rattle.extract_features.specs.Noted.{notesAdded}
 use Rattle.extract_features.proofs.Notes.{Going}
 use Rattle.extract_features.proofs.count_attribute.Statement.{statement}
 use Rattle.extract_features.proofs.count_attribute.Tie as tie
@@ -15,7 +15,7 @@ use Rattle.extract_features.proofs.count_attribute.Tie as tie
 abbrev Inv-loop : tie.InvT-loop
 Inv-loop features kinds destinations entries label noted who₀ what₀ counts₀ value last n₀ e₀ who what counts n e =
     Going features who₀ what₀ counts₀ who what counts n
-    × Passed (stateCount (withCounts bare features kinds destinations [] 0 [] entries 0 [] []) label value) e₀ last (settled kinds who₀ what₀ n₀ counts₀) (settled kinds who what n counts) e
+    × Passed (stateCount (withCounts bare features kinds destinations [] 0 [] entries 0 [] []) label value) e₀ last (notesAdded kinds who₀ what₀ n₀ counts₀) (notesAdded kinds who what n counts) e
 
 abbrev μ-loop : tie.MeasureT-loop
 μ-loop features kinds destinations entries label noted who₀ what₀ counts₀ value last n₀ e₀ who what counts n e = last - e

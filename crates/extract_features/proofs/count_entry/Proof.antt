@@ -8,7 +8,7 @@ use lib.Dec.{eqb}
 use lib.ListN.{getD}
 use Rattle.lines.specs.Counted.{stateCount}
 use Rattle.lines.specs.Lent.{bare, withCounts}
-use Rattle.extract_features.specs.Noted.{settled, Notes}
+use Rattle.extract_features.specs.Noted.{notesAdded, Notes}
 use Rattle.extract_features.proofs.Notes.{settled-none, still-notes, entry-noted}
 use Rattle.extract_features.proofs.count_entry.Statement.{statement}
 use Rattle.extract_features.proofs.count_entry.Tie as tie
@@ -23,7 +23,7 @@ noted k =
     still-notes _ _ (eqb (getD (start k .args .destinations .now) (getD (start k .args .entries .now) (start k .args .e) 0) 0) (start k .args .label)) (p .1 .1 .1 .0) (p .1 .1 .1 .1 .0) (p .1 .1 .0) (k .note .ensures .0) (k .note .ensures .1 .0) (k .note .ensures .1 .1)
 
 -- and what the counts are once that is added
-counted : (k : tie.After-note) → settled (start k .args .kinds .now) (k .note .last .1 .1 .1 .1 .1 .1 .0) (k .note .last .1 .1 .1 .1 .1 .1 .1 .0) (k .note .result) (start k .args .counts .now) ≡ stateCount (withCounts bare (start k .args .features) (start k .args .kinds .now) (start k .args .destinations .now) [] 0 [] (start k .args .entries .now) 0 [] []) (start k .args .label) (start k .args .value) (start k .args .e) (settled (start k .args .kinds .now) (start k .args .who .now) (start k .args .what .now) (start k .args .noted) (start k .args .counts .now))
+counted : (k : tie.After-note) → notesAdded (start k .args .kinds .now) (k .note .last .1 .1 .1 .1 .1 .1 .0) (k .note .last .1 .1 .1 .1 .1 .1 .1 .0) (k .note .result) (start k .args .counts .now) ≡ stateCount (withCounts bare (start k .args .features) (start k .args .kinds .now) (start k .args .destinations .now) [] 0 [] (start k .args .entries .now) 0 [] []) (start k .args .label) (start k .args .value) (start k .args .e) (notesAdded (start k .args .kinds .now) (start k .args .who .now) (start k .args .what .now) (start k .args .noted) (start k .args .counts .now))
 counted k =
     let p = start k .pre in
     let h = p .1 .1 .1 .1 .0 in

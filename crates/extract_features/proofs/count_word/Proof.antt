@@ -9,7 +9,7 @@ use Rattle.lines.specs.Counted.{stateCount, countedAt}
 use Rattle.lines.specs.Lent.{bare, withCounts}
 use Rattle.lines.proofs.Laws.{between-nothing, Passed, passed-none, passed-next, passed-end}
 use Rattle.lines.proofs.Spans.{span-sound}
-use Rattle.extract_features.specs.Noted.{settled}
+use Rattle.extract_features.specs.Noted.{notesAdded}
 use Rattle.extract_features.proofs.Notes.{Going}
 use Rattle.extract_features.proofs.Turns.{counted-turn}
 use Rattle.extract_features.proofs.count_word.Statement.{statement}
@@ -18,7 +18,7 @@ use Rattle.extract_features.proofs.count_word.Tie as tie
 abbrev Inv-loop : tie.InvT-loop
 Inv-loop features kinds destinations lists starts entries ids values from to label noted who₀ what₀ counts₀ n₀ a₀ attribute₀ span₀ who what counts n a attribute span =
     Going features who₀ what₀ counts₀ who what counts n
-    × Passed (countedAt (withCounts bare features kinds destinations [] lists starts entries 0 [] []) (record { starts = []; size = 0; ids = ids; values = values }) label) from to (settled kinds who₀ what₀ n₀ counts₀) (settled kinds who what n counts) a
+    × Passed (countedAt (withCounts bare features kinds destinations [] lists starts entries 0 [] []) (record { starts = []; size = 0; ids = ids; values = values }) label) from to (notesAdded kinds who₀ what₀ n₀ counts₀) (notesAdded kinds who what n counts) a
     × (attribute ≡ attributeBefore ids values to a)
     × (span ≡ spanOf lists starts (attribute .id))
 

@@ -9,7 +9,7 @@ use Rattle.lines.specs.Passes.{through}
 use Rattle.lines.specs.Counted.{countedAt, countedWord}
 use Rattle.lines.specs.Lent.{bare, withCounts}
 use Rattle.lines.proofs.Laws.{through-none, through-next, through-end}
-use Rattle.extract_features.specs.Noted.{settled}
+use Rattle.extract_features.specs.Noted.{notesAdded}
 use Rattle.extract_features.proofs.Notes.{settled-none, Going}
 use Rattle.extract_features.proofs.Turns.{word-turn}
 use Rattle.extract_features.proofs.count_words.Statement.{statement}
@@ -21,7 +21,7 @@ Inv-loop features kinds destinations lists starts entries begins ids values firs
     × Going features who₀ what₀ counts₀ who what counts noted
     × (length who₀ ≡ 64)
     × (length what₀ ≡ 64)
-    × (settled kinds who what noted counts ≡ through (countedWord (withCounts bare features kinds destinations [] lists starts entries 0 [] []) (record { starts = begins; size = 0; ids = ids; values = values }) first labels) 0 word counts₀)
+    × (notesAdded kinds who what noted counts ≡ through (countedWord (withCounts bare features kinds destinations [] lists starts entries 0 [] []) (record { starts = begins; size = 0; ids = ids; values = values }) first labels) 0 word counts₀)
 
 abbrev μ-loop : tie.MeasureT-loop
 μ-loop features kinds destinations lists starts entries begins ids values first words labels counts₀ who₀ what₀ noted₀ word₀ counts who what noted word = words - word

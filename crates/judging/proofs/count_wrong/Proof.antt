@@ -4,7 +4,7 @@ use Prim.Native.Nat.{_+_, _-_, _≤_, _<_}
 use native.Mathlib.Omega.{arith}
 use native.Mathlib.Nat.{le-antisymm}
 use borrow.Author.Needs.{needs}
-use Rattle.training.specs.Data.{wrongOf}
+use Rattle.training.specs.Wrong.{wrongOf}
 use Rattle.judging.proofs.Laws.{wrong-none, wrong-same, wrong-other}
 use Rattle.judging.proofs.count_wrong.Statement.{statement}
 use Rattle.judging.proofs.count_wrong.Tie as tie

@@ -1,6 +1,6 @@
 -- `label_line::label_accepted` meets its contract. Assumes nothing.
 use borrow.Author.Needs.{needs}
-use Rattle.score_tables.specs.Sound.{Sized}
+use Rattle.score_tables.specs.Sound.{ScoresSized}
 use Rattle.feature_gen.specs.Lent.{modelOf}
 use Rattle.compute_scores.specs.Promise.{Given, Buffers}
 use Rattle.compute_scores.proofs.Kept.{sized}
@@ -26,7 +26,7 @@ abbrev start : tie.After-fill-scores → tie.Start
 start c = c .before .before .before .before .before .before .before .before .before .before .before .before .before .before .before .before .before
 
 -- the scores are of the size that they should be
-few : (c : tie.After-fill-scores) → let s = start c in Sized (s .args .labels) (s .args .words) (c .fill-scores .last .1 .1 .1 .1 .1 .1 .1 .1 .1 .1 .1 .1 .1 .1 .1 .0) (c .fill-scores .last .1 .1 .1 .1 .1 .1 .1 .1 .1 .1 .1 .1 .1 .1 .1 .1 .0)
+few : (c : tie.After-fill-scores) → let s = start c in ScoresSized (s .args .labels) (s .args .words) (c .fill-scores .last .1 .1 .1 .1 .1 .1 .1 .1 .1 .1 .1 .1 .1 .1 .1 .0) (c .fill-scores .last .1 .1 .1 .1 .1 .1 .1 .1 .1 .1 .1 .1 .1 .1 .1 .1 .0)
 few c = let s = start c in sized (given s) (lent s) (s .pre .0) _ _ (c .fill-scores .kept .1 .1 .1 .1 .1 .1 .1 .1 .1 .1 .1 .1 .1 .1 .1 .1 .0) (c .fill-scores .kept .1 .1 .1 .1 .1 .1 .1 .1 .1 .1 .1 .1 .1 .1 .1 .0)
 
 fill-scores-requires : tie.Need-fill-scores-requires

@@ -7,7 +7,7 @@ use borrow.Author.Needs.{needs}
 use lib.Ieee.{ofBits}
 use Rattle.lines.specs.Passes.{through}
 use Rattle.lines.proofs.Laws.{through-none}
-use Rattle.training.specs.Visits.{State, visited}
+use Rattle.training.specs.Visits.{TrainingState, visited}
 use Rattle.training.specs.Epochs.{isRefused, opened, visitedAt}
 use Rattle.training.proofs.Epochs.{epoch-end}
 use Rattle.prediction.specs.Tables.{modelOf, dataOf}
@@ -19,19 +19,19 @@ use Rattle.one_epoch.proofs.epoch.Statement.{statement}
 use Rattle.one_epoch.proofs.epoch.Tie as tie
 
 abbrev Inv-loop : tie.InvT-loop
-Inv-loop trainer sizes kinds destinations sources starts entries label-starts label-entries lines begins ids values references shares order weights₀ beside₀ truly₀ predicted₀ n step₀ j₀ weights beside truly predicted step j =
+Inv-loop trainer sizes kinds destinations sources starts entries label-starts label-entries lines begins ids values references shares order weights₀ beside₀ truly₀ predicted₀ n progress₀ j₀ weights beside truly predicted progress j =
     (j ≤ n)
     × Exact (sizes .features) weights beside truly predicted
-    × (step .visits ≤ step₀ .visits + j)
-    × (step .updates ≤ step .visits)
-    × (isRefused (step .visit) ≡ false)
-    × (stateOf step weights beside ≡ through (visitedAt (visited (ruleOf trainer) (modelOf sizes kinds destinations sources starts entries label-starts label-entries) (dataOf sizes lines begins ids values references shares)) order) 0 j (stateOf step₀ weights₀ beside₀))
+    × (progress .visits ≤ progress₀ .visits + j)
+    × (progress .updates ≤ progress .visits)
+    × (isRefused (progress .visit) ≡ false)
+    × (stateOf progress weights beside ≡ through (visitedAt (visited (ruleOf trainer) (modelOf sizes kinds destinations sources starts entries label-starts label-entries) (dataOf sizes lines begins ids values references shares)) order) 0 j (stateOf progress₀ weights₀ beside₀))
 
 abbrev μ-loop : tie.MeasureT-loop
-μ-loop trainer sizes kinds destinations sources starts entries label-starts label-entries lines begins ids values references shares order weights₀ beside₀ truly₀ predicted₀ n step₀ j₀ weights beside truly predicted step j = n - j
+μ-loop trainer sizes kinds destinations sources starts entries label-starts label-entries lines begins ids values references shares order weights₀ beside₀ truly₀ predicted₀ n progress₀ j₀ weights beside truly predicted progress j = n - j
 
 -- the state that the arguments make
-abbrev given : tie.Start Inv-loop μ-loop → State
+abbrev given : tie.Start Inv-loop μ-loop → TrainingState
 given s = stateOf (s .args .s) (s .args .weights .now) (s .args .beside .now)
 
 -- the places that facts are taken from, each found from the one after it

@@ -7,7 +7,7 @@ use denote.Ref.{now}
 use lib.ListN.{getD}
 use Rattle.lines.specs.Passes.{through}
 use Rattle.lines.proofs.Laws.{through-none, through-next, through-end}
-use Rattle.passive_aggressive.specs.Noted.{fourAdded, settled}
+use Rattle.passive_aggressive.specs.Noted.{fourAdded, foursAdded}
 use Rattle.passive_aggressive.proofs.Notes.{by-four}
 use Rattle.passive_aggressive.proofs.settle.Statement.{statement}
 use Rattle.passive_aggressive.proofs.settle.Tie as tie
@@ -53,7 +53,7 @@ loop-again c =
     (omega (arith, t .loop-test .taken), through-next _ _ _ (t .before .loop .inv .1) (c .add-up .ensures ∙ by-four _ _ _))
 
 returns : tie.Need-returns Inv-loop μ-loop
-unfolding settled
+unfolding foursAdded
 returns c = c .before .loop .inv .1 ∙ through-end _ _ _ _ (c .before .loop .inv .0) (c .loop-test .left)
 
 pub settle-spec : {M : Type 1} → statement M

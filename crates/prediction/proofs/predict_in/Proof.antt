@@ -3,7 +3,7 @@ use mathlib.Core.Path.{_∙_}
 use native.Mathlib.Omega.{arith}
 use borrow.Author.Needs.{needs}
 use Rattle.lines.specs.Tables.{Model, Words}
-use Rattle.prediction.specs.Tables.{modelOf, wordsIn}
+use Rattle.prediction.specs.Tables.{modelOf, wordsFrom}
 use Rattle.fronts.proofs.Filled.{all-of}
 use Rattle.prediction.proofs.Laws.{transitions-sound, judged-as}
 use Rattle.prediction.proofs.predict_in.Statement.{statement}
@@ -16,7 +16,7 @@ model s =
     modelOf (a .sizes) (a .kinds .now) (a .destinations .now) (a .sources .now) (a .starts .now) (a .entries .now) (a .label-starts .now) (a .label-entries .now)
 
 abbrev line : tie.Start → Words
-line s = wordsIn (s .args .sizes) (s .args .begins .now) (s .args .ids .now) (s .args .values .now)
+line s = wordsFrom (s .args .sizes) (s .args .begins .now) (s .args .ids .now) (s .args .values .now)
 
 -- the places that facts are taken from, each found from the one after it
 abbrev entry : tie.After-score-transitions → tie.Start

@@ -3,14 +3,14 @@ use mathlib.Core.Path.{_≡_}
 use Prim.Native.Nat.{_+_, _-_, _<_, _≤_}
 use native.Mathlib.Omega.{arith}
 use borrow.Author.Needs.{needs}
-use Rattle.best_path.specs.Scores.{tabled, at}
+use Rattle.best_path.specs.Scores.{tabled, labelAt}
 use Rattle.best_path.specs.PathScore.{pathScore}
 use Rattle.sequence_score.proofs.Laws.{none, one-word, one-more, state-within, transition-within}
 use Rattle.sequence_score.proofs.score_path.Statement.{statement}
 use Rattle.sequence_score.proofs.score_path.Tie as tie
 
 abbrev Inv-loop : tie.InvT-loop
-Inv-loop labels transitions states path count before₀ score₀ word₀ before score word = (0 < word) × (word ≤ count) × (before ≡ at path (word - 1)) × (score ≡ pathScore (tabled labels transitions states) path word)
+Inv-loop labels transitions states path count before₀ score₀ word₀ before score word = (0 < word) × (word ≤ count) × (before ≡ labelAt path (word - 1)) × (score ≡ pathScore (tabled labels transitions states) path word)
 
 abbrev μ-loop : tie.MeasureT-loop
 μ-loop labels transitions states path count before₀ score₀ word₀ before score word = count - word

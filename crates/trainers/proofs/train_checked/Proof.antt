@@ -7,7 +7,7 @@ use Rattle.training_check.specs.Sound.{LentSized}
 use Rattle.trainers.specs.Promise.{Given, Buffers, inputOf}
 use Rattle.trainers.specs.Inside.{Ready}
 use Rattle.feature_gen.specs.Lent.{modelOf}
-use Rattle.training_check.specs.Lent.{dataOf}
+use Rattle.lines.specs.Entry.{dataOf}
 use Rattle.trainers.proofs.Keeping.{front-long, front-count, refused-kept, accepted-kept, fronts-kept}
 use Rattle.trainers.proofs.train_checked.Statement.{statement}
 use Rattle.trainers.proofs.train_checked.Tie as tie

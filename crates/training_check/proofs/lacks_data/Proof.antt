@@ -1,6 +1,6 @@
 -- `training_check::lacks_data` meets its contract. Assumes nothing.
 use borrow.Author.Needs.{needs}
-use Rattle.training_check.specs.Lent.{dataOf}
+use Rattle.lines.specs.Entry.{dataOf}
 use Rattle.training_check.proofs.Laws.{data-parts}
 use Rattle.training_check.proofs.lacks_data.Statement.{statement}
 use Rattle.training_check.proofs.lacks_data.Tie as tie

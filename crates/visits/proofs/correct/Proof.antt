@@ -6,7 +6,7 @@ use native.Mathlib.Omega.{arith}
 use borrow.Author.Needs.{needs}
 use Rattle.lines.specs.Tables.{Model, Words}
 use Rattle.lines.specs.Counted.{countsOf}
-use Rattle.prediction.specs.Tables.{modelOf, wordsIn}
+use Rattle.prediction.specs.Tables.{modelOf, wordsFrom}
 use Rattle.fronts.proofs.Filled.{all-of}
 use Rattle.visits.proofs.correct.Statement.{statement}
 use Rattle.visits.proofs.correct.Tie as tie
@@ -22,7 +22,7 @@ model s =
     modelOf (a .sizes) (a .kinds .now) (a .destinations .now) (a .sources .now) (a .starts .now) (a .entries .now) (a .label-starts .now) (a .label-entries .now)
 
 abbrev line : tie.Start → Words
-line s = wordsIn (s .args .sizes) (s .args .begins .now) (s .args .ids .now) (s .args .values .now)
+line s = wordsFrom (s .args .sizes) (s .args .begins .now) (s .args .ids .now) (s .args .values .now)
 
 -- what the two passes left in the tables of counts
 truly-are : (d : tie.After-count-line) → let s = d .before .before .before .before .before .before .before .before .before .before .before .before .before .before .before .before .before .before in d .count-line .last .1 .1 .1 .1 .1 .1 .1 .1 .1 .1 .1 .1 .1 .1 .1 .1 .0 ≡ countsOf (model s) (line s) (s .args .first) (s .args .words) (s .args .references .now)

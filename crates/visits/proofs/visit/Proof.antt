@@ -6,8 +6,8 @@ use borrow.Author.Needs.{needs}
 use lib.ListN.{length, take, replicate, length-append}
 use lib.Seq.{length-take-le}
 use Rattle.lines.specs.Tables.{Model}
-use Rattle.training.specs.Data.{Data}
-use Rattle.training.specs.Visits.{State}
+use Rattle.lines.specs.Data.{Data}
+use Rattle.training.specs.Visits.{TrainingState}
 use Rattle.prediction.specs.Tables.{modelOf, dataOf}
 use Rattle.updates.specs.Updating.{stateOf}
 use Rattle.visits.proofs.Laws.{some-words, few-words, all-words, line-sound, ended-counted, ended-there, other-front}
@@ -25,7 +25,7 @@ data-of s =
     let a = s .args in
     dataOf (a .sizes) (a .lines .now) (a .begins .now) (a .ids .now) (a .values .now) (a .references .now) (a .shares .now)
 
-abbrev state : tie.Start → State
+abbrev state : tie.Start → TrainingState
 state s = stateOf (s .args .s) (s .args .weights .now) (s .args .beside .now)
 
 -- the places that facts are taken from, each found from the one after it

@@ -1,6 +1,6 @@
 -- `lead_by` meets its contract. Assumes nothing.
 use mathlib.Core.Path.{ap}
-use Rattle.best_path.specs.Lead.{by, difference}
+use Rattle.best_path.specs.Lead.{by, leadBetween}
 use borrow.Author.Needs.{needs}
 use Rattle.viterbi_end.proofs.lead_by.Statement.{statement}
 use Rattle.viterbi_end.proofs.lead_by.Tie as tie
@@ -15,11 +15,11 @@ positive-zero-requires : tie.Need-positive-zero-requires
 positive-zero-requires c κs = search needs
 
 returns : tie.Need-returns
-unfolding difference
+unfolding leadBetween
 returns c = rw (← c .before .before .before .is-finite .ensures, ← c .before .before .is-finite2 .ensures, c .before .if1 .taken) (ap by (c .positive-zero .ensures))
 
 returns-2 : tie.Need-returns-2
-unfolding difference
+unfolding leadBetween
 returns-2 c = rw (← c .before .before .is-finite .ensures, ← c .before .is-finite2 .ensures, c .if1 .left)
 
 pub lead-by-spec : {M : Type 1} → statement M
