@@ -14,6 +14,7 @@ use Rattle.binary64.specs.Numbers.{nought}
 use Rattle.parameters.specs.declared.Perceptron.{Perceptron}
 use Rattle.parameters.specs.declared.Passive.{Passive}
 use Rattle.parameters.specs.declared.Arow.{Arow}
+use Rattle.parameters.specs.declared.Method.{Method}
 
 -- "variants 0 Pa, 1 PaI, 2 PaII"
 abbrev pub lastVariant : ℕ
@@ -36,6 +37,11 @@ passivesOwn p = epochs (p .epochs) ∷ epsilon (p .epsilon) ∷ scale (p .c) ∷
 
 abbrev pub arowsOwn : Arow → List Parameter
 arowsOwn p = epochs (p .epochs) ∷ epsilon (p .epsilon) ∷ scale (p .variance) ∷ gamma (p .gamma) ∷ []
+
+abbrev pub ownOf : Method → List Parameter
+ownOf (Method.AveragedPerceptron p) = perceptronsOwn p
+ownOf (Method.PassiveAggressive p) = passivesOwn p
+ownOf (Method.Arow p) = arowsOwn p
 
 abbrev pub numberOf : Parameter → ℕ
 numberOf (epochs n) = 1
