@@ -1,2 +1,3 @@
 mod OnlyOne
 mod Kept
+mod Meant

@@ -32,9 +32,7 @@ same-length-4 c =
     omega (arith, t .train .kept)
 
 same-length-5 : tie.Need-same-length-5
-same-length-5 c =
-    let t : tie.After-train = search in
-    omega (arith, t .train .kept)
+same-length-5 c = search needs
 
 returns : tie.Need-returns
 returns c =
