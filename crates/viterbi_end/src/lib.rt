@@ -2,7 +2,7 @@
 ghost use mathlib.Core.Path.{_≡_};
 ghost use mathlib.Core.List.{_++_};
 ghost use Prim.Native.Nat.{_-_, _<_, _≤_};
-ghost use lib.ListN.{length, getD, drop};
+ghost use lib.ListN.{length, getD, set, drop};
 ghost use Rattle.viterbi_end.specs.Walked.{walked, Walk};
 ghost use Rattle.best_path.specs.Lead.{other, positiveZero, leadBetween};
 ghost use Rattle.viterbi_end.specs.Rival.{rivalOf};
@@ -92,11 +92,19 @@ fn lead_of(row: &[f64; 32], n: usize, last: usize) -> Lead
 }
 
 // The step back that stands at a place.
-fn step(steps: &[u8], place: usize) -> usize
+fn step_back(steps: &[u8], place: usize) -> usize
     requires { ⌜ place < length (now steps) ⌝ }
     ensures { λ r. ⌜ r ≡ getD (now (steps .entry)) place 0 ⌝ }
 {
     steps[place] as usize
+}
+
+// The label of a word: no other entry of the buffer is touched.
+fn put_label(path: &mut [u32], word: usize, label: usize)
+    requires { ⌜ (word < length (now path)) × (label < 32) ⌝ }
+    ensures { λ _. ⌜ now (path .exit) ≡ set (now (path .entry)) word label ⌝ }
+{
+    path[word] = label as u32;
 }
 
 // The path, from its last label back; the rest of the buffer is left alone.
@@ -108,11 +116,11 @@ pub fn walk_back(path: &mut [u32], words: usize, n: usize, last: usize, steps: &
     let mut label = last;
     let mut word = words - 1;
     while 0 < word {
-        path[word] = label as u32;
-        label = step(steps, word * n + label);
+        put_label(path, word, label);
+        label = step_back(steps, word * n + label);
         word -= 1;
     }
-    path[0] = label as u32;
+    put_label(path, 0, label);
 }
 
 // The answer of a line, from its last row of best scores and the steps back.
