@@ -60,6 +60,13 @@ pub put-length : {p l k : List ℕ} {at end : ℕ} → Put p l at end k → leng
 put-length {p} {l} {k} {at} a = ap length (a .line) ∙ length-stored l at p
 
 -- the room of a part, and what it leaves to the next
+-- a part by another name
+pub put-as : {p q l k : List ℕ} {at end : ℕ} → p ≡ q → Put p l at end k → Put q l at end k
+put-as e a = rw e at a
+
+pub room-as : {p q l : List ℕ} {at : ℕ} → p ≡ q → RoomFor p l at → RoomFor q l at
+room-as e h = rw e at h
+
 pub room-first : {l : List ℕ} {at : ℕ} (p q : List ℕ) → RoomFor (p ++ q) l at → RoomFor p l at
 room-first p q h = let r = rw (length-append p q) at (h .room) in record { room = omega arith }
 
