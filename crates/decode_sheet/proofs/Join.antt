@@ -8,6 +8,8 @@ use lib.Seq.{take-at, length-take-le}
 use lib.Ieee.{Float}
 use Rattle.refusals.specs.declared.Refusal.{Refusal}
 use Rattle.refusals.specs.declared.Checked.the-variants.{Accepted, Refused}
+use Rattle.best_path.specs.Scores.{tabled}
+use Rattle.best_path.specs.Decoded.{decodedPath, decodedSum}
 use Rattle.score_tables.specs.Sound.{SoundScores}
 use Rattle.sheet.specs.declared.Reading.{Reading}
 use Rattle.sheet.specs.Fields.{labelsIn, wordsIn, transitionsIn, statesIn}
@@ -59,6 +61,10 @@ pub record Tables (bytes before : List ℕ) (transitions states : List Float) (r
   pub transitions-long : labelsIn bytes * labelsIn bytes ≤ length (o .transitions ++ drop room transitions)
   pub states-long : wordsIn bytes * labelsIn bytes ≤ length (o .states)
 
+-- a product, its factors by other names
+pub counted-as : {n x y a b : ℕ} → n ≡ x * y → x ≡ a → y ≡ b → n ≡ a * b
+counted-as e f g = e ∙ rw (f, g)
+
 -- the front of a table that was filled
 front : (table rest more : List Float) (n : ℕ) → length table ≡ n → (take n ((table ++ rest) ++ more) ≡ table) × (n ≤ length ((table ++ rest) ++ more))
 front table rest more n e =
@@ -103,3 +109,15 @@ module _ (bytes before : List ℕ) (transitions states : List Float) (room : ℕ
         transitions-long = rw t (f .1);
         states-long = rw (s, ← append-nil (statesIn bytes ++ drop (length (statesIn bytes)) states)) (g .1);
       }
+
+-- the fronts of the tables that were read, by how many entries they have
+module _ {bytes before : List ℕ} {transitions states : List Float} {room labels words : ℕ} {o : reader.Outcome} (t : Tables bytes before transitions states room labels words o) {size count : ℕ} (size-is : size ≡ labelsIn bytes * labelsIn bytes) (count-is : count ≡ wordsIn bytes * labelsIn bytes) where
+  pub fronts-sound : SoundScores labels words (take size (o .transitions ++ drop room transitions)) (take count (o .states))
+  fronts-sound = rw (size-is, count-is, t .transitions-front, t .states-front, t .labels-are, t .words-are) (t .sound)
+
+  pub promised-line : {n : ℕ} {after : List ℕ} →
+      (let s = tabled labels (take size (o .transitions ++ drop room transitions)) (take count (o .states)) in line.Written (line.pathLine (decodedSum s words) (decodedPath s words)) before n after) →
+      Promised (record { bytes = bytes }) before (record { answer = Written.Path n; line = after })
+  unfolding pathLineOf
+  promised-line w =
+      promised-path bytes before _ _ (t .accepted) (rw (size-is, count-is, t .transitions-front, t .states-front, t .labels-are, t .words-are) at w)
