@@ -13,7 +13,7 @@ use Rattle.refusals.specs.declared.Checked.the-variants.{Accepted, Refused}
 use Rattle.refusals.specs.Refusals.{refuse}
 use Rattle.refusals.specs.Tables.{short}
 use Rattle.refusals.proofs.Laws.{passes}
-use Rattle.score_tables.specs.Rows.{two}
+use Rattle.score_tables.specs.Rows.{scoresShort}
 use Rattle.score_tables.specs.Sound.{LabelsIn, WordsIn, SoundScores}
 use Rattle.score_tables.proofs.Laws.{all-finite}
 use Rattle.score_tables.specs.Meaning.{Row}
@@ -34,10 +34,10 @@ pub record Lends (room : ℕ) (before : Lent) : Type 0 where
   pub states : 4096 ≤ length (before .states)
 
 module _ (bytes : List ℕ) (room : ℕ) (before : Lent) (lends : Lends room before) where
-  two-row : LabelsIn (labelsIn bytes) → WordsIn (wordsIn bytes) → two (labelsIn bytes) (wordsIn bytes) (before .transitions) (before .states) ≡ refuse 2 0 (short room 406)
+  two-row : LabelsIn (labelsIn bytes) → WordsIn (wordsIn bytes) → scoresShort (labelsIn bytes) (wordsIn bytes) (before .transitions) (before .states) ≡ refuse 2 0 (short room 406)
   two-row l w = go (ltb room 406) refl
     where
-      go : (b : Bool) → ltb room 406 ≡ b → two (labelsIn bytes) (wordsIn bytes) (before .transitions) (before .states) ≡ refuse 2 0 (short room 406)
+      go : (b : Bool) → ltb room 406 ≡ b → scoresShort (labelsIn bytes) (wordsIn bytes) (before .transitions) (before .states) ≡ refuse 2 0 (short room 406)
       go true e =
           let h : length (before .transitions) < labelsIn bytes * labelsIn bytes = omega (arith, lends .none (ltb-true room 406 e), mul-le-mul (l .low) (l .low)) in
           rw (lt-ltb _ _ h, e)

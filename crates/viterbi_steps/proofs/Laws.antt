@@ -13,7 +13,7 @@ use Rattle.best_path.specs.Scores.{tabled, extended}
 use Rattle.best_path.specs.Decoded.{lastLargest, best, back}
 use Rattle.best_path.proofs.Laws.{largest-within, largest-first, row-back, row-best}
 use Rattle.viterbi_steps.specs.declared.Choice.{Choice}
-use Rattle.viterbi_steps.specs.Chosen.{candidate, chosen}
+use Rattle.viterbi_steps.specs.Chosen.{candidate, choiceOf}
 use Rattle.viterbi_steps.proofs.Choices.{row-after, score-more, from-more}
 use Rattle.viterbi_steps.specs.Written.{written}
 use Rattle.viterbi_steps.specs.Rows.{Holds, StepsTo, Before, After, onward, scoreTried, markTried}
@@ -24,7 +24,7 @@ pub row-inside : (k n : ℕ) → k < n → k * n + n ≤ n * n
 row-inside k n h = rw row-after at (mul-le-mul-right n (add-one-le h))
 
 -- a choice of n candidates is one of them
-pub choice-within : (g : ℕ → Float) (n : ℕ) (choice : Choice) → 0 < n → choice ≡ chosen g n → choice .previous < n
+pub choice-within : (g : ℕ → Float) (n : ℕ) (choice : Choice) → 0 < n → choice ≡ choiceOf g n → choice .previous < n
 choice-within g n choice some e = rw e (omega (arith, largest-within g (n - 1)))
 
 -- ---- from the row of one word to that of the next
@@ -38,10 +38,10 @@ module _ (n word : ℕ) (transitions states row : List Float) (some : 0 < n) (ho
   unfolding extended
   chosen-best = row-best (tabled n transitions states) (λ k. getD row k nan) word holds some label
 
-  pub choice-back : (choice : Choice) → choice ≡ chosen (candidate n transitions row label (getD states ((word + 1) * n + label) nan)) n → choice .previous ≡ back (tabled n transitions states) word label
+  pub choice-back : (choice : Choice) → choice ≡ choiceOf (candidate n transitions row label (getD states ((word + 1) * n + label) nan)) n → choice .previous ≡ back (tabled n transitions states) word label
   choice-back choice e = rw e chosen-back
 
-  pub choice-best : (choice : Choice) → choice ≡ chosen (candidate n transitions row label (getD states ((word + 1) * n + label) nan)) n → choice .score ≡ best (tabled n transitions states) (word + 1) label
+  pub choice-best : (choice : Choice) → choice ≡ choiceOf (candidate n transitions row label (getD states ((word + 1) * n + label) nan)) n → choice .score ≡ best (tabled n transitions states) (word + 1) label
   choice-best choice e = rw e chosen-best
 
 -- ---- a row in the making, and its marks, once so many labels of the word before are tried

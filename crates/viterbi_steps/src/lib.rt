@@ -5,7 +5,7 @@ ghost use mathlib.Core.Bool.{cond};
 ghost use Prim.Native.Nat.{_*_, _≤_, _<_, ℕ, _+_};
 ghost use lib.ListN.{length, getD};
 ghost use lib.Ieee.{le};
-ghost use Rattle.viterbi_steps.specs.Chosen.{candidate, chosen};
+ghost use Rattle.viterbi_steps.specs.Chosen.{candidate, choiceOf};
 ghost use Rattle.viterbi_steps.specs.Written.{written};
 ghost use Rattle.viterbi_steps.specs.Rows.{firstRow, Before, After, onward, scoreTried, markTried};
 
@@ -32,7 +32,7 @@ pub fn whence(old: f64, new: f64, was: u64, mark: u64) -> u64
 // The best candidate for one label of a word with this state score.
 pub fn best_step(row: &[f64; 32], n: usize, transitions: &[f64], label: usize, state: f64) -> Choice
     requires { ⌜ (label < n) × (n ≤ 32) × (n * n ≤ length (now transitions)) ⌝ }
-    ensures { λ r. ⌜ r ≡ chosen (candidate n (now (transitions .entry)) (now (row .entry)) label state) n ⌝ }
+    ensures { λ r. ⌜ r ≡ choiceOf (candidate n (now (transitions .entry)) (now (row .entry)) label state) n ⌝ }
 {
     let mut score = row[0] + transitions[label] + state;
     let mut from: u64 = 0;

@@ -10,8 +10,8 @@ use Rattle.viterbi_end.proofs.finish.Tie as tie
 abbrev entry : tie.After-last-largest → tie.Start
 entry c = search
 
-abbrev chosen : tie.After-walk-back → tie.After-last-largest
-chosen c = search
+abbrev picked : tie.After-walk-back → tie.After-last-largest
+picked c = search
 
 -- the last label is within the row
 last-within : (l : tie.After-last-largest) → l .last-largest .result < 32
@@ -46,7 +46,7 @@ same-length c = search needs
 returns : tie.Need-returns
 returns c =
     let w : tie.After-walk-back = search in
-    ended (chosen w .last-largest .ensures .1) (c .lead-of .ensures) (w .walk-back .ensures)
+    ended (picked w .last-largest .ensures .1) (c .lead-of .ensures) (w .walk-back .ensures)
 
 pub finish-spec : {M : Type 1} → statement M
 finish-spec =
