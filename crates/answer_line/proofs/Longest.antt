@@ -5,7 +5,7 @@ use native.Mathlib.Omega.{arith}
 use lib.ListN.{length, getD, length-append}
 use lib.Ieee.{Float, binary64, toBits}
 use Rattle.answer_line.specs.Digits.{placesWithin, decimalPlaces, decimal}
-use Rattle.answer_line.specs.Line.{space, lineFeed, sumDigits, furtherLabels, joinedLabels, pathLine, refusedLine}
+use Rattle.answer_line.specs.Line.{space, lineFeed, sumDigits, furtherLabels, joinedLabels, pathLine, refusedLine, pathRoom}
 use Rattle.answer_line.specs.Claims.{Longest}
 use Rattle.answer_line.proofs.Laws.{length-digits, length-decimal}
 use Rattle.answer_line.proofs.ReadBack.{by-ten, few, many}
@@ -46,7 +46,7 @@ module _ where
   joined (label ∷ labels) h =
       omega (arith, length-append (decimal label) (furtherLabels labels), two-digits label (head label labels h), further labels (tail label labels h))
 
-path-most : (x : Float) (labels : List ℕ) → length labels ≤ 128 → Small labels → length (pathLine x labels) ≤ 406
+path-most : (x : Float) (labels : List ℕ) → length labels ≤ 128 → Small labels → length (pathLine x labels) ≤ pathRoom
 unfolding pathLine
 path-most x labels n h =
     let j = joinedLabels labels in

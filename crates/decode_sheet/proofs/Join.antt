@@ -19,6 +19,7 @@ use Rattle.sheet.proofs.Meant.{refused-by}
 use Rattle.sheet.proofs.Rows.{accepts}
 use Rattle.sheet.proofs.RowsMeant.{file-means}
 use Rattle.answer_line.specs.Line as line
+use Rattle.answer_line.specs.Line.{pathRoom}
 use Rattle.decode_sheet.specs.declared.Written.{Written}
 use Rattle.decode_sheet.specs.Answer.{pathLineOf, lineChecked}
 use Rattle.decode_sheet.specs.Promise.{answerTo, lineAfter, Promised}
@@ -26,8 +27,8 @@ use Rattle.decode_sheet.proofs.Rows.{Lends, rows, line-means, read-by, 
 
 -- the room that is lent of the transitions: none where the line is too short, else all
 pub record Chosen (before : List ℕ) (transitions states : List Float) (room : ℕ) : Type 0 where
-  pub none : length before < 406 → room ≡ 0
-  pub all : 406 ≤ length before → room ≡ length transitions
+  pub none : length before < pathRoom → room ≡ 0
+  pub all : pathRoom ≤ length before → room ≡ length transitions
   pub inside : room ≤ length transitions
   pub long-transitions : 1024 ≤ length transitions
   pub long-states : 4096 ≤ length states
@@ -46,13 +47,13 @@ module _ (bytes before : List ℕ) where
   promised-path size after h w = record { answers = rw (h, w .counted); fills-line = rw h (w .written) }
 
   -- a line that is accepted has its room
-  roomy : lineChecked bytes (length before) ≡ Accepted → 406 ≤ length before
+  roomy : lineChecked bytes (length before) ≡ Accepted → pathRoom ≤ length before
   roomy h = file-means bytes (line-means (length before)) .accepted .0 h .1
 
 -- what a file that is read gives to the decoder
 pub record Tables (bytes before : List ℕ) (transitions states : List Float) (room labels words : ℕ) (o : reader.Outcome) : Type 0 where
   pub accepted : lineChecked bytes (length before) ≡ Accepted
-  pub line-long : 406 ≤ length before
+  pub line-long : pathRoom ≤ length before
   pub labels-are : labels ≡ labelsIn bytes
   pub words-are : words ≡ wordsIn bytes
   pub sound : SoundScores (labelsIn bytes) (wordsIn bytes) (transitionsIn bytes) (statesIn bytes)

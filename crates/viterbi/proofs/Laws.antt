@@ -10,6 +10,7 @@ use borrow.Author.Tests.{ltb-true}
 use lib.Dec.{ltb}
 use lib.ListN.{length, replicate}
 use lib.Ieee.{Float, nan, ofBits, binary64}
+use Rattle.refusals.specs.Bounds.{theLabels, most}
 use Rattle.best_path.specs.Scores.{Scores, tabled}
 use Rattle.best_path.specs.Decoded.{best, lastLabel, decodedPath}
 use Rattle.best_path.specs.Lead.{none, leadBetween, rival, lead}
@@ -32,15 +33,15 @@ one-row rows width h = rw one-mul at (mul-le-mul-right width h)
 
 -- a word is done: the row has its best scores, and the steps back lead from it
 pub record Done (n word : ℕ) (transitions states row : List Float) (steps : List ℕ) : Type 0 where
-  pub wide : length row ≡ 32
+  pub wide : length row ≡ most theLabels
   pub holds : Holds (tabled n transitions states) word row
   pub leads : StepsTo (tabled n transitions states) word steps
 
 -- the first word
-pub first-done : {n : ℕ} {transitions states : List Float} {row : Row} {steps : List ℕ} → n ≤ 32 → row ≡ firstRow n states → Done (row .width) 0 transitions states (row .best) steps
+pub first-done : {n : ℕ} {transitions states : List Float} {row : Row} {steps : List ℕ} → n ≤ most theLabels → row ≡ firstRow n states → Done (row .width) 0 transitions states (row .best) steps
 first-done {n} {transitions} {states} few e = rw e (record {
-  wide = written-length 0 _ (replicate 32 (ofBits binary64 0)) n;
-  holds = λ label h. rw (best-first (tabled n transitions states) label, zero-mul, zero-add) (front-inside _ (replicate 32 (ofBits binary64 0)) nan n few label h);
+  wide = written-length 0 _ (replicate (most theLabels) (ofBits binary64 0)) n;
+  holds = λ label h. rw (best-first (tabled n transitions states) label, zero-mul, zero-add) (front-inside _ (replicate (most theLabels) (ofBits binary64 0)) nan n few label h);
   leads = λ earlier label h k. absurd (not-suc-le-zero h);
 })
 
@@ -72,7 +73,7 @@ module _ {n words : ℕ} {transitions states : List Float} {path : List ℕ} (re
   next-within : (word : ℕ) → word + 1 < words → (word + 1) * n + n ≤ words * n
   next-within word h = rw row-after at (mul-le-mul-right n (add-one-le h))
 
-  pub before : {word : ℕ} {row next : List Float} {steps : List ℕ} → Done n word transitions states row steps → words * n ≤ length steps → word + 1 < words → length next ≡ 32 → Before n word transitions states row next steps
+  pub before : {word : ℕ} {row next : List Float} {steps : List ℕ} → Done n word transitions states row steps → words * n ≤ length steps → word + 1 < words → length next ≡ most theLabels → Before n word transitions states row next steps
   before done long h wide = record {
     some = ready .sized .labels-in .low;
     few = ready .sized .labels-in .high;
@@ -85,11 +86,11 @@ module _ {n words : ℕ} {transitions states : List Float} {path : List ℕ} (re
   }
 
   -- one word more
-  pub done-next : {word : ℕ} {row next : List Float} {steps : List ℕ} → Done n word transitions states row steps → words * n ≤ length steps → word + 1 < words → length next ≡ 32 → {made : List Float} {longer : List ℕ} → After n word transitions states next steps made longer → Done n (word + 1) transitions states made longer
+  pub done-next : {word : ℕ} {row next : List Float} {steps : List ℕ} → Done n word transitions states row steps → words * n ≤ length steps → word + 1 < words → length next ≡ most theLabels → {made : List Float} {longer : List ℕ} → After n word transitions states next steps made longer → Done n (word + 1) transitions states made longer
   done-next done long h wide after = done-more (before done long h wide) done _ _ after
 
   -- the last word
-  pub done-last : {word : ℕ} {row next : List Float} {steps : List ℕ} → Done n word transitions states row steps → words * n ≤ length steps → word + 1 < words → words ≤ word + 2 → length next ≡ 32 → {made : List Float} {longer : List ℕ} → After n word transitions states next steps made longer → Done n (words - 1) transitions states made longer
+  pub done-last : {word : ℕ} {row next : List Float} {steps : List ℕ} → Done n word transitions states row steps → words * n ≤ length steps → word + 1 < words → words ≤ word + 2 → length next ≡ most theLabels → {made : List Float} {longer : List ℕ} → After n word transitions states next steps made longer → Done n (words - 1) transitions states made longer
   done-last {word} done long h last wide after =
       let e : word + 1 ≡ words - 1 = omega (arith, h, last) in
       rw e at (done-next done long h wide after)

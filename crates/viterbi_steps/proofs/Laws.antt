@@ -9,6 +9,7 @@ use borrow.Author.Count.{below-more}
 use lib.Arith.{digits-lt}
 use lib.ListN.{length, getD}
 use lib.Ieee.{Float, nan}
+use Rattle.refusals.specs.Bounds.{theLabels, most}
 use Rattle.best_path.specs.Scores.{tabled, extended}
 use Rattle.best_path.specs.Decoded.{lastLargest, best, back}
 use Rattle.best_path.proofs.Laws.{largest-within, largest-first, row-back, row-best}
@@ -47,11 +48,11 @@ module _ (n word : ℕ) (transitions states row : List Float) (some : 0 < n) (ho
 -- ---- a row in the making, and its marks, once so many labels of the word before are tried
 pub record Tried (n at : ℕ) (transitions states row blank next : List Float) (from : List ℕ) (count : ℕ) : Type 0 where
   pub scores : next ≡ written 0 (λ label. let g = candidate n transitions row label (getD states (at + label) nan) in g (lastLargest g (count - 1))) n blank
-  pub marks : length from ≡ 32
+  pub marks : length from ≡ most theLabels
   pub whence : (label : ℕ) → label < n → getD from label 0 ≡ lastLargest (candidate n transitions row label (getD states (at + label) nan)) (count - 1)
 
 -- at first one is, and the row is written from it
-pub tried-first : {n at : ℕ} {transitions states row blank : List Float} {from : List ℕ} (entry : List Float) → blank ≡ written 0 (onward (getD row 0 nan) transitions 0 states at) n entry → length from ≡ 32 → ((label : ℕ) → label < n → getD from label 0 ≡ 0) → Tried n at transitions states row blank blank from 1
+pub tried-first : {n at : ℕ} {transitions states row blank : List Float} {from : List ℕ} (entry : List Float) → blank ≡ written 0 (onward (getD row 0 nan) transitions 0 states at) n entry → length from ≡ most theLabels → ((label : ℕ) → label < n → getD from label 0 ≡ 0) → Tried n at transitions states row blank blank from 1
 tried-first {n} entry e m z = record {
   scores = rw e (sym (written-over 0 _ _ entry n ∙ written-same 0 _ _ entry n (λ label h. simp (largest-first, zero-mul))));
   marks = m;
@@ -59,11 +60,11 @@ tried-first {n} entry e m z = record {
 }
 
 -- the row stays as wide as it was
-pub tried-wide : (n : ℕ) (first : ℕ → Float) (entry : List Float) {blank : List Float} → blank ≡ written 0 first n entry → length entry ≡ 32 → length blank ≡ 32
+pub tried-wide : (n : ℕ) (first : ℕ → Float) (entry : List Float) {blank : List Float} → blank ≡ written 0 first n entry → length entry ≡ most theLabels → length blank ≡ most theLabels
 tried-wide n first entry e wide = rw e (written-length 0 first entry n ∙ wide)
 
 -- one label more
-module _ {n at base count : ℕ} {transitions states row blank next : List Float} {from : List ℕ} (any : 0 < count) (few : n ≤ 32) (wide : length blank ≡ 32) (row-at : base ≡ count * n) (tried : Tried n at transitions states row blank next from count) where
+module _ {n at base count : ℕ} {transitions states row blank next : List Float} {from : List ℕ} (any : 0 < count) (few : n ≤ most theLabels) (wide : length blank ≡ most theLabels) (row-at : base ≡ count * n) (tried : Tried n at transitions states row blank next from count) where
   abbrev candidates : ℕ → Float
   candidates = onward (getD row count nan) transitions base states at
 
@@ -104,7 +105,7 @@ module _ {n : ℕ} (word : ℕ) {transitions states row blank next : List Float}
 
 -- ---- what a word more gives its caller
 module _ {n word : ℕ} {transitions states row next : List Float} {steps : List ℕ} (before : Before n word transitions states row next steps) (made : List Float) (longer : List ℕ) (after : After n word transitions states next steps made longer) where
-  pub after-wide : length made ≡ 32
+  pub after-wide : length made ≡ most theLabels
   after-wide = rw (after .scores) (written-length 0 _ next n ∙ before .wide)
 
   pub after-holds : Holds (tabled n transitions states) (word + 1) made

@@ -5,6 +5,7 @@ use native.Mathlib.Nat.{le-trans}
 use native.Mathlib.Omega.{arith}
 use borrow.Author.Needs.{needs}
 use lib.ListN.{length}
+use Rattle.refusals.specs.Bounds.{theLabels, most}
 use Rattle.viterbi_steps.specs.declared.Row.{Row}
 use Rattle.viterbi_steps.specs.Rows.{Before}
 use Rattle.viterbi.specs.Answered.{Ready}
@@ -14,7 +15,7 @@ use Rattle.viterbi.proofs.decode_rows.Tie as tie
 
 abbrev Inv-loop : tie.InvT-loop
 Inv-loop labels words transitions states path steps₀ row₀ n other₀ word₀ steps row other word =
-    (word < words) × (length steps ≡ length steps₀) × (length (other .best) ≡ 32) × Done n word transitions states (row .best) steps
+    (word < words) × (length steps ≡ length steps₀) × (length (other .best) ≡ most theLabels) × Done n word transitions states (row .best) steps
 
 abbrev μ-loop : tie.MeasureT-loop
 μ-loop labels words transitions states path steps₀ row₀ n other₀ word₀ steps row other word = words - word

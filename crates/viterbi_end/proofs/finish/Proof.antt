@@ -2,6 +2,7 @@
 use Prim.Native.Nat.{_<_}
 use native.Mathlib.Omega.{arith}
 use borrow.Author.Needs.{needs}
+use Rattle.refusals.specs.Bounds.{theLabels, most}
 use Rattle.viterbi_end.proofs.Laws.{ended}
 use Rattle.viterbi_end.proofs.finish.Statement.{statement}
 use Rattle.viterbi_end.proofs.finish.Tie as tie
@@ -14,7 +15,7 @@ abbrev picked : tie.After-walk-back → tie.After-last-largest
 picked c = search
 
 -- the last label is within the row
-last-within : (l : tie.After-last-largest) → l .last-largest .result < 32
+last-within : (l : tie.After-last-largest) → l .last-largest .result < most theLabels
 last-within l = omega (arith, l .last-largest .ensures .0, entry l .pre .few)
 
 last-largest-requires : tie.Need-last-largest-requires

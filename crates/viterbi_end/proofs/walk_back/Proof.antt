@@ -6,6 +6,7 @@ use native.Mathlib.Nat.{lt-of-lt-of-le}
 use native.Mathlib.Omega.{arith}
 use lib.Arith.{digits-lt}
 use lib.ListN.{length, drop}
+use Rattle.refusals.specs.Bounds.{theLabels, most}
 use Rattle.viterbi_end.specs.Walked.{walked}
 use Rattle.viterbi_end.proofs.Laws.{walk-more, walk-end, step-within}
 use borrow.Author.Needs.{needs}
@@ -30,7 +31,7 @@ abbrev turn : tie.In-loop Inv-loop μ-loop → tie.At-loop Inv-loop μ-loop
 turn c = search
 
 -- a label of the path is one of a row's
-label-few : (l : tie.At-loop Inv-loop μ-loop) → l .loop .label < 32
+label-few : (l : tie.At-loop Inv-loop μ-loop) → l .loop .label < most theLabels
 label-few l = omega (arith, l .loop .inv .1, entry l .pre .0 .few)
 
 -- the place of a step

@@ -6,6 +6,7 @@ use native.Mathlib.Numerals.{add-one-le}
 use native.Mathlib.Omega.{arith}
 use borrow.Author.Needs.{needs}
 use lib.ListN.{getD-replicate}
+use Rattle.refusals.specs.Bounds.{theLabels, most}
 use Rattle.viterbi_steps.proofs.Choices.{square-small, row-after}
 use Rattle.viterbi_steps.proofs.Laws.{row-inside, Tried, tried-first, tried-wide, tried-more, tried-all, tried-after, marks-within}
 use Rattle.viterbi_steps.proofs.next_by_previous.Statement.{statement}
@@ -53,7 +54,7 @@ seed-row-requires c κs =
 loop-holds : tie.Need-loop-holds Inv-loop μ-loop
 loop-holds c =
     let b = entry c in
-    (omega arith, b .pre .some, sym (one-mul _), tried-first (b .args .next .now) (c .seed-row .ensures) refl (λ label h. getD-replicate 32 label 0 0 (omega (arith, b .pre .few))))
+    (omega arith, b .pre .some, sym (one-mul _), tried-first (b .args .next .now) (c .seed-row .ensures) refl (λ label h. getD-replicate (most theLabels) label 0 0 (omega (arith, b .pre .few))))
 
 mul-score : tie.Need-mul-score Inv-loop μ-loop
 mul-score c = search needs
