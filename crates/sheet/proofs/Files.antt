@@ -17,7 +17,7 @@ use Rattle.sheet.specs.Fields.{labelsIn, wordsIn, statesFrom, wholeLengt
 use Rattle.sheet.specs.Rows.{Given, Lent, sheetChecked}
 use Rattle.sheet.specs.RowsMeaning.{RightHead, RightFile}
 use Rattle.sheet.specs.Promise.{Outcome, said, read, answerBy, answerTo, transitionsAfter, statesAfter, Promised}
-use Rattle.sheet.specs.Files.{sheetIn, Bytes, RoomFor, RightFilesAreSheets, ReadFrom, ExactlyTheFiles}
+use Rattle.sheet.specs.Files.{sheetIn, Bytes, SheetRoom, RightFilesAreSheets, ReadFrom, ExactlyTheFiles}
 use Rattle.sheet.proofs.Bytes.{length-numbers, number-at}
 use Rattle.sheet.proofs.Little.{length-bytes, numbers-read, numbers-back, drop-bytes}
 use Rattle.sheet.proofs.RowsMeant.{mark-byte, sheets-mean}
@@ -78,10 +78,10 @@ module _ (s : Sheet) (sound : SoundSheet s) where
     finite-states = rw (states-back, words-back, labels-back) (finite-back _ _ (sound .all-states) (sound .finite-states));
   }
 
-  pub file-accepted : (before : Lent) → RoomFor s before → sheetChecked (record { bytes = encoded s }) before ≡ Accepted
+  pub file-accepted : (before : Lent) → SheetRoom s before → sheetChecked (record { bytes = encoded s }) before ≡ Accepted
   file-accepted before room = sheets-mean (record { bytes = encoded s }) before .accepted .1 (right-file, rw (labels-back, words-back) room)
 
-  file-read : (before : Lent) → RoomFor s before → (outcome : Outcome) → Promised (record { bytes = encoded s }) before outcome → ReadFrom s before outcome
+  file-read : (before : Lent) → SheetRoom s before → (outcome : Outcome) → Promised (record { bytes = encoded s }) before outcome → ReadFrom s before outcome
   unfolding answerTo transitionsAfter statesAfter
   file-read before room outcome p =
       let h = file-accepted before room in
@@ -181,7 +181,7 @@ accepted-if-read given before labels words h = go (sheetChecked given before) h
     go Accepted e = refl
     go (Refused why) e = let z : _≡_ {A = ℕ} 0 1 = cc in absurd (omega arith)
 
-only-files : (given : Given) → Bytes (given .bytes) → (before : Lent) (outcome : Outcome) → Promised given before outcome → (labels words : ℕ) → said (outcome .answer) ≡ read labels words → (s : Sheet) × SoundSheet s × (given .bytes ≡ encoded s) × RoomFor s before × ReadFrom s before outcome
+only-files : (given : Given) → Bytes (given .bytes) → (before : Lent) (outcome : Outcome) → Promised given before outcome → (labels words : ℕ) → said (outcome .answer) ≡ read labels words → (s : Sheet) × SoundSheet s × (given .bytes ≡ encoded s) × SheetRoom s before × ReadFrom s before outcome
 only-files given all before outcome p labels words e =
     let h = accepted-if-read given before labels words (sym (p .answers) ∙ e) in
     let a = sheets-mean given before .accepted .0 h in (
