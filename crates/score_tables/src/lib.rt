@@ -3,7 +3,7 @@
 ghost use mathlib.Core.Path.{_≡_};
 ghost use Prim.Native.Nat.{_*_};
 ghost use Rattle.refusals.specs.Refusals.{orNext, firstFrom};
-ghost use Rattle.score_tables.specs.Rows.{two, sixes, boundsChecked};
+ghost use Rattle.score_tables.specs.Rows.{scoresShort, sixes, boundsChecked};
 ghost use Rattle.score_tables.specs.Sound.{ScoresRoom};
 use refusals::Checked;
 
@@ -39,7 +39,7 @@ pub fn check_room(
     transitions: &[f64],
     states: &[f64],
 ) -> Checked
-    ensures { λ r. ⌜ r ≡ orNext answer (two labels words (now (transitions .entry)) (now (states .entry))) ⌝ }
+    ensures { λ r. ⌜ r ≡ orNext answer (scoresShort labels words (now (transitions .entry)) (now (states .entry))) ⌝ }
 {
     let short = (transitions.len() < entries(labels, labels))
         | (states.len() < entries(words, labels));

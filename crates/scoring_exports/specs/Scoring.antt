@@ -13,7 +13,7 @@ pub record Outcome : Type 0 where
   pub states : List Float
 
 -- the promise of a scored line
-pub record Scores (given : Given) (before : Buffers) (outcome : Outcome) : Type 0 where
+pub record ScoresLine (given : Given) (before : Buffers) (outcome : Outcome) : Type 0 where
   pub answers : outcome .answer ≡ numbers (answerTo given before)
   pub transitions : outcome .transitions ≡ transitionsAfter given before
   pub states : outcome .states ≡ statesAfter given before
