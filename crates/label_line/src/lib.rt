@@ -4,7 +4,8 @@ ghost use Prim.Native.Nat.{_*_, _≤_};
 ghost use lib.ListN.{length, take};
 ghost use Rattle.viterbi.specs.Answered.{Ready, Answered};
 ghost use Rattle.label_line.specs.Finished.{Finished};
-ghost use Rattle.feature_gen.specs.Lent.{modelOf};
+ghost use Rattle.feature_gen.specs.Lent.{modelOf, modelWas};
+ghost use Rattle.lines.specs.Entry.{lineWas};
 ghost use Rattle.label_line.specs.Rows.{labelChecked};
 ghost use Rattle.line_check.specs.Sound.{SoundScoring};
 ghost use Rattle.label_line.specs.Promise.{Labelled, Promised};
@@ -18,8 +19,7 @@ pub const MOST_STATES: usize = 4096;
 
 pub const MOST_TRANSITIONS: usize = 1024;
 
-// 1, 4, 2, 3, 5 and 6. The scores have room, so of the buffers only the path can be too short: it comes after the tables, and
-// before anything is read of them.
+// 1 and 4, then the sooner of the model's check, the line's, and 2 of the path's buffer: the scores have room.
 pub fn check_line(
     labels: u32,
     words: u32,
@@ -38,9 +38,13 @@ pub fn check_line(
     values: &[f64],
     path: usize,
 ) -> Checked
-    ensures { λ r. ⌜ r ≡ labelChecked (record { model = modelOf labels counts (now (kinds .entry)) (now (destinations .entry)) (now (sources .entry)) (now («attribute_starts» .entry)) (now («attribute_entries» .entry)) (now («label_starts» .entry)) (now («label_entries» .entry)); weights = now (weights .entry); words = words; line = record { starts = now (begins .entry); size = attributes; ids = now (ids .entry); values = now (values .entry) } }) path ⌝ }
+    ensures { λ r.
+        let m = modelWas labels counts kinds destinations sources «attribute_starts» «attribute_entries» «label_starts» «label_entries» in
+        let l = lineWas attributes begins ids values in
+        ⌜ r ≡ labelChecked (record { model = m; weights = now (weights .entry); words = words; line = l }) path ⌝ }
 {
-    let sizes = line_check::scoring_sizes(
+    let bounds = score_tables::check_bounds(labels, words);
+    let model = feature_gen::check_weighted(
         labels,
         counts,
         kinds,
@@ -51,35 +55,13 @@ pub fn check_line(
         attribute_entries,
         label_starts,
         label_entries,
-        words,
-        attributes,
-        begins,
-        ids,
-        values,
-        MOST_TRANSITIONS,
-        MOST_STATES,
     );
-    let room = refusals::refuse_if(sizes, 2, 0, refusals::is_short(path, words as usize));
-    let scoring = line_check::check_scoring(
-        labels,
-        counts,
-        kinds,
-        destinations,
-        sources,
-        weights,
-        attribute_starts,
-        attribute_entries,
-        label_starts,
-        label_entries,
-        words,
-        attributes,
-        begins,
-        ids,
-        values,
-        MOST_TRANSITIONS,
-        MOST_STATES,
-    );
-    refusals::or_next(room, scoring)
+    let line = line_check::check_line(words, attributes, begins, ids, values);
+    let tables = refusals::sooner(model, line);
+    let short = refusals::is_short(path, words as usize);
+    let room = refusals::refuse_if(Checked::Accepted, 2, 0, short);
+    let rest = refusals::sooner(tables, room);
+    refusals::or_next(bounds, rest)
 }
 
 // Decoding over the fronts of two tables.

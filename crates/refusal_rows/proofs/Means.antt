@@ -72,13 +72,13 @@ broken-on answer (limit ∷ these) those = broken-on (answer || broken limit) th
 pub broken-parts : (these those : List Limit) → anyBroken (these ++ those) ≡ (anyBroken these || anyBroken those)
 broken-parts these those = broken-on false these those ∙ broken-or (anyBroken these) those
 
-pub broken-thirds : (these those others : List Limit) → (anyBroken these || anyBroken those || anyBroken others) ≡ anyBroken (these ++ those ++ others)
-broken-thirds these those others =
-    sym (broken-parts (these ++ those) others ∙ ap (λ (t : Bool). t || anyBroken others) (broken-parts these those))
-
 pub within-parts : (these those : List Limit) → AllWithin (these ++ those) → AllWithin these × AllWithin those
 within-parts [] those a = (tt, a)
 within-parts (limit ∷ these) those a = let s = within-parts these those (a .1) in ((a .0, s .0), s .1)
+
+pub within-both : (these those : List Limit) → AllWithin these → AllWithin those → AllWithin (these ++ those)
+within-both [] those a b = b
+within-both (limit ∷ these) those a b = (a .0, within-both these those (a .1) b)
 
 -- ---- tests
 
