@@ -14,8 +14,8 @@ use Rattle.viterbi.specs.Promise.{decoded, said}
 use Rattle.same_scores.proofs.Same.{only-named-matters}
 use Rattle.compute_scores.specs.Promise.{Given, finishedOf}
 use Rattle.compute_scores.specs.Independent.{inputOf}
-use Rattle.label_line.specs.Promise.{Outcome, scoresOf, checkedOf, decodedOf, answerTo, pathAfter, Promised}
-use Rattle.label_line.specs.Independent.{IsLabelled, SameLabels}
+use Rattle.label_line.specs.Promise.{Outcome, scoresOf, checkedOf, IsLabelled, decodedOf, answerTo, pathAfter, Promised}
+use Rattle.label_line.specs.Independent.{SameLabels}
 use Rattle.label_line.proofs.Meant.{checks-mean}
 
 -- a line that is labelled has the definition's path, sum and lead
