@@ -81,6 +81,9 @@ module _ (method : Method) (given : Given) (before : Buffers) where
   unfolding answerTo
   early-given number place c = rw c
 
+  by-checks : (number : ℕ) → number ≤ 7 → {At : ℕ → Type 0} → ((place : ℕ) → checkedOf method given before ≡ refusedAt number place ↔ At place) → (place : ℕ) → answerTo method given before ≡ refused (numbered number place) ↔ At place
+  by-checks number l e place = (λ h. e place .0 (early number place l h), λ f. early-given number place (e place .1 f))
+
   training-given : checkedOf method given before ≡ Accepted → answerTo method given before ≡ said (trainedOf method given .answer)
   unfolding answerTo
   training-given c = rw c
@@ -94,13 +97,13 @@ module _ (method : Method) (given : Given) (before : Buffers) where
   -- of what document 01 says
   pub answer-means : Meaning (λ number place. answerTo method given before ≡ refused (numbered number place)) ((t : Trained) × (answerTo method given before ≡ accepted t)) method given before
   answer-means = record {
-    one = λ place. (λ h. means .one place .0 (early 1 place (omega arith) h), λ f. early-given 1 place (means .one place .1 f));
-    two = λ place. (λ h. means .two place .0 (early 2 place (omega arith) h), λ f. early-given 2 place (means .two place .1 f));
-    three = λ place. (λ h. means .three place .0 (early 3 place (omega arith) h), λ f. early-given 3 place (means .three place .1 f));
-    four = λ place. (λ h. means .four place .0 (early 4 place (omega arith) h), λ f. early-given 4 place (means .four place .1 f));
-    five = λ place. (λ h. means .five place .0 (early 5 place (omega arith) h), λ f. early-given 5 place (means .five place .1 f));
-    six = λ place. (λ h. means .six place .0 (early 6 place (omega arith) h), λ f. early-given 6 place (means .six place .1 f));
-    seven = λ place. (λ h. means .seven place .0 (early 7 place (omega arith) h), λ f. early-given 7 place (means .seven place .1 f));
+    one = by-checks 1 (omega arith) (means .one);
+    two = by-checks 2 (omega arith) (means .two);
+    three = by-checks 3 (omega arith) (means .three);
+    four = by-checks 4 (omega arith) (means .four);
+    five = by-checks 5 (omega arith) (means .five);
+    six = by-checks 6 (omega arith) (means .six);
+    seven = by-checks 7 (omega arith) (means .seven);
     eight = λ place. (
       λ h. let t = late 8 place (omega arith) h in (means .accepted .0 (t .0), ends-so (t .0) .eight place .0 (t .1)),
       λ f. let c = means .accepted .1 (f .0) in training-given c ∙ ap said (ends-so c .eight place .1 (f .1)),
@@ -117,25 +120,24 @@ module _ (method : Method) (given : Given) (before : Buffers) where
   }
 
 -- another way to answer, which tells the same
-pub told : {Refuses Answers : ℕ → ℕ → Type 0} {Accepts Accepted : Type 0} {method : Method} {given : Given} {before : Buffers} →
-    ((number place : ℕ) → Answers number place → Refuses number place) →
-    ((number place : ℕ) → 0 < number → Refuses number place → Answers number place) →
-    Accepted ↔ Accepts →
-    Meaning Refuses Accepts method given before →
-    Meaning Answers Accepted method given before
-told to from a m = record {
-  one = λ place. (λ h. m .one place .0 (to 1 place h), λ f. from 1 place (omega arith) (m .one place .1 f));
-  two = λ place. (λ h. m .two place .0 (to 2 place h), λ f. from 2 place (omega arith) (m .two place .1 f));
-  three = λ place. (λ h. m .three place .0 (to 3 place h), λ f. from 3 place (omega arith) (m .three place .1 f));
-  four = λ place. (λ h. m .four place .0 (to 4 place h), λ f. from 4 place (omega arith) (m .four place .1 f));
-  five = λ place. (λ h. m .five place .0 (to 5 place h), λ f. from 5 place (omega arith) (m .five place .1 f));
-  six = λ place. (λ h. m .six place .0 (to 6 place h), λ f. from 6 place (omega arith) (m .six place .1 f));
-  seven = λ place. (λ h. m .seven place .0 (to 7 place h), λ f. from 7 place (omega arith) (m .seven place .1 f));
-  eight = λ place. (λ h. m .eight place .0 (to 8 place h), λ f. from 8 place (omega arith) (m .eight place .1 f));
-  nine = λ place. (λ h. m .nine place .0 (to 9 place h), λ f. from 9 place (omega arith) (m .nine place .1 f));
-  only = λ number place h. m .only number place (to number place h);
-  accepted = (λ h. m .accepted .0 (a .0 h), λ f. a .1 (m .accepted .1 f));
-}
+module _ {Refuses Answers : ℕ → ℕ → Type 0} (to : (number place : ℕ) → Answers number place → Refuses number place) (from : (number place : ℕ) → 0 < number → Refuses number place → Answers number place) where
+  relay : (number : ℕ) → 0 < number → {At : ℕ → Type 0} → ((place : ℕ) → Refuses number place ↔ At place) → (place : ℕ) → Answers number place ↔ At place
+  relay number l e place = (λ h. e place .0 (to number place h), λ f. from number place l (e place .1 f))
+
+  pub told : {Accepts Accepted : Type 0} {method : Method} {given : Given} {before : Buffers} → Accepted ↔ Accepts → Meaning Refuses Accepts method given before → Meaning Answers Accepted method given before
+  told a m = record {
+    one = relay 1 (omega arith) (m .one);
+    two = relay 2 (omega arith) (m .two);
+    three = relay 3 (omega arith) (m .three);
+    four = relay 4 (omega arith) (m .four);
+    five = relay 5 (omega arith) (m .five);
+    six = relay 6 (omega arith) (m .six);
+    seven = relay 7 (omega arith) (m .seven);
+    eight = relay 8 (omega arith) (m .eight);
+    nine = relay 9 (omega arith) (m .nine);
+    only = λ number place h. m .only number place (to number place h);
+    accepted = (λ h. m .accepted .0 (a .0 h), λ f. a .1 (m .accepted .1 f));
+  }
 
 pub answers-mean : AnswersMean
 answers-mean method given before outcome kept =

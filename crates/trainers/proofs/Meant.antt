@@ -1,6 +1,6 @@
 -- What a trainer answers means what `Meaning` says. Assumes nothing.
 use mathlib.Core.Path.{_≡_, refl, sym, _∙_, ap}
-use mathlib.Core.List.{List, [], _∷_}
+use mathlib.Core.List.{List, [], _∷_, _++_}
 use mathlib.Core.Logic.{_⊎_, inl, inr}
 use Prim.Native.Nat.{ℕ, _≤_, _<_}
 use native.Mathlib.Omega.{arith}
@@ -83,14 +83,14 @@ pub above : (number : ℕ) → OneOf (8 ∷ 9 ∷ []) number → 7 < number
 above number (inl e) = omega arith
 above number (inr (inl e)) = omega arith
 
+-- one of some is one of more
+in-more : (some more : List ℕ) (number : ℕ) → OneOf some number → OneOf (some ++ more) number
+in-more [] more number h = absurd h
+in-more (this ∷ some) more number (inl e) = inl e
+in-more (this ∷ some) more number (inr h) = inr (in-more some more number h)
+
 pub among : (number : ℕ) → OneOf (1 ∷ 2 ∷ 3 ∷ 4 ∷ 5 ∷ 6 ∷ 7 ∷ []) number → OneOf (1 ∷ 2 ∷ 3 ∷ 4 ∷ 5 ∷ 6 ∷ 7 ∷ 8 ∷ 9 ∷ []) number
-among number (inl e) = inl e
-among number (inr (inl e)) = inr (inl e)
-among number (inr (inr (inl e))) = inr (inr (inl e))
-among number (inr (inr (inr (inl e)))) = inr (inr (inr (inl e)))
-among number (inr (inr (inr (inr (inl e))))) = inr (inr (inr (inr (inl e))))
-among number (inr (inr (inr (inr (inr (inl e)))))) = inr (inr (inr (inr (inr (inl e)))))
-among number (inr (inr (inr (inr (inr (inr (inl e))))))) = inr (inr (inr (inr (inr (inr (inl e))))))
+among number h = in-more (1 ∷ 2 ∷ 3 ∷ 4 ∷ 5 ∷ 6 ∷ 7 ∷ []) (8 ∷ 9 ∷ []) number h
 
 pub among-late : (number : ℕ) → OneOf (8 ∷ 9 ∷ []) number → OneOf (1 ∷ 2 ∷ 3 ∷ 4 ∷ 5 ∷ 6 ∷ 7 ∷ 8 ∷ 9 ∷ []) number
 among-late number h = inr (inr (inr (inr (inr (inr (inr h))))))
