@@ -128,21 +128,19 @@ slice-aggregate-train-5 c =
 
 train-requires : tie.Need-train-requires
 train-requires c κs =
-    let e : tie.After-enum-told = search in (
-      relied e .sound .model,
-      (
-        relied e .sound .corpus,
-        (
-          record {
-            weights-long = search (front-long, room e);
-            beside-long = search (front-long, room e);
-            truly-long = front-long _ _ (room e .truly);
-            predicted-long = front-long _ _ (room e .predicted);
-          },
-          (omega (arith, relied e .few), front-long _ _ (room e .order)),
-        ),
-      ),
-    )
+    let e : tie.After-enum-told = search in
+    record {
+      model = relied e .sound .model;
+      corpus = relied e .sound .corpus;
+      exact = record {
+        weights-long = search (front-long, room e);
+        beside-long = search (front-long, room e);
+        truly-long = front-long _ _ (room e .truly);
+        predicted-long = front-long _ _ (room e .predicted);
+      };
+      few = omega (arith, relied e .few);
+      order-long = front-long _ _ (room e .order);
+    }
 
 same-length : tie.Need-same-length
 same-length c = search length-front
