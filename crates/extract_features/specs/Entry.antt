@@ -1,5 +1,4 @@
 -- What counting the features of a line is given, as contracts name it: the tables lent to a call, at its entry. Assumes nothing.
-use mathlib.Core.List.{List}
 use Prim.Native.Nat.{ℕ}
 use denote.Ref.{now}
 use denote.Triple.Both.{Both}

@@ -1,16 +1,15 @@
 -- A note more, once the notes are added, is the entry's step of counting. Assumes nothing.
 use mathlib.Core.Bool.{Bool, true, false, cond, _&&_, and-true, and-false}
-use mathlib.Core.Path.{_≡_, refl, sym, ap, _∙_}
+use mathlib.Core.Path.{_≡_, refl, ap, _∙_}
 use mathlib.Core.List.{List}
 use Prim.Native.Nat.{ℕ, _+_, _≤_, _<_}
-use native.Mathlib.Nat.{zero-add}
 use native.Mathlib.Omega.{arith}
 use lib.Dec.{eqb}
 use lib.ListN.{getD, set, length, length-set}
 use lib.Seq.{getD-set-same, getD-set-other}
 use borrow.Author.Tests.{eqb-true, eqb-false}
 use lib.Ieee.{Float, nan}
-use Rattle.lines.specs.Passes.{through, raised}
+use Rattle.lines.specs.Passes.{raised}
 use Rattle.lines.specs.Tables.{Model, State}
 use Rattle.lines.specs.Counted.{stateCount}
 use Rattle.lines.proofs.Laws.{through-none, through-more, through-cong}

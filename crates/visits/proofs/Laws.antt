@@ -7,7 +7,7 @@ use Prim.Native.Nat.{ℕ, _+_, _-_, _≤_, _<_}
 use native.Mathlib.Omega.{arith}
 use borrow.Author.Tests.{eq-eqb, ne-eqb, eqb-true, eqb-false}
 use lib.Dec.{eqb}
-use lib.ListN.{length, getD, take, drop, length-drop, length-append}
+use lib.ListN.{length, getD, take, drop, length-drop}
 use lib.Seq.{length-take-le, take-at, getD-take, getD-drop}
 use lib.Ieee.{Float, nan}
 use lib.Ieee.Scale.{finite}
@@ -18,7 +18,6 @@ use Rattle.best_path.specs.Scores.{tabled}
 use Rattle.best_path.specs.Decoded.{decodedPath}
 use Rattle.best_path.specs.PathScore.{pathScore}
 use Rattle.training.specs.declared.Progress.{Progress}
-use Rattle.training.specs.declared.Visit.the-variants.{Unchanged}
 use Rattle.lines.specs.Data.{Data, firstWord, wordsOf, referenceOf}
 use Rattle.binary64.specs.Numbers.{whole}
 use Rattle.training.specs.Wrong.{wrongOf}

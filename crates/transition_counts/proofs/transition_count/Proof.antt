@@ -47,29 +47,33 @@ same-length c = search needs
 returns : tie.Need-returns
 unfolding transitionCount raised
 returns c =
-    let k = c .before in
-    let s = k .before .before in
-    let d = s .before .before in
-    let a = d .before .before in
+    let k : tie.Then3 = search in
+    let s : tie.Then2 = search in
+    let d : tie.Then1 = search in
+    let a : tie.After-at = search in
     let b : tie.Start = search in
     let h : getD (b .args .sources .now) (a .at .result) 0 ≡ b .args .previous = omega (arith, s .if2 .taken) in
     rw (← a .at .ensures, eq-eqb _ _ (k .if3 .taken), eq-eqb _ _ h, eq-eqb _ _ (d .if1 .taken), literal-one)
 
 returns-2 : tie.Need-returns-2
 unfolding transitionCount
-returns-2 c = rw (← c .before .before .before .before .before .before .at .ensures, ne-eqb _ _ (c .if3 .left))
+returns-2 c =
+    let a : tie.After-at = search in
+    rw (← a .at .ensures, ne-eqb _ _ (c .if3 .left))
 
 returns-3 : tie.Need-returns-3
 unfolding transitionCount
 returns-3 c =
-    let a = c .before .before .before .before in
+    let a : tie.After-at = search in
     let b : tie.Start = search in
     let h : getD (b .args .sources .now) (a .at .result) 0 ≡ b .args .previous → ⊥ = λ e. omega arith in
     rw (← a .at .ensures, ne-eqb _ _ h, and-false)
 
 returns-4 : tie.Need-returns-4
 unfolding transitionCount
-returns-4 c = rw (← c .before .before .at .ensures, ne-eqb _ _ (c .if1 .left), and-false, and-false)
+returns-4 c =
+    let a : tie.After-at = search in
+    rw (← a .at .ensures, ne-eqb _ _ (c .if1 .left), and-false, and-false)
 
 pub transition-count-spec : {M : Type 1} → statement M
 transition-count-spec =

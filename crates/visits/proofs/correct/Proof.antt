@@ -1,5 +1,5 @@
 -- `visits::correct` meets its contract: the two passes count, and the update is the definition's on their counts. Assumes nothing.
-use mathlib.Core.Path.{_≡_, sym, _∙_}
+use mathlib.Core.Path.{sym, _∙_}
 use native.Mathlib.Nat.{le-of-eq}
 use native.Mathlib.Omega.{arith}
 use borrow.Author.Needs.{needs}
