@@ -26,7 +26,7 @@ pub record Visitable (sizes : Sizes) (m : Model) (d : Data) (i : ℕ) (s : Progr
   pub visits : s .visits < 2 ^ 53
   pub updates : s .updates ≤ s .visits
 
--- and where labels differ: the words of the instance, its predicted path, and as many wrong labels as it has words at most
+-- and where labels differ: the words of the instance, its predicted path, and no more wrong labels than a line may have words
 pub record Correctable (sizes : Sizes) (m : Model) (w : Words) (first words : ℕ) (references path : List ℕ) (p : Prediction) (s : Progress) (weights beside truly predicted : List Float) : Type 0 where
   pub model : SoundModel m
   pub line : SoundLine (sizes .labels) w first words references
