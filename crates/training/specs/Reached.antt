@@ -8,6 +8,7 @@ use lib.Dec.{T}
 use lib.ListN.{getD}
 use lib.Ieee.{Float}
 use lib.Ieee.Scale.{finite}
+use Rattle.refusals.specs.Refusals.{numbered}
 use Rattle.training.specs.declared.Visit.{Visit}
 use Rattle.training.specs.declared.Trained.{Trained}
 use Rattle.training.specs.declared.Training.the-variants.{Accepted, Refused}
@@ -88,8 +89,8 @@ module _ (rule : Rule) (set : Settings) (m : Model) (d : Data) where
 
   -- 8 and 9 "given exactly when", and a training accepted exactly when neither is
   pub record TrainingEnds : Type 0 where
-    pub eight : (place : ℕ) → trained rule set m d .answer ≡ Refused (record { number = 8; place = place }) ↔ EightAt place
-    pub nine : (place : ℕ) → trained rule set m d .answer ≡ Refused (record { number = 9; place = place }) ↔ NineAt place
+    pub eight : (place : ℕ) → trained rule set m d .answer ≡ Refused (numbered 8 place) ↔ EightAt place
+    pub nine : (place : ℕ) → trained rule set m d .answer ≡ Refused (numbered 9 place) ↔ NineAt place
     pub accepted : ((t : Trained) × (trained rule set m d .answer ≡ Accepted t)) ↔ ((place : ℕ) → EightAt place → ⊥) × ((place : ℕ) → NineAt place → ⊥)
 
   -- before every visit, whatever became of those before it, 9 would find nothing, and so after a visit that ends as unchanged: "after a visit" 9 need only be looked for where there was an update

@@ -8,6 +8,7 @@ use lib.Dec.{T}
 use lib.Ieee.{Float}
 use lib.Ieee.Scale.{finite}
 use Rattle.refusals.specs.declared.Refusal.{Refusal}
+use Rattle.refusals.specs.Refusals.{numbered}
 use Rattle.fronts.specs.Finite.{FiniteTo, NotFinite}
 use Rattle.training.specs.declared.Visit.the-variants.{Unchanged, Updated, Refused}
 use Rattle.best_path.specs.Scores.{tabled}
@@ -97,9 +98,9 @@ module _ (rule : Rule) (m : Model) (d : Data) (i : ℕ) (s : TrainingState) wher
 
   -- each of the ends of a visit exactly when; the place of 8 and 9 is "visits done before it"
   pub record VisitMeans : Type 0 where
-    pub eight : visited rule m d i s .progress .visit ≡ Refused (record { number = 8; place = s .progress .visits }) ↔ EightIn m d i s
+    pub eight : visited rule m d i s .progress .visit ≡ Refused (numbered 8 (s .progress .visits)) ↔ EightIn m d i s
     -- "9 comes after"
-    pub nine : visited rule m d i s .progress .visit ≡ Refused (record { number = 9; place = s .progress .visits }) ↔ ComesToUpdate m d i s × NineAfter rule (m .features .count) afterUpdate
+    pub nine : visited rule m d i s .progress .visit ≡ Refused (numbered 9 (s .progress .visits)) ↔ ComesToUpdate m d i s × NineAfter rule (m .features .count) afterUpdate
     -- no other number is given, and no other place
     pub only : (why : Refusal) → visited rule m d i s .progress .visit ≡ Refused why → ((why .number ≡ 8) ⊎ (why .number ≡ 9)) × (why .place ≡ s .progress .visits)
     pub unchanged : visited rule m d i s .progress .visit ≡ Unchanged ↔ ScoresFinite m d i s × LabelsAgree m d i s

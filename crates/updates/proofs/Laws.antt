@@ -1,8 +1,8 @@
 -- The ways through an update: how the code's tests pick a case of the definition. Assumes nothing.
 use mathlib.Core.Path.{_≡_, sym, ap, _∙_}
-use mathlib.Core.Bool.{Bool, true, false, _&&_, and-assoc, true≢false}
+use mathlib.Core.Bool.{true, false, _&&_, and-assoc, true≢false}
 use mathlib.Core.List.{[]}
-use Prim.Native.Nat.{ℕ, _+_, _-_, _≤_}
+use Prim.Native.Nat.{ℕ, _+_, _≤_}
 use native.Mathlib.Omega.{arith}
 use lib.Ieee.Scale.{finite}
 use Rattle.training.specs.declared.Progress.{Progress}
