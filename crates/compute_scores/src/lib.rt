@@ -1,5 +1,5 @@
 // The state and transition scores of a line: `compute_scores` of crf_context.rs, over flat tables and into lent buffers. The loops
-// are in `state_scores` and `transition_scores`; the call tests all it is given, with refusals 1 to 6 beforehand and 8 afterwards.
+// are in `line_scores`; the call tests all it is given, with refusals 1 to 6 beforehand and 8 afterwards.
 ghost use mathlib.Core.Path.{_≡_};
 ghost use mathlib.Core.List.{_++_};
 ghost use Prim.Native.Nat.{_*_};
@@ -45,7 +45,7 @@ pub fn fill_scores(
 {
     let width = labels as usize;
     let features = counts.features as usize;
-    state_scores::score_line(
+    line_scores::score_line(
         width,
         features,
         kinds,
@@ -61,7 +61,7 @@ pub fn fill_scores(
         words as usize,
         states,
     );
-    transition_scores::score_transitions(
+    line_scores::score_transitions(
         width,
         features,
         kinds,

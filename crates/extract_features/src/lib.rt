@@ -1,5 +1,5 @@
 // The feature counts of a line under labels: `extract_features` of trainer.rs, over flat tables and into a lent buffer. The loops
-// are in `state_counts` and `transition_counts`; the call tests all it is given, with refusals 1 to 6 beforehand and 8 afterwards.
+// are in `line_counts`; the call tests all it is given, with refusals 1 to 6 beforehand and 8 afterwards.
 ghost use mathlib.Core.Path.{_≡_};
 ghost use mathlib.Core.List.{_++_};
 ghost use Prim.Native.Nat.{_≤_, _+_, ℕ};
@@ -48,7 +48,7 @@ pub fn count_line(
         now (counts .exit) ≡ countsOf m d first words (now (labels .entry)) ++ drop features (now (counts .entry))) ⌝ }
 {
     fronts::fill(counts, features, 0.0);
-    state_counts::count_words(
+    line_counts::count_words(
         features,
         kinds,
         destinations,
@@ -63,7 +63,7 @@ pub fn count_line(
         labels,
         counts,
     );
-    transition_counts::count_transitions(
+    line_counts::count_transitions(
         features,
         kinds,
         destinations,

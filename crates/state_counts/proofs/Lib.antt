@@ -1,2 +1,0 @@
-mod Notes
-mod Turns
