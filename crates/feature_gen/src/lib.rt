@@ -1,9 +1,9 @@
 // Features and the model that holds them, after `feature_gen.rs`: kinds State 0 and Transition 1, and the check of a model: of
 // its tables, and of its weights apart. Every call that is lent a model takes the sooner of these checks and its own.
 ghost use mathlib.Core.Path.{_≡_};
-ghost use mathlib.Core.List.{[], _∷_, _++_};
+ghost use mathlib.Core.List.{[], _∷_};
 ghost use Prim.Native.Nat.{_<_, _≤_};
-ghost use lib.ListN.{length, take, drop};
+ghost use lib.ListN.{length};
 ghost use Rattle.refusals.specs.Refusals.{firstFrom};
 ghost use Rattle.refusal_rows.specs.Limits.{anyBroken};
 ghost use Rattle.refusal_rows.specs.Tests.{startsRise, idsBelow, checks};

@@ -2,7 +2,7 @@
 use mathlib.Core.Path.{_≡_, refl, sym, _∙_, ap}
 use mathlib.Core.Bool.{Bool, _||_}
 use mathlib.Core.List.{List, [], _∷_, _++_}
-use Prim.Native.Nat.{ℕ, _+_, _*_, _<_, _≤_}
+use Prim.Native.Nat.{ℕ, _+_, _≤_}
 use native.Mathlib.Omega.{arith}
 use lib.ListN.{length}
 use lib.Ieee.{Float}
@@ -20,7 +20,6 @@ use Rattle.refusal_rows.proofs.Means.{broken-parts, within-parts}
 use Rattle.refusal_rows.proofs.Parts.{ordered, joined, same-limits, as-rows, part-stopped, part-within, part-answered}
 use Rattle.lines.specs.Tables.{Model, Words}
 use Rattle.feature_gen.specs.Rows.{modelCounts, modelRooms, weightedRooms, idTests, weightTests, tableLimits, tableTests, weightedLimits, weightedTests, tablesChecked, weightedChecked}
-use Rattle.feature_gen.specs.Sound.{ModelSized}
 use Rattle.feature_gen.proofs.Laws.{sized, room-for-weights}
 use Rattle.line_check.specs.Rows.{Scoring, Counting, lineCounts, lineRooms, scoreRooms, scoringCounts, scoringRooms, countRooms, countingCounts, countingRooms, lineStarts, labelTests, valueTests, lineLimits, lineTests, lineSized, lineChecked, labelsChecked, scoringChecked, countingChecked}
 use Rattle.line_check.specs.Sound.{LineSized, ScoringFits, CountingFits}

@@ -1,6 +1,6 @@
 -- What the sizes give a trainer that accepts them, the parts that its input is checked in, and when so many words are no line. Assumes nothing.
-use mathlib.Core.Path.{_≡_, refl, sym, _∙_, ap}
-use mathlib.Core.Bool.{Bool, true}
+use mathlib.Core.Path.{_≡_, refl, _∙_}
+use mathlib.Core.Bool.{true}
 use mathlib.Core.List.{List, [], _∷_, _++_}
 use Prim.Native.Nat.{ℕ, _+_, _-_, _<_, _≤_}
 use native.Mathlib.Omega.{arith}
@@ -23,7 +23,7 @@ use Rattle.line_check.proofs.Laws.{line-sized}
 use Rattle.lines.specs.Data.{Data}
 use Rattle.parameters.specs.Parameters.{Parameter, sevens}
 use Rattle.training_check.specs.Rows.{Input, dataCounts, dataRooms, lentRooms, inputCounts, inputRooms, instanceLimits, instanceTests, instancesSized, instancesChecked, dataLimits, dataTests, dataChecked, lentChecked, trainingChecked, inputChecked}
-use Rattle.training_check.specs.Sound.{DataSized, LentSized, InputFits}
+use Rattle.training_check.specs.Sound.{DataSized, InputFits}
 
 -- no words, or starts that fall
 pub no-line : (start next : ℕ) → next ≤ start → outsideIts theLineWords (next - start) ≡ true

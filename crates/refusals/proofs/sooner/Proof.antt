@@ -1,5 +1,5 @@
 -- `refusals::sooner` meets its contract. Assumes nothing.
-use mathlib.Core.Path.{sym, _∙_}
+use mathlib.Core.Path.{sym}
 use borrow.Author.Needs.{needs}
 use Rattle.refusals.specs.Refusals.{sooner}
 use Rattle.refusals.proofs.sooner.Statement.{statement}
