@@ -57,14 +57,14 @@ long l = room-as _ (width (first l)) (l .loop .inv .1) (entry (first l) .pre .1)
 
 -- a turn has two words to go
 two-left : (d : tie.After-next-row Inv-loop μ-loop) → let l = turn d in l .loop .word + 2 < entry (first l) .args .words
-two-left d = let t : tie.In-loop Inv-loop μ-loop = search in t .loop-test .taken
+two-left d = let t : tie.In-loop Inv-loop μ-loop = search in omega (arith, t .loop-test .taken)
 
 -- where the loop is left one word may still be to go
 one-left : (d : tie.After-next-row3 Inv-loop μ-loop) → let l = left d in l .loop .word + 1 < entry (first l) .args .words
-one-left d = let t : tie.Then1 Inv-loop μ-loop = search in t .if1 .taken
+one-left d = let t : tie.Then1 Inv-loop μ-loop = search in omega (arith, t .if1 .taken)
 
 at-most-two : (d : tie.After-next-row3 Inv-loop μ-loop) → let l = left d in entry (first l) .args .words ≤ l .loop .word + 2
-at-most-two d = let t : tie.After-loop Inv-loop μ-loop = search in t .loop-test .left
+at-most-two d = let t : tie.After-loop Inv-loop μ-loop = search in omega (arith, t .loop-test .left)
 
 first-row-requires : tie.Need-first-row-requires Inv-loop μ-loop
 first-row-requires c κs =
