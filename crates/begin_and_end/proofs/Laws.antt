@@ -1,11 +1,11 @@
 -- The end of a training: what a run comes to, by the tests that the code makes. Assumes nothing.
 use mathlib.Core.Path.{_≡_, refl, sym, ap, _∙_}
 use mathlib.Core.Bool.{Bool, true, false, true≢false}
-use mathlib.Core.List.{List, [], _∷_, _++_}
+use mathlib.Core.List.{List, [], _∷_}
 use Prim.Native.Nat.{ℕ, _+_}
 use denote.Enum.Declared.{tagOf}
 use types.Run.{OneOf, miss}
-use lib.ListN.{drop, replicate}
+use lib.ListN.{replicate}
 use lib.Ieee.{Float}
 use Rattle.binary64.specs.Numbers.{nought, whole}
 use Rattle.lines.specs.Tables.{Model}
@@ -19,20 +19,9 @@ use Rattle.training.proofs.Visit.{the-type}
 use Rattle.lines.specs.Data.{Data}
 use Rattle.fronts.specs.Finite.{allFinite}
 use Rattle.training.specs.Rules.{Rule, averagedBy}
-use Rattle.shuffle.specs.Shuffle.{Deal, shuffled}
-use Rattle.training.specs.Epochs.{countedFrom, upTo, Settings, Run, Result, isRefused, refusedWith, averaged, finished}
+use Rattle.training.specs.Epochs.{Settings, Run, Result, isRefused, refusedWith, averaged, finished}
 use Rattle.begin_and_end.specs.declared.Ran.{Ran}
 use Rattle.begin_and_end.specs.Ending.{Finished, AveragedAs}
-
--- ---- the order
--- none of its places are set anew
-pub none-anew : (k : ℕ) (before : List ℕ) {after : List ℕ} → k ≡ 0 → after ≡ upTo k ++ drop k before → after ≡ before
-unfolding countedFrom
-none-anew k before e p = p ∙ rw e
-
--- what is shuffled is the order before
-pub shuffled-from : (state n : ℕ) {before after : List ℕ} {dealt : Deal} → after ≡ before → dealt ≡ shuffled n (record { state = state; order = after }) → dealt ≡ shuffled n (record { state = state; order = before })
-shuffled-from state n e p = rw e at p
 
 -- ---- the end
 -- a visit that is one of the two other variants was not refused

@@ -55,21 +55,11 @@ pub fn begin(
     fronts::fill(beside, features, first_beside(trainer));
 }
 
-// How many places of the order an epoch sets anew, of so many, before it is shuffled: none, since it keeps "the order of the
-// epoch before".
-fn set_anew(n: usize) -> u32
-    requires { ⌜ n ≤ most theInstances ⌝ }
-    ensures { λ r. ⌜ r ≡ 0 ⌝ }
-{
-    0
-}
-
 // An epoch begins: the order of the epoch before is shuffled. The answer is the generator's state to go on with.
 pub fn deal(state: u64, n: usize, order: &mut [u32]) -> u64
     requires { ⌜ (0 < n) × (n ≤ most theInstances) × (n ≤ length (now order)) ⌝ }
     ensures { λ r. ⌜ _≡_ {A = Deal} (record { state = r; order = now (order .exit) }) (shuffled n (record { state = state; order = now (order .entry) })) ⌝ }
 {
-    training_tables::count_up(order, set_anew(n));
     shuffle::shuffle(state, n, order)
 }
 
