@@ -6,8 +6,8 @@ use Rattle.same_scores.specs.Named.{ScoringInput}
 use Rattle.same_scores.specs.Agree.{Agree}
 use Rattle.compute_scores.specs.Promise.{Given, Buffers, Outcome, stateEntries, transitionEntries, Promised}
 
-abbrev pub inputOf : Given → ScoringInput
-inputOf given = record {
+abbrev pub scoringInputOf : Given → ScoringInput
+scoringInputOf given = record {
   model = given .model;
   weights = given .weights;
   table = given .line;
@@ -22,7 +22,7 @@ pub record SameScoreFronts (a b : Given) (x y : Outcome) : Type 0 where
 
 abbrev pub SameScores : Type 0
 SameScores =
-    (a b : Given) → Agree (inputOf a) (inputOf b) →
+    (a b : Given) → Agree (scoringInputOf a) (scoringInputOf b) →
     (before other : Buffers) (x y : Outcome) → Promised a before x → Promised b other y →
     saidOf (x .answer) ≡ accepted tt → saidOf (y .answer) ≡ accepted tt →
     SameScoreFronts a b x y

@@ -21,7 +21,7 @@ use Rattle.sheet.proofs.RowsMeant.{file-means}
 use Rattle.answer_line.specs.Line as line
 use Rattle.answer_line.specs.Line.{pathRoom}
 use Rattle.decode_sheet.specs.declared.Written.{Written}
-use Rattle.decode_sheet.specs.Answer.{pathLineOf, lineChecked}
+use Rattle.decode_sheet.specs.Answer.{pathLineOf, bufferChecked}
 use Rattle.decode_sheet.specs.Promise.{answerTo, lineAfter, Promised}
 use Rattle.decode_sheet.proofs.Rows.{Lends, rows, line-means, read-by, transitions-size, states-size, sound-in}
 
@@ -38,21 +38,21 @@ lent transitions states room = record { transitions = take room transitions; sta
 
 -- the promise, by the two answers
 module _ (bytes before : List ℕ) where
-  pub promised-refused : (why : Refusal) → lineChecked bytes (length before) ≡ Refused why → Promised (record { bytes = bytes }) before (record { answer = Written.Refused why; line = before })
+  pub promised-refused : (why : Refusal) → bufferChecked bytes (length before) ≡ Refused why → Promised (record { bytes = bytes }) before (record { answer = Written.Refused why; line = before })
   unfolding answerTo lineAfter
   promised-refused why h = record { answers = rw h; fills-line = rw h }
 
-  pub promised-path : (size : ℕ) (after : List ℕ) → lineChecked bytes (length before) ≡ Accepted → line.Written (pathLineOf bytes) before size after → Promised (record { bytes = bytes }) before (record { answer = Written.Path size; line = after })
+  pub promised-path : (size : ℕ) (after : List ℕ) → bufferChecked bytes (length before) ≡ Accepted → line.Written (pathLineOf bytes) before size after → Promised (record { bytes = bytes }) before (record { answer = Written.Path size; line = after })
   unfolding answerTo lineAfter
   promised-path size after h w = record { answers = rw (h, w .counted); fills-line = rw h (w .written) }
 
   -- a line that is accepted has its room
-  roomy : lineChecked bytes (length before) ≡ Accepted → pathRoom ≤ length before
+  roomy : bufferChecked bytes (length before) ≡ Accepted → pathRoom ≤ length before
   roomy h = file-means bytes (line-means (length before)) .accepted .0 h .1
 
 -- what a file that is read gives to the decoder
 pub record Tables (bytes before : List ℕ) (transitions states : List Float) (room labels words : ℕ) (o : reader.Outcome) : Type 0 where
-  pub accepted : lineChecked bytes (length before) ≡ Accepted
+  pub accepted : bufferChecked bytes (length before) ≡ Accepted
   pub line-long : pathRoom ≤ length before
   pub labels-are : labels ≡ labelsIn bytes
   pub words-are : words ≡ wordsIn bytes
@@ -81,7 +81,7 @@ module _ (bytes before : List ℕ) (transitions states : List Float) (room : ℕ
         states = chosen .long-states;
       }
 
-  checked : sheetChecked (record { bytes = bytes }) (lent transitions states room) ≡ lineChecked bytes (length before)
+  checked : sheetChecked (record { bytes = bytes }) (lent transitions states room) ≡ bufferChecked bytes (length before)
   checked = rows bytes (length before) (lent transitions states room) lends
 
   pub read-refused : (o : reader.Outcome) → reader.Promised (record { bytes = bytes }) (lent transitions states room) o → (why : Refusal) → o .answer ≡ Reading.Refused why → Promised (record { bytes = bytes }) before (record { answer = Written.Refused why; line = before })

@@ -14,7 +14,7 @@ use Rattle.sheet.proofs.Files.{long}
 use Rattle.answer_line.specs.Line.{pathLine, pathRoom}
 use Rattle.answer_line.proofs.OneSaying.{one-saying}
 use Rattle.sheet.proofs.Rows.{headChecked}
-use Rattle.decode_sheet.specs.Answer.{pathLineOf, lineChecked}
+use Rattle.decode_sheet.specs.Answer.{pathLineOf, bufferChecked}
 use Rattle.decode_sheet.specs.Program.{lineSaid, printedLine}
 use Rattle.decode_sheet.specs.Front.{longestSheet, LessDoesNot}
 use Rattle.decode_sheet.proofs.Prints.{prints-the-path}

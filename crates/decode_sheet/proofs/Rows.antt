@@ -26,7 +26,7 @@ use Rattle.sheet.proofs.Bytes.{length-numbers}
 use Rattle.sheet.proofs.Rows.{Accepts}
 use Rattle.sheet.proofs.RowsMeant.{same-file}
 use Rattle.answer_line.specs.Line.{pathRoom}
-use Rattle.decode_sheet.specs.Answer.{lineShort, lineChecked}
+use Rattle.decode_sheet.specs.Answer.{lineShort, bufferChecked}
 
 -- the room of the tables that are lent: none for a line that is too short
 pub record Lends (room : ℕ) (before : Lent) : Type 0 where
@@ -48,7 +48,7 @@ module _ (bytes : List ℕ) (room : ℕ) (before : Lent) (lends : Lends room bef
           rw (le-ltb _ _ h, le-ltb _ _ k, e)
 
   -- the reader's rows are the line's
-  pub rows : sheetChecked (record { bytes = bytes }) before ≡ lineChecked bytes room
+  pub rows : sheetChecked (record { bytes = bytes }) before ≡ bufferChecked bytes room
   rows = same-file bytes (tablesShort bytes before) (lineShort room) (λ b. two-row (b .labels) (b .words))
 
 -- 2 does not apply where the line has room for the longest

@@ -23,5 +23,5 @@ abbrev pub lineShort : ℕ → Checked
 lineShort room = refuse 2 0 (short room pathRoom)
 
 -- the rows of the file, 2 for the lent line
-abbrev pub lineChecked : List ℕ → ℕ → Checked
-lineChecked bytes room = fileChecked bytes (lineShort room)
+abbrev pub bufferChecked : List ℕ → ℕ → Checked
+bufferChecked bytes room = fileChecked bytes (lineShort room)

@@ -6,7 +6,7 @@ use lib.ListN.{take}
 use Rattle.viterbi.specs.Promise.{said}
 use Rattle.same_scores.specs.Agree.{Agree}
 use Rattle.compute_scores.specs.Promise.{Given}
-use Rattle.compute_scores.specs.Independent.{inputOf}
+use Rattle.compute_scores.specs.Independent.{scoringInputOf}
 use Rattle.label_line.specs.Promise.{Outcome, IsLabelled, Promised}
 
 pub record SameLabelling (a b : Given) (x y : Outcome) : Type 0 where
@@ -16,7 +16,7 @@ pub record SameLabelling (a b : Given) (x y : Outcome) : Type 0 where
 
 abbrev pub SameLabels : Type 0
 SameLabels =
-    (a b : Given) → Agree (inputOf a) (inputOf b) →
+    (a b : Given) → Agree (scoringInputOf a) (scoringInputOf b) →
     (before other : List ℕ) (x y : Outcome) → Promised a before x → Promised b other y →
     IsLabelled x → IsLabelled y →
     SameLabelling a b x y

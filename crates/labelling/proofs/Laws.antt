@@ -21,7 +21,7 @@ use Rattle.viterbi.specs.Answered.{Ready, Answered}
 use Rattle.finished.specs.Rows.{scoresFinished}
 use Rattle.finished.proofs.Meant.{both-true}
 use Rattle.fronts.specs.Cleared.{cleared}
-use Rattle.labelling.specs.Labelled.{Labelled, LabelledAt, Lent, small}
+use Rattle.labelling.specs.Labelled.{Labelled, LabelledAt, LentTables, small}
 
 module _ (labels words : ℕ) (transitions states : List Float) (before : List ℕ) {after : List ℕ} {r : Checked} (f : r ≡ scoresFinished labels words states transitions) where
   -- 8 clears the path
@@ -43,7 +43,7 @@ pub few-states : {labels words : ℕ} → LabelsIn labels → WordsIn words → 
 few-states l w = mul-le-mul (w .high) (l .high)
 
 -- tables that are lent are ready to be decoded, whatever scores the states become
-pub ready : {labels words : ℕ} {transitions states scored : List Float} {path : List ℕ} → Lent labels words transitions states path → length scored ≡ length states → Ready labels words transitions scored path
+pub ready : {labels words : ℕ} {transitions states scored : List Float} {path : List ℕ} → LentTables labels words transitions states path → length scored ≡ length states → Ready labels words transitions scored path
 ready l e = record {
   sized = record {
     labels-in = l .labels-in;

@@ -30,7 +30,7 @@ pub record LabelledAt (m : Model) (weights : List Float) (line : Words) (first w
   pub labelled : Labelled (m .labels) words transitions (statesOf m weights line first words) before answer after
 
 -- what labelling a line asks of the lent tables: the states have a table that is exactly as long as it has to be
-pub record Lent (labels words : ℕ) (transitions states : List Float) (path : List ℕ) : Type 0 where
+pub record LentTables (labels words : ℕ) (transitions states : List Float) (path : List ℕ) : Type 0 where
   pub labels-in : LabelsIn labels
   pub words-in : WordsIn words
   pub long-transitions : labels * labels ≤ length transitions

@@ -8,7 +8,7 @@ ghost use Rattle.lines.specs.Lent.{withStates};
 ghost use Rattle.lines.specs.Sound.{SoundStates, SoundLists, SoundWords};
 ghost use Rattle.viterbi.specs.Answered.{Ready};
 ghost use Rattle.score_tables.specs.Sound.{LabelsIn, WordsIn};
-ghost use Rattle.labelling.specs.Labelled.{Labelled, LabelledAt, Lent, small};
+ghost use Rattle.labelling.specs.Labelled.{Labelled, LabelledAt, LentTables, small};
 use refusals::Checked;
 use viterbi::Decoding;
 
@@ -68,7 +68,7 @@ pub fn label_at(
     requires { ⌜ SoundStates labels features (now kinds) (now destinations) (now weights) ⌝ }
     requires { ⌜ SoundLists lists (now starts) (now entries) features ⌝ }
     requires { ⌜ SoundWords (first + words) (now begins) (now ids) (now values) ⌝ }
-    requires { ⌜ Lent labels words (now transitions) (now states) (now path) ⌝ }
+    requires { ⌜ LentTables labels words (now transitions) (now states) (now path) ⌝ }
     ensures { λ r.
         let w = now (weights .entry) in
         ⌜ ((rest : Model) (size : ℕ) →

@@ -62,7 +62,7 @@ module _ {A B C D E F : Type 0} where
   dataWas sizes = entry.dataWas (totalsIn sizes)
 
 -- one instance: its words, from the word `first` on, and its reference labels
-pub record SoundLine (labels : ℕ) (words : Words) (first count : ℕ) (references : List ℕ) : Type 0 where
+pub record SoundInstance (labels : ℕ) (words : Words) (first count : ℕ) (references : List ℕ) : Type 0 where
   pub sized : WordsIn count
   pub worded : SoundWords (first + count) (words .starts) (words .ids) (words .values)
   pub referenced : length references ≡ count

@@ -4,7 +4,7 @@ ghost use Prim.Native.Nat.{_*_, _≤_};
 ghost use lib.ListN.{length};
 ghost use Rattle.lines.specs.Scored.{statesOf, transitionsOf};
 ghost use Rattle.feature_gen.specs.Sound.{SoundModel};
-ghost use Rattle.prediction.specs.Tables.{modelAt, modelWas, wordsAt, wordsWas, SoundLine};
+ghost use Rattle.prediction.specs.Tables.{modelAt, modelWas, wordsAt, wordsWas, SoundInstance};
 ghost use Rattle.judging.specs.Judged.{Judged};
 use judging::Prediction;
 
@@ -43,7 +43,7 @@ fn predict_in(
     path: &mut [u32],
 ) -> Prediction
     requires { ⌜ SoundModel (modelAt sizes kinds destinations sources starts entries «label_starts» «label_entries») ⌝ }
-    requires { ⌜ SoundLine (sizes .labels) (wordsAt sizes begins ids values) first words (now references) ⌝ }
+    requires { ⌜ SoundInstance (sizes .labels) (wordsAt sizes begins ids values) first words (now references) ⌝ }
     requires { ⌜ (length (now weights) ≡ sizes .features) × (length (now path) ≡ words) ⌝ }
     requires { ⌜ (length (now transitions) ≡ sizes .labels * sizes .labels) × (length (now states) ≡ words * sizes .labels) ⌝ }
     ensures { λ r.
@@ -107,7 +107,7 @@ fn predict_short(
     path: &mut [u32],
 ) -> Prediction
     requires { ⌜ SoundModel (modelAt sizes kinds destinations sources starts entries «label_starts» «label_entries») ⌝ }
-    requires { ⌜ SoundLine (sizes .labels) (wordsAt sizes begins ids values) first words (now references) ⌝ }
+    requires { ⌜ SoundInstance (sizes .labels) (wordsAt sizes begins ids values) first words (now references) ⌝ }
     requires { ⌜ (length (now weights) ≡ sizes .features) × (length (now path) ≡ words) ⌝ }
     requires { ⌜ (sizes .labels * sizes .labels ≤ 256) × (words * sizes .labels ≤ 256) ⌝ }
     ensures { λ r.
@@ -162,7 +162,7 @@ fn predict_long(
     path: &mut [u32],
 ) -> Prediction
     requires { ⌜ SoundModel (modelAt sizes kinds destinations sources starts entries «label_starts» «label_entries») ⌝ }
-    requires { ⌜ SoundLine (sizes .labels) (wordsAt sizes begins ids values) first words (now references) ⌝ }
+    requires { ⌜ SoundInstance (sizes .labels) (wordsAt sizes begins ids values) first words (now references) ⌝ }
     requires { ⌜ (length (now weights) ≡ sizes .features) × (length (now path) ≡ words) ⌝ }
     ensures { λ r.
         let m = modelWas sizes kinds destinations sources starts entries «label_starts» «label_entries» in
@@ -216,7 +216,7 @@ pub fn predict(
     path: &mut [u32],
 ) -> Prediction
     requires { ⌜ SoundModel (modelAt sizes kinds destinations sources starts entries «label_starts» «label_entries») ⌝ }
-    requires { ⌜ SoundLine (sizes .labels) (wordsAt sizes begins ids values) first words (now references) ⌝ }
+    requires { ⌜ SoundInstance (sizes .labels) (wordsAt sizes begins ids values) first words (now references) ⌝ }
     requires { ⌜ (length (now weights) ≡ sizes .features) × (length (now path) ≡ words) ⌝ }
     ensures { λ r.
         let m = modelWas sizes kinds destinations sources starts entries «label_starts» «label_entries» in

@@ -14,7 +14,7 @@ use Rattle.binary64.specs.Numbers.{nought}
 use Rattle.training.specs.declared.Visit.{Visit}
 use Rattle.training.specs.Epochs.{isRefused}
 use Rattle.training.specs.Accepted.{isUpdated, howMany, ends}
-use Rattle.training.specs.Reached.{EightAt, NineAt, FiniteThroughout}
+use Rattle.training.specs.Reached.{EightAtVisit, NineAt, FiniteThroughout}
 use Rattle.score_tables.specs.Sound.{LabelsIn}
 use Rattle.refusal_rows.specs.Limits.{Fitting}
 use Rattle.refusal_rows.specs.Tests.{FirstBadOf}
@@ -79,7 +79,7 @@ RefusedTrue =
 
 -- which visit 8 is given for, of which instance, from which state, and what is not finite in it: the place is "visits done"
 abbrev pub EightFor : Method → Given → ℕ → Type 0
-EightFor method given place = EightAt (ruleFor method) (settingsFor method) (given .model) (given .corpus) place
+EightFor method given place = EightAtVisit (ruleFor method) (settingsFor method) (given .model) (given .corpus) place
 
 -- and 9: "visits done before it; all visits for the averaging"
 abbrev pub NineFor : Method → Given → ℕ → Type 0

@@ -38,7 +38,7 @@ pub record Agreed (made meant : TrainingState) : Type 0 where
   pub whole : isRefused (meant .progress .visit) ≡ false → made ≡ meant
 
 -- the counters rise by one visit at most
-pub record Counted (before after : Progress) : Type 0 where
+pub record VisitCounted (before after : Progress) : Type 0 where
   pub visits : after .visits ≤ before .visits + 1
   pub updates : after .updates ≤ after .visits
 

@@ -14,7 +14,7 @@ ghost use Rattle.updates.specs.Looked.{looked};
 ghost use lib.ListN.{length};
 ghost use Rattle.binary64.specs.Numbers.{whole};
 ghost use Rattle.training_tables.specs.Tables.{Held, Updated};
-ghost use Rattle.updates.specs.Updating.{learnedAs, stateOf, mistakeWith, Agreed, Counted, settled};
+ghost use Rattle.updates.specs.Updating.{learnedAs, stateOf, mistakeWith, Agreed, VisitCounted, settled};
 use judging::Prediction;
 use parameters::Trainer;
 use training::Progress;
@@ -217,7 +217,7 @@ pub fn learn(
         let k = mistakeWith words p (now (truly .entry)) (now (predicted .entry)) weight (whole (s .visits + 1)) in
         let before = stateOf s (now (weights .entry)) (now (beside .entry)) in
         ⌜ Agreed (stateOf r (now (weights .exit)) (now (beside .exit))) (settled (ruleOf trainer) features k before) ⌝ }
-    ensures { λ r. ⌜ Counted s r ⌝ }
+    ensures { λ r. ⌜ VisitCounted s r ⌝ }
 {
     let visits = s.visits + 1;
     let counter = visits as f64;

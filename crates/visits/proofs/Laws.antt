@@ -25,17 +25,17 @@ use Rattle.training.specs.Rules.{Rule, Learned, Mistake}
 use Rattle.training.specs.Visits.{TrainingState, refusedAs, unchanged, corrected, compared, visited}
 use Rattle.judging.specs.declared.Prediction.{Prediction}
 use Rattle.training_check.specs.Sound.{SoundData}
-use Rattle.prediction.specs.Tables.{SoundLine}
+use Rattle.prediction.specs.Tables.{SoundInstance}
 use Rattle.judging.specs.Judged.{Judged}
 use Rattle.updates.specs.declared.Found.the-variants.{Ended, Differ}
 use Rattle.updates.specs.Looked.{looked}
 use Rattle.updates.proofs.Looked.{never, same-step, ended, differs}
-use Rattle.updates.specs.Updating.{Agreed, Counted, settled}
+use Rattle.updates.specs.Updating.{Agreed, VisitCounted, settled}
 use Rattle.updates.proofs.Laws.{exactly, refused, refused-counted, unchanged-counted}
 use Rattle.visits.specs.Visitable.{mistakeOf}
 
 -- a visit that ends before it learns is counted once at most
-pub ended-counted : (s r : Progress) (scored agree : Bool) → ((l : Learned) → looked scored agree (record { progress = s; learned = l }) ≡ Ended r) → s .updates ≤ s .visits → Counted s r
+pub ended-counted : (s r : Progress) (scored agree : Bool) → ((l : Learned) → looked scored agree (record { progress = s; learned = l }) ≡ Ended r) → s .updates ≤ s .visits → VisitCounted s r
 unfolding looked
 ended-counted s r false agree e h = refused-counted 8 s r (λ l. same-step (e l)) h
 ended-counted s r true true e h = unchanged-counted s r (λ l. same-step (e l)) h
@@ -59,7 +59,7 @@ module _ (d : Data) (i first end : ℕ) (f : first ≡ getD (d .starts) i 0) (g 
     pub all-words : end ≤ d .count
     all-words = omega (arith, v .within i h, v .sized i h .low, f, g)
 
-    pub line-sound : SoundLine labels (d .words) first (end - first) (take (end - first) (drop first (d .references)))
+    pub line-sound : SoundInstance labels (d .words) first (end - first) (take (end - first) (drop first (d .references)))
     line-sound =
         let some = some-words in
         let within = all-words in

@@ -14,7 +14,7 @@ use Rattle.training.specs.Rules.{Mistake}
 use Rattle.training_check.specs.Sound.{SoundData}
 use Rattle.judging.specs.declared.Prediction.{Prediction}
 use Rattle.prediction.specs.declared.Sizes.{Sizes}
-use Rattle.prediction.specs.Tables.{SoundLine}
+use Rattle.prediction.specs.Tables.{SoundInstance}
 use Rattle.updates.specs.Updating.{mistakeWith, Exact}
 
 -- the visit of instance i: its tables, and room for one visit more
@@ -29,7 +29,7 @@ pub record Visitable (sizes : Sizes) (m : Model) (d : Data) (i : ℕ) (s : Progr
 -- and where labels differ: the words of the instance, its predicted path, and no more wrong labels than a line may have words
 pub record Correctable (sizes : Sizes) (m : Model) (w : Words) (first words : ℕ) (references path : List ℕ) (p : Prediction) (s : Progress) (weights beside truly predicted : List Float) : Type 0 where
   pub model : SoundModel m
-  pub line : SoundLine (sizes .labels) w first words references
+  pub line : SoundInstance (sizes .labels) w first words references
   pub exact : Exact (sizes .features) weights beside truly predicted
   pub path-long : length path ≡ words
   pub few : p .wrong ≤ 128

@@ -3,7 +3,7 @@
 ghost use Rattle.training.specs.Visits.{visited};
 ghost use Rattle.prediction.specs.Tables.{modelAt, modelWas, wordsAt, wordsWas, dataAt, dataWas};
 ghost use Rattle.parameters.specs.Trainers.{ruleOf};
-ghost use Rattle.updates.specs.Updating.{stateOf, Agreed, Counted, settled};
+ghost use Rattle.updates.specs.Updating.{stateOf, Agreed, VisitCounted, settled};
 ghost use Rattle.visits.specs.Visitable.{Visitable, Correctable, mistakeOf};
 use judging::Prediction;
 use parameters::Trainer;
@@ -46,7 +46,7 @@ fn correct(
         let k = mistakeOf m w first words (now (references .entry)) (now (path .entry)) p weight (s .visits) in
         let before = stateOf s (now (weights .entry)) (now (beside .entry)) in
         ⌜ Agreed (stateOf r (now (weights .exit)) (now (beside .exit))) (settled (ruleOf trainer) (sizes .features) k before) ⌝ }
-    ensures { λ r. ⌜ Counted s r ⌝ }
+    ensures { λ r. ⌜ VisitCounted s r ⌝ }
 {
     let features = sizes.features;
     extract_features::count_line(
@@ -133,7 +133,7 @@ pub fn visit(
         let d = dataWas sizes lines begins ids values references shares in
         let before = stateOf s (now (weights .entry)) (now (beside .entry)) in
         ⌜ Agreed (stateOf r (now (weights .exit)) (now (beside .exit))) (visited (ruleOf trainer) m d i before) ⌝ }
-    ensures { λ r. ⌜ Counted s r ⌝ }
+    ensures { λ r. ⌜ VisitCounted s r ⌝ }
 {
     let first = lines::at(lines, i);
     let end = lines::at(lines, i + 1);

@@ -158,21 +158,18 @@ train-requires c κs =
     let e = accepted z in
     let g : tie.After-settings-of = search in
     let allowed = ap (λ x. x .epochs) (g .settings-of .ensures) in
-    rw (z .sizes-of .ensures) (
-      relied e .sound .model,
-      (
-        relied e .sound .corpus,
-        (
-          record {
-            weights-long = front-long _ _ (room e .weights);
-            beside-long = front-long _ _ (room e .beside);
-            truly-long = front-long _ _ (room e .truly);
-            predicted-long = front-long _ _ (room e .predicted);
-          },
-          (omega (arith, relied e .few, allowed), front-long _ _ (room e .order)),
-        ),
-      ),
-    )
+    rw (z .sizes-of .ensures) (record {
+      model = relied e .sound .model;
+      corpus = relied e .sound .corpus;
+      exact = record {
+        weights-long = front-long _ _ (room e .weights);
+        beside-long = front-long _ _ (room e .beside);
+        truly-long = front-long _ _ (room e .truly);
+        predicted-long = front-long _ _ (room e .predicted);
+      };
+      few = omega (arith, relied e .few, allowed);
+      order-long = front-long _ _ (room e .order);
+    })
 
 same-length : tie.Need-same-length
 same-length c = search length-front
