@@ -13,6 +13,7 @@ use Rattle.refusals.specs.Refusals.{refuse, orNext, sooner, firstFrom}
 use Rattle.refusals.specs.Tables.{short}
 use Rattle.score_tables.specs.Rows.{one}
 use Rattle.refusal_rows.specs.Limits.{Limit, room, anyBroken, AllWithin}
+use Rattle.refusals.specs.Bounds.{weightTable}
 use Rattle.refusal_rows.specs.Tests.{numbersFinite, checks}
 use Rattle.refusal_rows.proofs.Means.{broken-parts, within-parts}
 use Rattle.refusal_rows.proofs.Parts.{joined, same-limits, as-rows, two-parts, part-stopped, part-within, part-answered}
@@ -80,14 +81,14 @@ module _ (features : ℕ) (weights : List Float) where
 
   pub weights-stopped : {sizes : Checked} (why : Refusal) → sizes ≡ refuse 2 0 (short (length weights) features) → sizes ≡ Refused why → Refused why ≡ weightsChecked features weights
   unfolding weightsChecked
-  weights-stopped why e h = part-stopped weight-room (numbersFinite weights features ∷ []) why e h
+  weights-stopped why e h = part-stopped weight-room (numbersFinite weightTable weights features ∷ []) why e h
 
   pub weights-sized : {sizes : Checked} → sizes ≡ refuse 2 0 (short (length weights) features) → sizes ≡ Accepted → features ≤ length weights
-  weights-sized e h = part-within weight-room (numbersFinite weights features ∷ []) e h .0
+  weights-sized e h = part-within weight-room (numbersFinite weightTable weights features ∷ []) e h .0
 
-  pub weights-answered : {sizes r : Checked} → sizes ≡ refuse 2 0 (short (length weights) features) → r ≡ firstFrom sizes (checks (numbersFinite weights features ∷ [])) → r ≡ weightsChecked features weights
+  pub weights-answered : {sizes r : Checked} → sizes ≡ refuse 2 0 (short (length weights) features) → r ≡ firstFrom sizes (checks (numbersFinite weightTable weights features ∷ [])) → r ≡ weightsChecked features weights
   unfolding weightsChecked
-  weights-answered e f = part-answered weight-room (numbersFinite weights features ∷ []) e f
+  weights-answered e f = part-answered weight-room (numbersFinite weightTable weights features ∷ []) e f
 
 -- ---- both
 

@@ -5,7 +5,7 @@ use lib.ListN.{length}
 use lib.Ieee.{Float}
 use Rattle.refusals.specs.declared.Checked.{Checked}
 use Rattle.refusals.specs.Refusals.{first}
-use Rattle.refusals.specs.Bounds.{theFeatures, theAttributeLists, theLabelLists, theAttributeEntries, theLabelEntries}
+use Rattle.refusals.specs.Bounds.{theFeatures, theAttributeLists, theLabelLists, theAttributeEntries, theLabelEntries, kindTable, destinationTable, sourceTable, weightTable, attributeListTable, labelListTable}
 use Rattle.score_tables.specs.Rows.{one}
 use Rattle.refusal_rows.specs.Limits.{Limit, count, room, two}
 use Rattle.refusal_rows.specs.Tests.{Test, startsRise, kindsKnown, idsBelow, sourcesBelow, numbersFinite, checks}
@@ -64,23 +64,23 @@ weightedRooms m weights = weightedTableRooms (m .features) weights (m .attribute
 -- 3 | "a rule of starts is broken" | "index of the first bad start"
 abbrev pub startTests : Model → List Test
 startTests m =
-    startsRise (m .attributeLists .starts) (m .attributeLists .count) (m .attributeLists .size)
-    ∷ startsRise (m .labelLists .starts) (m .labelLists .count) (m .labelLists .size)
+    startsRise attributeListTable (m .attributeLists .starts) (m .attributeLists .count) (m .attributeLists .size)
+    ∷ startsRise labelListTable (m .labelLists .starts) (m .labelLists .count) (m .labelLists .size)
     ∷ []
 
 -- 5 | "kind not 0 or 1, destination at or above L, Transition source at or above L" | "index in its table"
 abbrev pub featureTests : ℕ → Features → List Test
 featureTests labels features =
-    kindsKnown (features .kinds) (features .count)
-    ∷ idsBelow (features .destinations) (features .count) labels
-    ∷ sourcesBelow (features .kinds) (features .sources) (features .count) labels
+    kindsKnown kindTable (features .kinds) (features .count)
+    ∷ idsBelow destinationTable (features .destinations) (features .count) labels
+    ∷ sourcesBelow sourceTable (features .kinds) (features .sources) (features .count) labels
     ∷ []
 
 -- 5 | "list id at or above F" | "index in its table"
 abbrev pub entryTests : Model → List Test
 entryTests m =
-    idsBelow (m .attributeLists .entries) (m .attributeLists .size) (m .features .count)
-    ∷ idsBelow (m .labelLists .entries) (m .labelLists .size) (m .features .count)
+    idsBelow attributeListTable (m .attributeLists .entries) (m .attributeLists .size) (m .features .count)
+    ∷ idsBelow labelListTable (m .labelLists .entries) (m .labelLists .size) (m .features .count)
     ∷ []
 
 -- 5, in order: "feature kinds, destinations, sources ..; attribute lists; label lists"
@@ -89,7 +89,7 @@ idTests m = featureTests (m .labels) (m .features) ++ entryTests m
 
 -- 6 | "a weight .. not finite" | "index in its table"
 abbrev pub weightTests : Model → List Float → List Test
-weightTests m weights = numbersFinite weights (m .features .count) ∷ []
+weightTests m weights = numbersFinite weightTable weights (m .features .count) ∷ []
 
 -- "The lowest number wins": 1, 2 of the counts, 2 of the rooms, 3, 5, 6
 unfoldable pub modelChecked : Model → List Float → Checked
@@ -119,7 +119,7 @@ tablesChecked m = partChecked (tableLimits m) (tableTests m)
 
 -- 2 and 6 of a weight for each feature
 unfoldable pub weightsChecked : ℕ → List Float → Checked
-weightsChecked features weights = partChecked (room (length weights) features ∷ []) (numbersFinite weights features ∷ [])
+weightsChecked features weights = partChecked (room (length weights) features ∷ []) (numbersFinite weightTable weights features ∷ [])
 
 -- of both
 abbrev pub weightedLimits : Model → List Float → List Limit

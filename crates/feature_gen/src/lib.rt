@@ -6,6 +6,7 @@ ghost use Prim.Native.Nat.{_<_, _≤_};
 ghost use lib.ListN.{length};
 ghost use Rattle.refusals.specs.Refusals.{firstFrom};
 ghost use Rattle.refusal_rows.specs.Limits.{anyBroken};
+ghost use Rattle.refusals.specs.Bounds.{attributeListTable, labelListTable};
 ghost use Rattle.refusal_rows.specs.Tests.{startsRise, idsBelow, checks};
 ghost use Rattle.feature_gen.specs.Rows.{countLimits, featureRooms, listRooms, featureTests};
 ghost use Rattle.feature_gen.specs.Rows.{tablesSized, tablesChecked, weightsChecked, weightedChecked};
@@ -79,7 +80,7 @@ fn check_starts(
 ) -> Checked
     requires { ⌜ counts .«attribute_lists» < length (now «attribute_starts») ⌝ }
     requires { ⌜ counts .«label_lists» < length (now «label_starts») ⌝ }
-    ensures { λ r. ⌜ r ≡ firstFrom answer (checks (startsRise (now («attribute_starts» .entry)) (counts .«attribute_lists») (counts .«attribute_entries») ∷ startsRise (now («label_starts» .entry)) (counts .«label_lists») (counts .«label_entries») ∷ [])) ⌝ }
+    ensures { λ r. ⌜ r ≡ firstFrom answer (checks (startsRise attributeListTable (now («attribute_starts» .entry)) (counts .«attribute_lists») (counts .«attribute_entries») ∷ startsRise labelListTable (now («label_starts» .entry)) (counts .«label_lists») (counts .«label_entries») ∷ [])) ⌝ }
 {
     let attributes = counts.attribute_lists as usize;
     let labels = counts.label_lists as usize;
@@ -121,7 +122,7 @@ fn check_entries(
 ) -> Checked
     requires { ⌜ counts .«attribute_entries» ≤ length (now «attribute_entries») ⌝ }
     requires { ⌜ counts .«label_entries» ≤ length (now «label_entries») ⌝ }
-    ensures { λ r. ⌜ r ≡ firstFrom answer (checks (idsBelow (now («attribute_entries» .entry)) (counts .«attribute_entries») (counts .features) ∷ idsBelow (now («label_entries» .entry)) (counts .«label_entries») (counts .features) ∷ [])) ⌝ }
+    ensures { λ r. ⌜ r ≡ firstFrom answer (checks (idsBelow attributeListTable (now («attribute_entries» .entry)) (counts .«attribute_entries») (counts .features) ∷ idsBelow labelListTable (now («label_entries» .entry)) (counts .«label_entries») (counts .features) ∷ [])) ⌝ }
 {
     let attributes = counts.attribute_entries as usize;
     let labels = counts.label_entries as usize;

@@ -11,7 +11,7 @@ use Rattle.refusals.specs.declared.Checked.{Checked}
 use Rattle.refusals.specs.declared.Checked.the-variants.{Accepted, Refused}
 use Rattle.refusals.specs.Refusals.{orNext, sooner, firstFrom, refuse}
 use Rattle.refusals.specs.Tables.{short}
-use Rattle.refusals.specs.Bounds.{theAttributes, most}
+use Rattle.refusals.specs.Bounds.{theAttributes, most, attributeTable, referenceTable}
 use Rattle.score_tables.specs.Rows.{boundsChecked}
 use Rattle.refusal_rows.specs.Limits.{Limit, count, room, anyBroken, two, AllWithin, Fitting}
 use Rattle.refusal_rows.specs.Tests.{startsRise, idsBelow, checks}
@@ -45,7 +45,7 @@ module _ (words : ℕ) (line : Words) where
       let w = part-within (lineLimits words line) (lineTests words line) e h in
       line-sized words line (w .0) (w .1)
 
-  pub line-answered : {sizes three r : Checked} → sizes ≡ lineSized words line → three ≡ firstFrom sizes (checks (startsRise (line .starts) words (line .size) ∷ [])) →
+  pub line-answered : {sizes three r : Checked} → sizes ≡ lineSized words line → three ≡ firstFrom sizes (checks (startsRise attributeTable (line .starts) words (line .size) ∷ [])) →
       r ≡ firstFrom three (checks (valueTests line)) → r ≡ lineChecked words line
   unfolding lineSized lineChecked
   line-answered a b c = part-answered (lineLimits words line) (lineTests words line) a (rw (c, b))
@@ -58,14 +58,14 @@ module _ (labels words : ℕ) (path : List ℕ) where
 
   pub labels-stopped : {sizes : Checked} (why : Refusal) → sizes ≡ refuse 2 0 (short (length path) words) → sizes ≡ Refused why → Refused why ≡ labelsChecked labels words path
   unfolding labelsChecked
-  labels-stopped why e h = part-stopped path-room (idsBelow path words labels ∷ []) why e h
+  labels-stopped why e h = part-stopped path-room (idsBelow referenceTable path words labels ∷ []) why e h
 
   pub labels-room : {sizes : Checked} → sizes ≡ refuse 2 0 (short (length path) words) → sizes ≡ Accepted → words ≤ length path
-  labels-room e h = part-within path-room (idsBelow path words labels ∷ []) e h .0
+  labels-room e h = part-within path-room (idsBelow referenceTable path words labels ∷ []) e h .0
 
-  pub labels-answered : {sizes r : Checked} → sizes ≡ refuse 2 0 (short (length path) words) → r ≡ firstFrom sizes (checks (idsBelow path words labels ∷ [])) → r ≡ labelsChecked labels words path
+  pub labels-answered : {sizes r : Checked} → sizes ≡ refuse 2 0 (short (length path) words) → r ≡ firstFrom sizes (checks (idsBelow referenceTable path words labels ∷ [])) → r ≡ labelsChecked labels words path
   unfolding labelsChecked
-  labels-answered e f = part-answered path-room (idsBelow path words labels ∷ []) e f
+  labels-answered e f = part-answered path-room (idsBelow referenceTable path words labels ∷ []) e f
 
 -- ---- a line under a model with weights, and buffers that a call tests behind them
 

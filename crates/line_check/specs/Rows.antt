@@ -5,7 +5,7 @@ use lib.ListN.{length}
 use lib.Ieee.{Float}
 use Rattle.refusals.specs.declared.Checked.{Checked}
 use Rattle.refusals.specs.Refusals.{first}
-use Rattle.refusals.specs.Bounds.{theAttributes}
+use Rattle.refusals.specs.Bounds.{theAttributes, attributeTable, referenceTable}
 use Rattle.score_tables.specs.Rows.{one, four}
 use Rattle.refusal_rows.specs.Limits.{Limit, count, room, two}
 use Rattle.refusal_rows.specs.Tests.{Test, startsRise, idsBelow, numbersFinite, checks}
@@ -81,17 +81,17 @@ countingRooms c =
 -- ---- 3 | "a rule of starts is broken" | "index of the first bad start": attribute lists, label lists, then the line's attributes
 
 abbrev pub lineStarts : Model → ℕ → List ℕ → ℕ → List Test
-lineStarts m words starts attributes = startTests m ++ startsRise starts words attributes ∷ []
+lineStarts m words starts attributes = startTests m ++ startsRise attributeTable starts words attributes ∷ []
 
 -- ---- 5 | "label at or above L" | "index in its table", after the model's own rows
 
 abbrev pub labelTests : Counting → List Test
-labelTests c = idsBelow (c .path) (c .words) (c .model .labels) ∷ []
+labelTests c = idsBelow referenceTable (c .path) (c .words) (c .model .labels) ∷ []
 
 -- ---- 6 | "a weight, value .. not finite" | "index in its table"
 
 abbrev pub valueTests : Words → List Test
-valueTests line = numbersFinite (line .values) (line .size) ∷ []
+valueTests line = numbersFinite attributeTable (line .values) (line .size) ∷ []
 
 -- ---- the order: "a call that takes T as a number tests 4 right after 1"
 
@@ -124,7 +124,7 @@ abbrev pub lineLimits : ℕ → Words → List Limit
 lineLimits words line = count theAttributes (line .size) ∷ lineRooms words line
 
 abbrev pub lineTests : ℕ → Words → List Test
-lineTests words line = startsRise (line .starts) words (line .size) ∷ valueTests line
+lineTests words line = startsRise attributeTable (line .starts) words (line .size) ∷ valueTests line
 
 unfoldable pub lineSized : ℕ → Words → Checked
 lineSized words line = two (lineLimits words line)
@@ -134,4 +134,4 @@ lineChecked words line = partChecked (lineLimits words line) (lineTests words li
 
 -- 2 and 5 of a label for each of so many words
 unfoldable pub labelsChecked : ℕ → ℕ → List ℕ → Checked
-labelsChecked labels words path = partChecked (room (length path) words ∷ []) (idsBelow path words labels ∷ [])
+labelsChecked labels words path = partChecked (room (length path) words ∷ []) (idsBelow referenceTable path words labels ∷ [])

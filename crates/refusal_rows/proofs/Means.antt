@@ -106,12 +106,12 @@ fitting table n g i l = record {
 }
 
 pub test-means : (test : Test) → Exactly (checked test) (numberOf test) (places test) (Bad test)
-test-means (startsRise table n entries) = starts-mean table n entries
+test-means (startsRise which table n entries) = starts-mean table n entries
 test-means (linesFit table n) = lengths-mean table n
-test-means (kindsKnown table n) = kinds-mean table n
-test-means (idsBelow table n bound) = ids-mean table n bound
-test-means (sourcesBelow kinds table n labels) = sources-mean kinds table n labels
-test-means (numbersFinite table n) = numbers-mean table n
+test-means (kindsKnown which table n) = kinds-mean table n
+test-means (idsBelow which table n bound) = ids-mean table n bound
+test-means (sourcesBelow which kinds table n labels) = sources-mean kinds table n labels
+test-means (numbersFinite which table n) = numbers-mean table n
 
 -- every test has this number
 abbrev pub Numbered : ℕ → List Test → Type 0

@@ -40,12 +40,12 @@ same-checks (test ∷ tests) = ap (λ (rest : List Checked). checked test ∷ re
 -- 2 comes before every test
 behind-two : (tests : List Test) → T (noneBelow numberOf checked 3 tests)
 behind-two [] = tt
-behind-two (startsRise table n entries ∷ tests) = behind-two tests
+behind-two (startsRise which table n entries ∷ tests) = behind-two tests
 behind-two (linesFit table n ∷ tests) = behind-two tests
-behind-two (kindsKnown table n ∷ tests) = behind-two tests
-behind-two (idsBelow table n bound ∷ tests) = behind-two tests
-behind-two (sourcesBelow kinds table n labels ∷ tests) = behind-two tests
-behind-two (numbersFinite table n ∷ tests) = behind-two tests
+behind-two (kindsKnown which table n ∷ tests) = behind-two tests
+behind-two (idsBelow which table n bound ∷ tests) = behind-two tests
+behind-two (sourcesBelow which kinds table n labels ∷ tests) = behind-two tests
+behind-two (numbersFinite which table n ∷ tests) = behind-two tests
 
 above-two : (limits : List Limit) (tests : List Test) (x y : Refusal) → two limits ≡ Refused x → soonestOf tests ≡ Refused y → rank x < rank y
 above-two limits tests x y h k =

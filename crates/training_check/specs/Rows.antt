@@ -4,7 +4,7 @@ use Prim.Native.Nat.{ℕ, _+_}
 use lib.ListN.{length}
 use Rattle.refusals.specs.declared.Checked.{Checked}
 use Rattle.refusals.specs.Refusals.{first}
-use Rattle.refusals.specs.Bounds.{theInstances, theWords, theAttributes}
+use Rattle.refusals.specs.Bounds.{theInstances, theWords, theAttributes, wordTable, attributeTable, referenceTable, instanceWeightTable}
 use Rattle.score_tables.specs.Rows.{one}
 use Rattle.refusal_rows.specs.Limits.{Limit, count, room, two}
 use Rattle.refusal_rows.specs.Tests.{Test, startsRise, linesFit, idsBelow, numbersFinite, checks}
@@ -73,8 +73,8 @@ inputRooms g =
 abbrev pub inputStarts : Input → List Test
 inputStarts g =
     startTests (g .model)
-    ++ (startsRise (g .corpus .starts) (g .corpus .instances) (g .corpus .count)
-    ∷ startsRise (g .corpus .words .starts) (g .corpus .count) (g .corpus .words .size)
+    ++ (startsRise wordTable (g .corpus .starts) (g .corpus .instances) (g .corpus .count)
+    ∷ startsRise attributeTable (g .corpus .words .starts) (g .corpus .count) (g .corpus .words .size)
     ∷ [])
 
 -- ---- 4 | "a T outside 1 to 128" | "instance index"
@@ -85,12 +85,12 @@ lengthTests d = linesFit (d .starts) (d .instances) ∷ []
 -- ---- 5 | ".. label at or above L" | "index in its table": after the model's own rows the reference labels
 
 abbrev pub inputIds : Input → List Test
-inputIds g = idTests (g .model) ++ idsBelow (g .corpus .references) (g .corpus .count) (g .model .labels) ∷ []
+inputIds g = idTests (g .model) ++ idsBelow referenceTable (g .corpus .references) (g .corpus .count) (g .model .labels) ∷ []
 
 -- ---- 6 | "a .. value, instance weight .. not finite" | "index in its table": "attributes; .. instance weights"
 
 abbrev pub inputNumbers : Data → List Test
-inputNumbers d = valueTests (d .words) ++ numbersFinite (d .weights) (d .instances) ∷ []
+inputNumbers d = valueTests (d .words) ++ numbersFinite instanceWeightTable (d .weights) (d .instances) ∷ []
 
 -- ---- the order: "The lowest number wins"
 
@@ -140,7 +140,7 @@ instanceLimits instances words starts =
 
 abbrev pub instanceTests : ℕ → ℕ → List ℕ → List Test
 instanceTests instances words starts =
-    startsRise starts instances words
+    startsRise wordTable starts instances words
     ∷ linesFit starts instances
     ∷ []
 
@@ -160,10 +160,10 @@ dataLimits d =
 
 abbrev pub dataTests : ℕ → Data → List Test
 dataTests labels d =
-    startsRise (d .starts) (d .instances) (d .count)
-    ∷ startsRise (d .words .starts) (d .count) (d .words .size)
+    startsRise wordTable (d .starts) (d .instances) (d .count)
+    ∷ startsRise attributeTable (d .words .starts) (d .count) (d .words .size)
     ∷ linesFit (d .starts) (d .instances)
-    ∷ idsBelow (d .references) (d .count) labels
+    ∷ idsBelow referenceTable (d .references) (d .count) labels
     ∷ inputNumbers d
 
 unfoldable pub dataChecked : ℕ → Data → Checked
