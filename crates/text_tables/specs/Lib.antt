@@ -1,5 +1,8 @@
--- To read in this order: names by first appearance; the tables of a text; the pieces that a text is read in.
+-- To read in this order: names by first appearance; the tables of a text; the pieces that a text is read in, and what a pass over them
+-- counts; what is written of tables; desk cases.
 pub mod Distinct
 pub mod Tables
 pub mod Pieces
+pub mod Tally
+pub mod Written
 pub mod Examples

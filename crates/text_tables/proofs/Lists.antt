@@ -1,0 +1,69 @@
+-- Laws of lists that tables are made by: one behind the other, flat, starts. Assumes nothing.
+use mathlib.Core.Path.{_≡_, refl, sym, ap, _∙_}
+use mathlib.Core.List.{List, [], _∷_, _++_, map, flatten, append-assoc, append-nil}
+use Prim.Native.Nat.{ℕ, zero, suc, _+_, _≤_, _<_}
+use native.Mathlib.Nat.{add-assoc, add-zero, zero-add}
+use lib.ListN.{length, drop, set, length-append, length-map}
+use Rattle.text_tables.specs.Tables.{startsFrom}
+use Rattle.text_tables.specs.Pieces.{folded}
+
+-- ---- one list behind another
+pub map-append : {A B : Type 0} (f : A → B) (xs ys : List A) → map f (xs ++ ys) ≡ map f xs ++ map f ys
+map-append f [] ys = refl
+map-append {B = B} f (x ∷ xs) ys = ap (λ (zs : List B). f x ∷ zs) (map-append f xs ys)
+
+pub flatten-append : {A : Type 0} (xs ys : List (List A)) → flatten (xs ++ ys) ≡ flatten xs ++ flatten ys
+unfolding flatten
+flatten-append [] ys = refl
+flatten-append {A} (x ∷ xs) ys = ap (λ (zs : List A). x ++ zs) (flatten-append xs ys) ∙ sym (append-assoc x (flatten xs) (flatten ys))
+
+pub flatten-one : {A : Type 0} (xs : List A) → flatten (xs ∷ []) ≡ xs
+unfolding flatten
+flatten-one xs = append-nil xs
+
+pub folded-append : {S A : Type 0} (step : S → A → S) (s : S) (xs ys : List A) → folded step s (xs ++ ys) ≡ folded step (folded step s xs) ys
+unfolding folded
+folded-append step s [] ys = refl
+folded-append step s (x ∷ xs) ys = folded-append step (step s x) xs ys
+
+-- ---- how much lists of these lengths hold
+unfoldable pub total : List ℕ → ℕ
+total [] = 0
+total (n ∷ ns) = n + total ns
+
+pub total-append : (ms ns : List ℕ) → total (ms ++ ns) ≡ total ms + total ns
+unfolding total
+total-append [] ns = sym (zero-add (total ns))
+total-append (m ∷ ms) ns = ap (λ (k : ℕ). m + k) (total-append ms ns) ∙ sym (add-assoc m (total ms) (total ns))
+
+pub length-flatten : {A : Type 0} (xs : List (List A)) → length (flatten xs) ≡ total (map length xs)
+unfolding flatten total
+length-flatten [] = refl
+length-flatten (x ∷ xs) = length-append x (flatten xs) ∙ ap (λ (k : ℕ). length x + k) (length-flatten xs)
+
+-- ---- where each of them begins, without where the last ends
+unfoldable pub beginsFrom : ℕ → List ℕ → List ℕ
+beginsFrom at [] = []
+beginsFrom at (n ∷ ns) = at ∷ beginsFrom (at + n) ns
+
+pub starts-begins : (at : ℕ) (ns : List ℕ) → startsFrom at ns ≡ beginsFrom at ns ++ ((at + total ns) ∷ [])
+unfolding startsFrom beginsFrom total
+starts-begins at [] = ap (λ (k : ℕ). k ∷ []) (sym (add-zero at))
+starts-begins at (n ∷ ns) =
+    ap (λ (ks : List ℕ). at ∷ ks) (starts-begins (at + n) ns ∙ ap (λ (k : ℕ). beginsFrom (at + n) ns ++ (k ∷ [])) (add-assoc at n (total ns)))
+
+pub begins-append : (at : ℕ) (ms ns : List ℕ) → beginsFrom at (ms ++ ns) ≡ beginsFrom at ms ++ beginsFrom (at + total ms) ns
+unfolding beginsFrom total
+begins-append at [] ns = ap (λ (k : ℕ). beginsFrom k ns) (sym (add-zero at))
+begins-append at (m ∷ ms) ns =
+    ap (λ (ks : List ℕ). at ∷ ks) (begins-append (at + m) ms ns ∙ ap (λ (k : ℕ). beginsFrom (at + m) ms ++ beginsFrom k ns) (add-assoc at m (total ms)))
+
+-- one more list, however long
+pub begins-more : (ms : List ℕ) (n : ℕ) → beginsFrom 0 (ms ++ (n ∷ [])) ≡ beginsFrom 0 ms ++ (total ms ∷ [])
+unfolding beginsFrom
+begins-more ms n = begins-append 0 ms (n ∷ []) ∙ ap (λ (k : ℕ). beginsFrom 0 ms ++ (k ∷ [])) (zero-add (total ms))
+
+pub length-begins : (at : ℕ) (ns : List ℕ) → length (beginsFrom at ns) ≡ length ns
+unfolding beginsFrom
+length-begins at [] = refl
+length-begins at (n ∷ ns) = ap suc (length-begins (at + n) ns)

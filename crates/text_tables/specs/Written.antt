@@ -1,0 +1,70 @@
+-- What the writer writes: from tables back to words, and from words to lines, whose text is `textOf`. Assumes nothing.
+use mathlib.Core.List.{List, [], _∷_, _++_, map, flatten}
+use Prim.Native.Nat.{ℕ, zero, suc, _+_}
+use lib.ListN.{getD, take, drop}
+use Rattle.lines.specs.Passes.{start, size}
+use Rattle.layout.specs.Layout.{Bytes, TextAttribute, Word, Line, empty, word, textOf}
+use Rattle.text_tables.specs.Tables.{Strings, Tables}
+
+-- "It is lent ids and kept texts, and neither values nor shares"
+pub record Unwritten : Type 0 where
+  pub instances : ℕ
+  pub lineStarts : List ℕ
+  pub wordStarts : List ℕ
+  pub ids : List ℕ
+  pub references : List ℕ
+  pub labels : Strings
+  pub names : Strings
+  pub scales : Strings
+
+-- of the reader's tables
+abbrev pub unwritten : Tables → Unwritten
+unwritten t = record {
+  instances = t .corpus .instances;
+  lineStarts = t .corpus .starts;
+  wordStarts = t .corpus .words .starts;
+  ids = t .corpus .words .ids;
+  references = t .corpus .references;
+  labels = t .labels;
+  names = t .names;
+  scales = t .scales;
+}
+
+-- a string of a list of strings: its bytes from one start to the next
+unfoldable pub stringAt : Strings → ℕ → Bytes
+stringAt s i = take (size (s .starts) i) (drop (start (s .starts) i) (s .bytes))
+
+-- n places from one on, and those of list i
+unfoldable pub placesFrom : ℕ → ℕ → List ℕ
+placesFrom at zero = []
+placesFrom at (suc n) = at ∷ placesFrom (at + 1) n
+
+abbrev pub placesIn : List ℕ → ℕ → List ℕ
+placesIn starts i = placesFrom (start starts i) (size starts i)
+
+-- an attribute by its name and its kept text; a word by its label and its attributes; a sequence by its words
+abbrev pub attributeFrom : Unwritten → ℕ → TextAttribute
+attributeFrom t a = record { name = stringAt (t .names) (getD (t .ids) a 0); scale = stringAt (t .scales) a }
+
+abbrev pub wordFrom : Unwritten → ℕ → Word
+wordFrom t w = record { label = stringAt (t .labels) (getD (t .references) w 0); attributes = map (attributeFrom t) (placesIn (t .wordStarts) w) }
+
+abbrev pub sequenceFrom : Unwritten → ℕ → List Word
+sequenceFrom t i = map (wordFrom t) (placesIn (t .lineStarts) i)
+
+abbrev pub sequencesIn : Unwritten → List (List Word)
+sequencesIn t = map (sequenceFrom t) (placesFrom 0 (t .instances))
+
+-- "for each sequence each word as one line, .. one more line feed, an empty line, ends each sequence, the last too"
+abbrev pub sequenceLines : List Word → List Line
+sequenceLines ws = map word ws ++ (empty ∷ [])
+
+-- "a line feed ends each line": so behind the last there is an empty one
+unfoldable pub linesOf : List (List Word) → List Line
+linesOf ss = flatten (map sequenceLines ss) ++ (empty ∷ [])
+
+abbrev pub writtenLines : Unwritten → List Line
+writtenLines t = linesOf (sequencesIn t)
+
+abbrev pub writtenText : Unwritten → Bytes
+writtenText t = textOf (writtenLines t)
