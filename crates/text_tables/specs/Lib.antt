@@ -4,5 +4,6 @@ pub mod Distinct
 pub mod Tables
 pub mod Pieces
 pub mod Tally
+pub mod Built
 pub mod Written
 pub mod Examples
