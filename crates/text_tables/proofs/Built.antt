@@ -16,7 +16,8 @@ use Rattle.text_tables.specs.Tables.{startsFrom, allWords, allAttributes
 use Rattle.text_tables.specs.Pieces.{Piece, blank, label, attribute, linePieces, piecesOf, folded}
 use Rattle.text_tables.specs.Tally.{Tally, nothingYet, tallied, tallyOf}
 use Rattle.text_tables.specs.Built.{Built, nothingBuilt, builtOn, builtOf, Builds, BuiltMeans}
-use Rattle.text_tables.proofs.Lists.{map-append, flatten-append, total, total-append, length-flatten, beginsFrom, starts-begins, begins-append, begins-more}
+use Rattle.text_tables.specs.Written.{total}
+use Rattle.text_tables.proofs.Lists.{map-append, flatten-append, total-append, length-flatten, beginsFrom, starts-begins, begins-append, begins-more}
 use Rattle.text_tables.proofs.Passed.{open-words, AtEnd, passed}
 use Rattle.text_tables.proofs.Tallied.{attributes-more, scales-more, more-length}
 

@@ -5,3 +5,7 @@ pub mod Tallied
 pub mod Built
 pub mod Along
 pub mod Ends
+pub mod Written
+pub mod Parts
+pub mod RoundTrip
+pub mod Carried

@@ -6,6 +6,7 @@ use native.Mathlib.Nat.{add-assoc, add-zero, zero-add}
 use lib.ListN.{length, drop, set, length-append, length-map}
 use Rattle.text_tables.specs.Tables.{startsFrom}
 use Rattle.text_tables.specs.Pieces.{folded}
+use Rattle.text_tables.specs.Written.{total}
 
 -- ---- one list behind another
 pub map-append : {A B : Type 0} (f : A → B) (xs ys : List A) → map f (xs ++ ys) ≡ map f xs ++ map f ys
@@ -27,10 +28,6 @@ folded-append step s [] ys = refl
 folded-append step s (x ∷ xs) ys = folded-append step (step s x) xs ys
 
 -- ---- how much lists of these lengths hold
-unfoldable pub total : List ℕ → ℕ
-total [] = 0
-total (n ∷ ns) = n + total ns
-
 pub total-append : (ms ns : List ℕ) → total (ms ++ ns) ≡ total ms + total ns
 unfolding total
 total-append [] ns = sym (zero-add (total ns))

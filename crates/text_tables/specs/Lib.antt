@@ -6,4 +6,5 @@ pub mod Pieces
 pub mod Tally
 pub mod Built
 pub mod Written
+pub mod RoundTrip
 pub mod Examples

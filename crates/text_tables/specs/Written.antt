@@ -1,9 +1,10 @@
 -- What the writer writes: from tables back to words, and from words to lines, whose text is `textOf`. Assumes nothing.
+use mathlib.Core.Path.{_≡_}
 use mathlib.Core.List.{List, [], _∷_, _++_, map, flatten}
 use Prim.Native.Nat.{ℕ, zero, suc, _+_}
-use lib.ListN.{getD, take, drop}
+use lib.ListN.{length, getD, take, drop}
 use Rattle.lines.specs.Passes.{start, size}
-use Rattle.layout.specs.Layout.{Bytes, TextAttribute, Word, Line, empty, word, textOf}
+use Rattle.layout.specs.Layout.{Bytes, TextAttribute, Word, Line, empty, word, escaped, scaleText, lineText, textOf}
 use Rattle.text_tables.specs.Tables.{Strings, Tables}
 
 -- "It is lent ids and kept texts, and neither values nor shares"
@@ -68,3 +69,32 @@ writtenLines t = linesOf (sequencesIn t)
 
 abbrev pub writtenText : Unwritten → Bytes
 writtenText t = textOf (writtenLines t)
+
+-- ---- the same byte by byte: "a line feed ends each line", and one more each sequence
+abbrev pub wordText : Word → Bytes
+wordText w = lineText (word w) ++ (10 ∷ [])
+
+abbrev pub sequenceText : List Word → Bytes
+sequenceText ws = flatten (map wordText ws) ++ (10 ∷ [])
+
+-- "then a written text is the sum of its sequences"
+abbrev pub SumOfSequences : Type 0
+SumOfSequences = (ss : List (List Word)) → textOf (linesOf ss) ≡ flatten (map sequenceText ss)
+
+-- ---- its length
+unfoldable pub total : List ℕ → ℕ
+total [] = 0
+total (n ∷ ns) = n + total ns
+
+-- a tab, the escaped name, and the colon with the kept text, where there is one
+abbrev pub attributeLength : TextAttribute → ℕ
+attributeLength a = 1 + (length (escaped (a .name)) + length (scaleText (a .scale)))
+
+abbrev pub wordLength : Word → ℕ
+wordLength w = length (escaped (w .label)) + total (map attributeLength (w .attributes)) + 1
+
+abbrev pub sequenceLength : List Word → ℕ
+sequenceLength ws = total (map wordLength ws) + 1
+
+abbrev pub LengthIsSum : Type 0
+LengthIsSum = (ss : List (List Word)) → length (textOf (linesOf ss)) ≡ total (map sequenceLength ss)
