@@ -1,4 +1,4 @@
--- What the writer can carry it writes as a well-formed text, and it can carry the tables of every well-formed text. Assumes nothing.
+-- What the writer can carry it writes as a well-formed text, and it can carry the tables of every well-formed text; so these read back. Assumes nothing.
 use mathlib.Core.Path.{_≡_, refl, sym, ap, subst, _∙_}
 use mathlib.Core.Bool.{Bool, true, false, cond}
 use mathlib.Core.List.{List, [], _∷_, _++_, map, flatten}
@@ -10,14 +10,15 @@ use lib.ListN.{length, getD, length-map}
 use Rattle.lines.specs.Passes.{start, size}
 use Rattle.refusals.specs.Meaning.{Starts}
 use Rattle.layout.specs.Layout.{Bytes, TextAttribute, Word, Line, empty, word, Name, KeptText, SoundAttributes, SoundTextLine, EachSound, SoundText, WellFormed, textOf, sequences, lineWords}
-use Rattle.layout.proofs.Runs.{every-word}
+use Rattle.layout.proofs.Read.{one-one}
+use Rattle.layout.proofs.Runs.{none-empty, every-word}
 use Rattle.text_tables.specs.Distinct.{idIn, learnt, learntAll, distinct}
-use Rattle.text_tables.specs.Tables.{Strings, flat, allWords, allAttributes, labelsOf, namesOf, scalesOf, tables}
-use Rattle.text_tables.specs.Written.{Unwritten, unwritten, stringAt, placesFrom, placesIn, attributeFrom, wordFrom, sequenceFrom, sequencesIn, linesOf, writtenLines, writtenText}
-use Rattle.text_tables.specs.RoundTrip.{Amounts, Writable, WritesWellFormed, EachSoundWord, amountsOf, ReadIsWritable}
+use Rattle.text_tables.specs.Tables.{Strings, flat, allWords, allAttributes, labelsOf, namesOf, scalesOf, Tables, tables}
+use Rattle.text_tables.specs.Written.{Unwritten, unwritten, stringAt, placesFrom, placesIn, attributeFrom, wordFrom, sequenceFrom, sequencesIn, allLines, writtenLines, writtenText}
+use Rattle.text_tables.specs.RoundTrip.{Amounts, Writable, WritesWellFormed, EachSoundWord, amountsOf, ReadIsWritable, TextReadsBack}
 use Rattle.text_tables.proofs.Parts.{list-within, string-is, mapped-at}
 use Rattle.text_tables.proofs.Written.{sound-of-lines}
-use Rattle.text_tables.proofs.RoundTrip.{id-below, word-counts, line-counts}
+use Rattle.text_tables.proofs.RoundTrip.{reads-back, id-below, word-counts, line-counts}
 
 -- ---- what can be carried is written as a well-formed text
 module _ (t : Unwritten) (n : Amounts) (h : Writable t n) where
@@ -47,10 +48,11 @@ module _ (t : Unwritten) (n : Amounts) (h : Writable t n) where
       (list-within (t .lineStarts) (t .instances) (n .words) at (h .lineStarts) (omega (arith, l)))
       (sequences-sound (at + 1) m (omega (arith, l)))
 
+pub written-sound : (t : Unwritten) (n : Amounts) → Writable t n → SoundText (writtenLines t)
+written-sound t n h = let all : 0 + t .instances ≤ t .instances = omega arith in sound-of-lines (sequencesIn t) (sequences-sound t n h 0 (t .instances) all)
+
 pub writes-well-formed : WritesWellFormed
-writes-well-formed t n h =
-    let all : 0 + t .instances ≤ t .instances = omega arith in
-    record { lines = writtenLines t; sound = sound-of-lines (sequencesIn t) (sequences-sound t n h 0 (t .instances) all); made = refl }
+writes-well-formed t n h = record { lines = writtenLines t; sound = written-sound t n h; made = refl }
 
 -- ---- the tables of a well-formed text can be carried
 abbrev EachName : List Bytes → Type 0
@@ -141,3 +143,11 @@ text-words-sound ls h = subst EachSoundWord (sym (every-word ls)) (line-words-so
 
 pub read-is-writable : ReadIsWritable
 read-is-writable ls h = sound-tables (sequences ls) (text-words-sound ls h)
+
+-- ---- the round trip of texts: lines that make the written text are those that were written
+pub text-reads-back : TextReadsBack
+text-reads-back text h k =
+    let read : Tables = tables (sequences (h .lines)) in
+    let own : SoundText (writtenLines (unwritten read)) = written-sound (unwritten read) (amountsOf (sequences (h .lines))) (read-is-writable (h .lines) (h .sound)) in
+    let lines : k .lines ≡ writtenLines (unwritten read) = one-one (k .lines) (writtenLines (unwritten read)) (k .sound) own (k .made) in
+    ap (λ (ls : List Line). tables (sequences ls)) lines ∙ reads-back (sequences (h .lines)) (none-empty (h .lines))

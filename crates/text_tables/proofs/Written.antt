@@ -6,7 +6,7 @@ use native.Mathlib.Nat.{add-assoc}
 use native.Mathlib.Omega.{arith}
 use lib.ListN.{length, length-append}
 use Rattle.layout.specs.Layout.{Bytes, TextAttribute, Word, Line, empty, word, escaped, scaleText, attributesText, lineText, moreLines, textOf, SoundTextLine, EachSound, SoundText, ended, sequencesFrom, sequences, NoneEmpty}
-use Rattle.text_tables.specs.Written.{sequenceLines, linesOf, wordText, sequenceText, SumOfSequences, total, attributeLength, wordLength, sequenceLength, LengthIsSum}
+use Rattle.text_tables.specs.Written.{sequenceLines, allLines, wordText, sequenceText, SumOfSequences, total, attributeLength, wordLength, sequenceLength, LengthIsSum}
 use Rattle.text_tables.specs.RoundTrip.{EachSoundWord}
 use Rattle.text_tables.proofs.Lists.{map-append, flatten-append, length-flatten}
 
@@ -30,8 +30,8 @@ all-in ((w ∷ ws) ∷ ss) h =
     ∙ one-in (w ∷ ws) (rest ++ (empty ∷ []))
     ∙ ap (λ (rs : List (List Word)). (w ∷ ws) ∷ rs) (all-in ss h)
 
-pub sequences-of-lines : (ss : List (List Word)) → NoneEmpty ss → sequences (linesOf ss) ≡ ss
-unfolding linesOf
+pub sequences-of-lines : (ss : List (List Word)) → NoneEmpty ss → sequences (allLines ss) ≡ ss
+unfolding allLines
 sequences-of-lines ss h = all-in ss h
 
 -- ---- their text
@@ -72,7 +72,7 @@ sequences-ended (s ∷ ss) =
     ∙ ap (λ (t : Bytes). sequenceText s ++ t) (sequences-ended ss)
 
 pub sum-of-sequences : SumOfSequences
-unfolding linesOf
+unfolding allLines
 sum-of-sequences ss = text-ended (flatten (map sequenceLines ss)) ∙ sequences-ended ss
 
 -- ---- its length
@@ -128,8 +128,8 @@ some-line : (ls : List Line) → EachSound (ls ++ (empty ∷ [])) → SoundText 
 some-line [] h = h
 some-line (l ∷ ls) h = h
 
-pub sound-of-lines : (ss : List (List Word)) → EachSoundWord (flatten ss) → SoundText (linesOf ss)
-unfolding linesOf
+pub sound-of-lines : (ss : List (List Word)) → EachSoundWord (flatten ss) → SoundText (allLines ss)
+unfolding allLines
 sound-of-lines ss h =
     let ls : List Line = flatten (map sequenceLines ss) in
     some-line ls (sound-append ls (empty ∷ []) (sound-lines ss h) (tt, tt))

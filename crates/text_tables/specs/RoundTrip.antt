@@ -4,7 +4,7 @@ use mathlib.Core.List.{List, [], _∷_}
 use Prim.Native.Nat.{ℕ, _+_, _<_}
 use lib.ListN.{length, getD}
 use Rattle.refusals.specs.Meaning.{Starts}
-use Rattle.layout.specs.Layout.{Word, Line, word, Name, KeptText, SoundTextLine, SoundText, WellFormed, sequences, NoneEmpty}
+use Rattle.layout.specs.Layout.{Bytes, Word, Line, word, Name, KeptText, SoundTextLine, SoundText, WellFormed, sequences, NoneEmpty}
 use Rattle.text_tables.specs.Distinct.{distinct}
 use Rattle.text_tables.specs.Tables.{allWords, allAttributes, labelsOf, namesOf, tables}
 use Rattle.text_tables.specs.Written.{Unwritten, unwritten, stringAt, sequencesIn, writtenLines, writtenText}
@@ -61,3 +61,9 @@ amountsOf ss =
 
 abbrev pub ReadIsWritable : Type 0
 ReadIsWritable = (ls : List Line) → SoundText ls → Writable (unwritten (tables (sequences ls))) (amountsOf (sequences ls))
+
+-- the same of texts: whatever lines make the text that was read, and whatever lines make the text that was written
+abbrev pub TextReadsBack : Type 0
+TextReadsBack = (text : Bytes) (h : WellFormed text) →
+    let read = tables (sequences (h .lines)) in
+    (k : WellFormed (writtenText (unwritten read))) → tables (sequences (k .lines)) ≡ read

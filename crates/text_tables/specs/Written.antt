@@ -61,11 +61,11 @@ abbrev pub sequenceLines : List Word → List Line
 sequenceLines ws = map word ws ++ (empty ∷ [])
 
 -- "a line feed ends each line": so behind the last there is an empty one
-unfoldable pub linesOf : List (List Word) → List Line
-linesOf ss = flatten (map sequenceLines ss) ++ (empty ∷ [])
+unfoldable pub allLines : List (List Word) → List Line
+allLines ss = flatten (map sequenceLines ss) ++ (empty ∷ [])
 
 abbrev pub writtenLines : Unwritten → List Line
-writtenLines t = linesOf (sequencesIn t)
+writtenLines t = allLines (sequencesIn t)
 
 abbrev pub writtenText : Unwritten → Bytes
 writtenText t = textOf (writtenLines t)
@@ -79,7 +79,7 @@ sequenceText ws = flatten (map wordText ws) ++ (10 ∷ [])
 
 -- "then a written text is the sum of its sequences"
 abbrev pub SumOfSequences : Type 0
-SumOfSequences = (ss : List (List Word)) → textOf (linesOf ss) ≡ flatten (map sequenceText ss)
+SumOfSequences = (ss : List (List Word)) → textOf (allLines ss) ≡ flatten (map sequenceText ss)
 
 -- ---- its length
 unfoldable pub total : List ℕ → ℕ
@@ -97,4 +97,4 @@ abbrev pub sequenceLength : List Word → ℕ
 sequenceLength ws = total (map wordLength ws) + 1
 
 abbrev pub LengthIsSum : Type 0
-LengthIsSum = (ss : List (List Word)) → length (textOf (linesOf ss)) ≡ total (map sequenceLength ss)
+LengthIsSum = (ss : List (List Word)) → length (textOf (allLines ss)) ≡ total (map sequenceLength ss)
