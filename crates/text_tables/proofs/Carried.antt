@@ -55,7 +55,7 @@ pub writes-well-formed : WritesWellFormed
 writes-well-formed t n h = record { lines = writtenLines t; sound = written-sound t n h; made = refl }
 
 -- ---- the tables of a well-formed text can be carried
-abbrev EachName : List Bytes → Type 0
+abbrev pub EachName : List Bytes → Type 0
 EachName [] = Unit {0}
 EachName (n ∷ ns) = Name n × EachName ns
 
@@ -90,7 +90,7 @@ string-named : (ns : List Bytes) → EachName ns → (i : ℕ) → i < length (d
 string-named ns h i l = subst Name (sym (string-is (distinct ns) i l)) (name-at (distinct ns) i (names-learnt [] ns tt h) l)
 
 -- names and kept texts of sound words
-labels-named : (ws : List Word) → EachSoundWord ws → EachName (labelsOf ws)
+pub labels-named : (ws : List Word) → EachSoundWord ws → EachName (labelsOf ws)
 labels-named [] h = tt
 labels-named (w ∷ ws) h = (h .0 .0, labels-named ws (h .1))
 
@@ -98,12 +98,12 @@ attributes-append : (xs ys : List TextAttribute) → SoundAttributes xs → Soun
 attributes-append [] ys h k = k
 attributes-append (x ∷ xs) ys h k = (h .0, h .1, attributes-append xs ys (h .2) k)
 
-all-attributes : (ws : List Word) → EachSoundWord ws → SoundAttributes (allAttributes ws)
+pub all-attributes : (ws : List Word) → EachSoundWord ws → SoundAttributes (allAttributes ws)
 unfolding flatten
 all-attributes [] h = tt
 all-attributes (w ∷ ws) h = attributes-append (w .attributes) (allAttributes ws) (h .0 .1) (all-attributes ws (h .1))
 
-attributes-named : (xs : List TextAttribute) → SoundAttributes xs → EachName (namesOf xs)
+pub attributes-named : (xs : List TextAttribute) → SoundAttributes xs → EachName (namesOf xs)
 attributes-named [] h = tt
 attributes-named (x ∷ xs) h = (h .0, attributes-named xs (h .2))
 

@@ -9,3 +9,4 @@ pub mod Written
 pub mod Parts
 pub mod RoundTrip
 pub mod Carried
+pub mod InText

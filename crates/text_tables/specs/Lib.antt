@@ -7,4 +7,5 @@ pub mod Tally
 pub mod Built
 pub mod Written
 pub mod RoundTrip
+pub mod InText
 pub mod Examples
