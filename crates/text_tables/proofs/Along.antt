@@ -11,7 +11,7 @@ use lib.ListN.{length, length-append}
 use borrow.Author.Tests.{ne-eqb}
 use Rattle.layout.specs.Layout.{Bytes, TextAttribute}
 use Rattle.text_tables.specs.Distinct.{idIn, learnt}
-use Rattle.text_tables.specs.Pieces.{Piece, blank, label, attribute, folded}
+use Rattle.text_tables.specs.Pieces.{Piece, blank, label, attribute, afterEach}
 use Rattle.text_tables.specs.Tally.{Tally, nothingYet, tallied, tallyOf}
 use Rattle.text_tables.specs.Built.{Built, nothingBuilt, builtOn, builtOf}
 use Rattle.text_tables.proofs.Known.{id-before, learnt-behind, learnt-knows, learnt-id}
@@ -71,8 +71,8 @@ module _ (labels names : List Bytes) where
     within = h .within;
   }
 
-  pub as-long-from : (t : Tally) (b : Built) (ps : List Piece) → AsLong t b → AsLong (folded tallied t ps) (folded (builtOn labels names) b ps)
-  unfolding folded
+  pub as-long-from : (t : Tally) (b : Built) (ps : List Piece) → AsLong t b → AsLong (afterEach tallied t ps) (afterEach (builtOn labels names) b ps)
+  unfolding afterEach
   as-long-from t b [] h = h
   as-long-from t b (p ∷ ps) h = as-long-from (tallied t p) (builtOn labels names b p) ps (longer-by t b p h)
 
@@ -127,8 +127,8 @@ grown-by t (attribute a) = record {
 behind-both : (k l m : List Bytes) → (more : List Bytes) × (l ≡ k ++ more) → (more : List Bytes) × (m ≡ l ++ more) → (more : List Bytes) × (m ≡ k ++ more)
 behind-both k l m p q = (p .0 ++ q .0, q .1 ∙ ap (λ (x : List Bytes). x ++ q .0) (p .1) ∙ append-assoc k (p .0) (q .0))
 
-pub grown : (t : Tally) (ps : List Piece) → Grown t (folded tallied t ps)
-unfolding folded
+pub grown : (t : Tally) (ps : List Piece) → Grown t (afterEach tallied t ps)
+unfolding afterEach
 grown t [] = record {
   sequences = le-refl (t .sequences);
   words = le-refl (t .words);
@@ -145,8 +145,8 @@ grown t (p ∷ ps) =
       words = le-trans (g .words) (h .words);
       attributes = le-trans (g .attributes) (h .attributes);
       scaleBytes = le-trans (g .scaleBytes) (h .scaleBytes);
-      labels = behind-both (t .labels) (tallied t p .labels) (folded tallied (tallied t p) ps .labels) (g .labels) (h .labels);
-      names = behind-both (t .names) (tallied t p .names) (folded tallied (tallied t p) ps .names) (g .names) (h .names);
+      labels = behind-both (t .labels) (tallied t p .labels) (afterEach tallied (tallied t p) ps .labels) (g .labels) (h .labels);
+      names = behind-both (t .names) (tallied t p .names) (afterEach tallied (tallied t p) ps .names) (g .names) (h .names);
     }
 
 -- the id of a name that is met is the same among all names as among those known then, and is one of theirs
@@ -159,15 +159,15 @@ stays known more n e =
     )
 
 pub label-id : (t : Tally) (n : Bytes) (ps : List Piece) →
-    let all = folded tallied t (label n ∷ ps) .labels in
+    let all = afterEach tallied t (label n ∷ ps) .labels in
     (idIn all n ≡ idIn (t .labels) n) × (idIn all n < length all)
-unfolding folded
+unfolding afterEach
 label-id t n ps = let g = grown (tallied t (label n)) ps .labels in stays (t .labels) (g .0) n (g .1)
 
 pub attribute-id : (t : Tally) (a : TextAttribute) (ps : List Piece) →
-    let all = folded tallied t (attribute a ∷ ps) .names in
+    let all = afterEach tallied t (attribute a ∷ ps) .names in
     (idIn all (a .name) ≡ idIn (t .names) (a .name)) × (idIn all (a .name) < length all)
-unfolding folded
+unfolding afterEach
 attribute-id t a ps = let g = grown (tallied t (attribute a)) ps .names in stays (t .names) (g .0) (a .name) (g .1)
 
 -- ---- none is above how many pieces there were
@@ -223,8 +223,8 @@ few-by t n (attribute a) h = record {
   long = h .long;
 }
 
-pub few-from : (t : Tally) (n : ℕ) (ps : List Piece) → Few t n → Few (folded tallied t ps) (n + length ps)
-unfolding folded
+pub few-from : (t : Tally) (n : ℕ) (ps : List Piece) → Few t n → Few (afterEach tallied t ps) (n + length ps)
+unfolding afterEach
 few-from t n [] h = rw (add-zero n) h
 few-from t n (p ∷ ps) h = rw (add-suc n (length ps), ← suc-add n (length ps), ← add-one n) (few-from (tallied t p) (n + 1) ps (few-by t n p h))
 

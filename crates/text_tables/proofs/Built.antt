@@ -13,11 +13,11 @@ use Rattle.layout.specs.Layout.{Bytes, TextAttribute, Word, Line, empty, word, 
 use Rattle.scales.specs.Value.{valueOf}
 use Rattle.text_tables.specs.Distinct.{idIn, distinct}
 use Rattle.text_tables.specs.Tables.{startsFrom, allWords, allAttributes, labelsOf, namesOf, scalesOf, tables}
-use Rattle.text_tables.specs.Pieces.{Piece, blank, label, attribute, linePieces, piecesOf, folded}
+use Rattle.text_tables.specs.Pieces.{Piece, blank, label, attribute, linePieces, piecesOf, afterEach}
 use Rattle.text_tables.specs.Tally.{Tally, nothingYet, tallied, tallyOf}
 use Rattle.text_tables.specs.Built.{Built, nothingBuilt, builtOn, builtOf, Builds, BuiltMeans}
-use Rattle.text_tables.specs.Written.{total}
-use Rattle.text_tables.proofs.Lists.{map-append, flatten-append, total-append, length-flatten, beginsFrom, starts-begins, begins-append, begins-more}
+use Rattle.text_tables.specs.Written.{inAll}
+use Rattle.text_tables.proofs.Lists.{map-append, flatten-append, all-append, length-flatten, beginsFrom, starts-begins, begins-append, begins-more}
 use Rattle.text_tables.proofs.Passed.{open-words, AtEnd, passed}
 use Rattle.text_tables.proofs.Tallied.{attributes-more, scales-more, more-length}
 
@@ -66,8 +66,8 @@ module _ (labels names : List Bytes) where
     within = b .within;
   }
 
-  built-attributes : (b : Built) (xs : List TextAttribute) → folded (builtOn labels names) b (map attribute xs) ≡ withAttributes b xs
-  unfolding folded flatten beginsFrom
+  built-attributes : (b : Built) (xs : List TextAttribute) → afterEach (builtOn labels names) b (map attribute xs) ≡ withAttributes b xs
+  unfolding afterEach flatten beginsFrom
   built-attributes b [] = λ i. record {
     lineStarts = b .lineStarts;
     wordStarts = b .wordStarts;
@@ -99,7 +99,7 @@ module _ (labels names : List Bytes) where
       → cond (someOpen ws) (beginsFrom 0 (map wordCount (ss ++ ended ws))) (beginsFrom 0 (map wordCount (ss ++ ended ws)) ++ (length (map (idIn labels) (labelsOf (flatten ss ++ ws))) ∷ []))
       ≡ beginsFrom 0 (map wordCount (ss ++ ended (ws ++ (w ∷ []))))
   line-begun ss [] w =
-      let count : length (map (idIn labels) (labelsOf (flatten ss ++ []))) ≡ total (map wordCount ss) =
+      let count : length (map (idIn labels) (labelsOf (flatten ss ++ []))) ≡ inAll (map wordCount ss) =
       length-map (labelsOf (flatten ss ++ [])) (idIn labels) ∙ length-map (flatten ss ++ []) (λ (v : Word). v .label) ∙ ap length (append-nil (flatten ss)) ∙ length-flatten ss in
       ap (λ (rs : List (List Word)). beginsFrom 0 (map wordCount rs) ++ (length (map (idIn labels) (labelsOf (flatten ss ++ []))) ∷ [])) (append-nil ss)
       ∙ ap (λ (k : ℕ). beginsFrom 0 (map wordCount ss) ++ (k ∷ [])) count
@@ -111,16 +111,16 @@ module _ (labels names : List Bytes) where
       ∙ sym (begins-more (map wordCount ss) (length (v ∷ (ws ++ (w ∷ [])))))
       ∙ ap (beginsFrom 0) (sym (map-append wordCount ss ((v ∷ (ws ++ (w ∷ []))) ∷ [])))
 
-  count-attributes : (vs : List Word) → length (map (idIn names) (namesOf (allAttributes vs))) ≡ total (map attributeCount vs)
+  count-attributes : (vs : List Word) → length (map (idIn names) (namesOf (allAttributes vs))) ≡ inAll (map attributeCount vs)
   count-attributes vs =
-      length-map (namesOf (allAttributes vs)) (idIn names) ∙ length-map (allAttributes vs) (λ (x : TextAttribute). x .name) ∙ length-flatten (map (λ (v : Word). v .attributes) vs) ∙ ap total (counts vs)
+      length-map (namesOf (allAttributes vs)) (idIn names) ∙ length-map (allAttributes vs) (λ (x : TextAttribute). x .name) ∙ length-flatten (map (λ (v : Word). v .attributes) vs) ∙ ap inAll (counts vs)
     where
       counts : (vs : List Word) → map length (map (λ (v : Word). v .attributes) vs) ≡ map attributeCount vs
       counts [] = refl
       counts (v ∷ vs) = ap (λ (ks : List ℕ). attributeCount v ∷ ks) (counts vs)
 
-  at-word : (ss : List (List Word)) (ws : List Word) (w : Word) → folded (builtOn labels names) (built ss ws) (linePieces (word w)) ≡ built ss (ws ++ (w ∷ []))
-  unfolding folded
+  at-word : (ss : List (List Word)) (ws : List Word) (w : Word) → afterEach (builtOn labels names) (built ss ws) (linePieces (word w)) ≡ built ss (ws ++ (w ∷ []))
+  unfolding afterEach
   at-word ss ws w =
       let vs : List Word = flatten ss ++ ws in
       let old : List TextAttribute = allAttributes vs in
@@ -141,7 +141,7 @@ module _ (labels names : List Bytes) where
       ∙ ap (map valueOf) (sym (map-append (λ (x : TextAttribute). x .scale) old new))
       ∙ ap (λ (xs : List TextAttribute). map valueOf (scalesOf xs)) (sym (attributes-more vs w)) in
       let kept : beginsFrom 0 (map length (scalesOf old)) ++ beginsFrom (length (flatten (scalesOf old))) (map length (scalesOf new)) ≡ beginsFrom 0 (map length (scalesOf (allAttributes (vs ++ (w ∷ []))))) =
-      ap (λ (k : ℕ). beginsFrom 0 (map length (scalesOf old)) ++ beginsFrom k (map length (scalesOf new))) (length-flatten (scalesOf old) ∙ sym (zero-add (total (map length (scalesOf old)))))
+      ap (λ (k : ℕ). beginsFrom 0 (map length (scalesOf old)) ++ beginsFrom k (map length (scalesOf new))) (length-flatten (scalesOf old) ∙ sym (zero-add (inAll (map length (scalesOf old)))))
       ∙ sym (begins-append 0 (map length (scalesOf old)) (map length (scalesOf new)))
       ∙ ap (beginsFrom 0) (sym (map-append length (scalesOf old) (scalesOf new)) ∙ ap (map length) (sym (map-append (λ (x : TextAttribute). x .scale) old new)))
       ∙ ap (λ (xs : List TextAttribute). beginsFrom 0 (map length (scalesOf xs))) (sym (attributes-more vs w)) in
@@ -174,8 +174,8 @@ module _ (labels names : List Bytes) where
             ∙ ap (λ (ss : List (List Word)). listsOf ss (someOpen (r .last)) (flatten ss)) (r .all),
       )
 
-  starts-with-last : (ns : List ℕ) (k : ℕ) → k ≡ total ns → beginsFrom 0 ns ++ (k ∷ []) ≡ startsFrom 0 ns
-  starts-with-last ns k e = ap (λ (j : ℕ). beginsFrom 0 ns ++ (j ∷ [])) (e ∙ sym (zero-add (total ns))) ∙ sym (starts-begins 0 ns)
+  starts-with-last : (ns : List ℕ) (k : ℕ) → k ≡ inAll ns → beginsFrom 0 ns ++ (k ∷ []) ≡ startsFrom 0 ns
+  starts-with-last ns k e = ap (λ (j : ℕ). beginsFrom 0 ns ++ (j ∷ [])) (e ∙ sym (zero-add (inAll ns))) ∙ sym (starts-begins 0 ns)
 
   line-starts : (ss : List (List Word)) → beginsFrom 0 (map wordCount ss) ++ (length (map (idIn labels) (labelsOf (flatten ss))) ∷ []) ≡ startsFrom 0 (map wordCount ss)
   line-starts ss =

@@ -11,10 +11,10 @@ use Rattle.layout.specs.Layout.{Bytes, TextAttribute, Word, Line, empty, word, 
 use Rattle.layout.proofs.Runs.{none-empty, every-word}
 use Rattle.text_tables.specs.Distinct.{idIn, learnt, learntAll, distinct}
 use Rattle.text_tables.specs.Tables.{allWords, allAttributes, labelsOf, namesOf, scalesOf, tables}
-use Rattle.text_tables.specs.Written.{unwritten, allLines, writtenText, wordText, total, attributeLength, wordLength, sequenceLength}
+use Rattle.text_tables.specs.Written.{unwritten, allLines, writtenText, wordText, inAll, attributeLength, wordLength, sequenceLength}
 use Rattle.text_tables.specs.RoundTrip.{EachSoundWord}
 use Rattle.text_tables.specs.InText.{InText, FitsInText, FewWritten}
-use Rattle.text_tables.proofs.Lists.{map-append, flatten-append, total-append}
+use Rattle.text_tables.proofs.Lists.{map-append, flatten-append, all-append}
 use Rattle.text_tables.proofs.Written.{length-word, length-is-sum}
 use Rattle.text_tables.proofs.RoundTrip.{words-back}
 use Rattle.text_tables.proofs.Carried.{EachName, labels-named, all-attributes, attributes-named, text-words-sound}
@@ -28,29 +28,29 @@ empties [] = 0
 empties (empty ∷ ls) = empties ls + 1
 empties (word w ∷ ls) = empties ls
 
-more-span : (ls : List Line) → length (moreLines ls) ≡ total (map lineSpan ls)
-unfolding moreLines total
+more-span : (ls : List Line) → length (moreLines ls) ≡ inAll (map lineSpan ls)
+unfolding moreLines inAll
 more-span [] = refl
 more-span (l ∷ ls) = rw (length-append (lineText l) (moreLines ls), more-span ls) (omega arith)
 
-text-span : (ls : List Line) → SoundText ls → length (textOf ls) + 1 ≡ total (map lineSpan ls)
-unfolding textOf total
+text-span : (ls : List Line) → SoundText ls → length (textOf ls) + 1 ≡ inAll (map lineSpan ls)
+unfolding textOf inAll
 text-span [] h = absurd h
 text-span (l ∷ ls) h = rw (length-append (lineText l) (moreLines ls), more-span ls) (omega arith)
 
 word-span : (w : Word) → lineSpan (word w) ≡ wordLength w
 word-span w = sym (length-append (lineText (word w)) (10 ∷ [])) ∙ length-word w
 
-parts-span : (ls : List Line) → total (map lineSpan ls) ≡ total (map wordLength (lineWords ls)) + empties ls
-unfolding total empties lineText
+parts-span : (ls : List Line) → inAll (map lineSpan ls) ≡ inAll (map wordLength (lineWords ls)) + empties ls
+unfolding inAll empties lineText
 parts-span [] = refl
 parts-span (empty ∷ ls) = rw (parts-span ls) (omega arith)
 parts-span (word w ∷ ls) = rw (word-span w, parts-span ls) (omega arith)
 
 -- so many bytes at most are words
-words-span : (ls : List Line) → SoundText ls → total (map wordLength (allWords (sequences ls))) + empties ls ≡ length (textOf ls) + 1
+words-span : (ls : List Line) → SoundText ls → inAll (map wordLength (allWords (sequences ls))) + empties ls ≡ length (textOf ls) + 1
 words-span ls h =
-    ap (λ (vs : List Word). total (map wordLength vs) + empties ls) (every-word ls) ∙ sym (parts-span ls) ∙ sym (text-span ls h)
+    ap (λ (vs : List Word). inAll (map wordLength vs) + empties ls) (every-word ls) ∙ sym (parts-span ls) ∙ sym (text-span ls h)
 
 -- an empty line between two sequences
 ended-few : (ws : List Word) → length (ended ws) ≤ 1
@@ -81,8 +81,8 @@ unfolding scaleText
 scale-long [] = le-refl 0
 scale-long (b ∷ s) = omega arith
 
-attributes-hold : (xs : List TextAttribute) → length xs + (length (flatten (namesOf xs)) + length (flatten (scalesOf xs))) ≤ total (map attributeLength xs)
-unfolding flatten total
+attributes-hold : (xs : List TextAttribute) → length xs + (length (flatten (namesOf xs)) + length (flatten (scalesOf xs))) ≤ inAll (map attributeLength xs)
+unfolding flatten inAll
 attributes-hold [] = omega arith
 attributes-hold (x ∷ xs) =
     let r = attributes-hold xs in
@@ -100,8 +100,8 @@ scales-apart xs ys =
     ap (λ (ns : List Bytes). length (flatten ns)) (map-append (λ (x : TextAttribute). x .scale) xs ys)
     ∙ ap length (flatten-append (scalesOf xs) (scalesOf ys)) ∙ length-append (flatten (scalesOf xs)) (flatten (scalesOf ys))
 
-words-hold : (vs : List Word) → length vs + length (flatten (labelsOf vs)) + (length (allAttributes vs) + (length (flatten (namesOf (allAttributes vs))) + length (flatten (scalesOf (allAttributes vs))))) ≤ total (map wordLength vs)
-unfolding flatten total
+words-hold : (vs : List Word) → length vs + length (flatten (labelsOf vs)) + (length (allAttributes vs) + (length (flatten (namesOf (allAttributes vs))) + length (flatten (scalesOf (allAttributes vs))))) ≤ inAll (map wordLength vs)
+unfolding flatten inAll
 words-hold [] = omega arith
 words-hold (v ∷ vs) =
     let r = words-hold vs in
@@ -205,11 +205,11 @@ fits-in-text ls h =
     }
 
 -- ---- what is written of it
-lengths-apart : (ss : List (List Word)) → total (map sequenceLength ss) ≡ total (map wordLength (flatten ss)) + length ss
-unfolding total flatten
+lengths-apart : (ss : List (List Word)) → inAll (map sequenceLength ss) ≡ inAll (map wordLength (flatten ss)) + length ss
+unfolding inAll flatten
 lengths-apart [] = refl
 lengths-apart (s ∷ ss) =
-    rw (lengths-apart ss, map-append wordLength s (flatten ss), total-append (map wordLength s) (map wordLength (flatten ss))) (omega arith)
+    rw (lengths-apart ss, map-append wordLength s (flatten ss), all-append (map wordLength s) (map wordLength (flatten ss))) (omega arith)
 
 pub few-written : FewWritten
 few-written ls h =

@@ -5,8 +5,8 @@ use Prim.Native.Nat.{ℕ, zero, suc, _+_, _≤_, _<_}
 use native.Mathlib.Nat.{add-assoc, add-zero, zero-add}
 use lib.ListN.{length, drop, set, length-append, length-map}
 use Rattle.text_tables.specs.Tables.{startsFrom}
-use Rattle.text_tables.specs.Pieces.{folded}
-use Rattle.text_tables.specs.Written.{total}
+use Rattle.text_tables.specs.Pieces.{afterEach}
+use Rattle.text_tables.specs.Written.{inAll}
 
 -- ---- one list behind another
 pub map-append : {A B : Type 0} (f : A → B) (xs ys : List A) → map f (xs ++ ys) ≡ map f xs ++ map f ys
@@ -22,19 +22,27 @@ pub flatten-one : {A : Type 0} (xs : List A) → flatten (xs ∷ []) ≡ xs
 unfolding flatten
 flatten-one xs = append-nil xs
 
-pub folded-append : {S A : Type 0} (step : S → A → S) (s : S) (xs ys : List A) → folded step s (xs ++ ys) ≡ folded step (folded step s xs) ys
-unfolding folded
-folded-append step s [] ys = refl
-folded-append step s (x ∷ xs) ys = folded-append step (step s x) xs ys
+pub each-none : {S A : Type 0} (step : S → A → S) (s : S) → afterEach step s [] ≡ s
+unfolding afterEach
+each-none step s = refl
+
+pub each-next : {S A : Type 0} (step : S → A → S) (s : S) (x : A) (xs : List A) → afterEach step s (x ∷ xs) ≡ afterEach step (step s x) xs
+unfolding afterEach
+each-next step s x xs = refl
+
+pub each-append : {S A : Type 0} (step : S → A → S) (s : S) (xs ys : List A) → afterEach step s (xs ++ ys) ≡ afterEach step (afterEach step s xs) ys
+unfolding afterEach
+each-append step s [] ys = refl
+each-append step s (x ∷ xs) ys = each-append step (step s x) xs ys
 
 -- ---- how much lists of these lengths hold
-pub total-append : (ms ns : List ℕ) → total (ms ++ ns) ≡ total ms + total ns
-unfolding total
-total-append [] ns = sym (zero-add (total ns))
-total-append (m ∷ ms) ns = ap (λ (k : ℕ). m + k) (total-append ms ns) ∙ sym (add-assoc m (total ms) (total ns))
+pub all-append : (ms ns : List ℕ) → inAll (ms ++ ns) ≡ inAll ms + inAll ns
+unfolding inAll
+all-append [] ns = sym (zero-add (inAll ns))
+all-append (m ∷ ms) ns = ap (λ (k : ℕ). m + k) (all-append ms ns) ∙ sym (add-assoc m (inAll ms) (inAll ns))
 
-pub length-flatten : {A : Type 0} (xs : List (List A)) → length (flatten xs) ≡ total (map length xs)
-unfolding flatten total
+pub length-flatten : {A : Type 0} (xs : List (List A)) → length (flatten xs) ≡ inAll (map length xs)
+unfolding flatten inAll
 length-flatten [] = refl
 length-flatten (x ∷ xs) = length-append x (flatten xs) ∙ ap (λ (k : ℕ). length x + k) (length-flatten xs)
 
@@ -43,22 +51,22 @@ unfoldable pub beginsFrom : ℕ → List ℕ → List ℕ
 beginsFrom at [] = []
 beginsFrom at (n ∷ ns) = at ∷ beginsFrom (at + n) ns
 
-pub starts-begins : (at : ℕ) (ns : List ℕ) → startsFrom at ns ≡ beginsFrom at ns ++ ((at + total ns) ∷ [])
-unfolding startsFrom beginsFrom total
+pub starts-begins : (at : ℕ) (ns : List ℕ) → startsFrom at ns ≡ beginsFrom at ns ++ ((at + inAll ns) ∷ [])
+unfolding startsFrom beginsFrom inAll
 starts-begins at [] = ap (λ (k : ℕ). k ∷ []) (sym (add-zero at))
 starts-begins at (n ∷ ns) =
-    ap (λ (ks : List ℕ). at ∷ ks) (starts-begins (at + n) ns ∙ ap (λ (k : ℕ). beginsFrom (at + n) ns ++ (k ∷ [])) (add-assoc at n (total ns)))
+    ap (λ (ks : List ℕ). at ∷ ks) (starts-begins (at + n) ns ∙ ap (λ (k : ℕ). beginsFrom (at + n) ns ++ (k ∷ [])) (add-assoc at n (inAll ns)))
 
-pub begins-append : (at : ℕ) (ms ns : List ℕ) → beginsFrom at (ms ++ ns) ≡ beginsFrom at ms ++ beginsFrom (at + total ms) ns
-unfolding beginsFrom total
+pub begins-append : (at : ℕ) (ms ns : List ℕ) → beginsFrom at (ms ++ ns) ≡ beginsFrom at ms ++ beginsFrom (at + inAll ms) ns
+unfolding beginsFrom inAll
 begins-append at [] ns = ap (λ (k : ℕ). beginsFrom k ns) (sym (add-zero at))
 begins-append at (m ∷ ms) ns =
-    ap (λ (ks : List ℕ). at ∷ ks) (begins-append (at + m) ms ns ∙ ap (λ (k : ℕ). beginsFrom (at + m) ms ++ beginsFrom k ns) (add-assoc at m (total ms)))
+    ap (λ (ks : List ℕ). at ∷ ks) (begins-append (at + m) ms ns ∙ ap (λ (k : ℕ). beginsFrom (at + m) ms ++ beginsFrom k ns) (add-assoc at m (inAll ms)))
 
 -- one more list, however long
-pub begins-more : (ms : List ℕ) (n : ℕ) → beginsFrom 0 (ms ++ (n ∷ [])) ≡ beginsFrom 0 ms ++ (total ms ∷ [])
+pub begins-more : (ms : List ℕ) (n : ℕ) → beginsFrom 0 (ms ++ (n ∷ [])) ≡ beginsFrom 0 ms ++ (inAll ms ∷ [])
 unfolding beginsFrom
-begins-more ms n = begins-append 0 ms (n ∷ []) ∙ ap (λ (k : ℕ). beginsFrom 0 ms ++ (k ∷ [])) (zero-add (total ms))
+begins-more ms n = begins-append 0 ms (n ∷ []) ∙ ap (λ (k : ℕ). beginsFrom 0 ms ++ (k ∷ [])) (zero-add (inAll ms))
 
 pub length-begins : (at : ℕ) (ns : List ℕ) → length (beginsFrom at ns) ≡ length ns
 unfolding beginsFrom

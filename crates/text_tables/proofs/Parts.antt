@@ -12,7 +12,7 @@ use Rattle.refusals.specs.Meaning.{Starts}
 use Rattle.refusals.proofs.Meant.{within}
 use Rattle.layout.specs.Layout.{Bytes}
 use Rattle.text_tables.specs.Tables.{startsFrom, flat}
-use Rattle.text_tables.specs.Written.{stringAt, placesFrom, total}
+use Rattle.text_tables.specs.Written.{stringAt, placesFrom, inAll}
 use Rattle.text_tables.proofs.Lists.{length-flatten}
 
 -- ---- starts
@@ -27,16 +27,16 @@ rising at [] i h = absurd (not-suc-le-zero h)
 rising at (n ∷ ns) zero h = rw (first-start (at + n) ns) (omega arith)
 rising at (n ∷ ns) (suc i) h = rising (at + n) ns i (le-of-suc-le-suc h)
 
-ending : (at : ℕ) (ns : List ℕ) → getD (startsFrom at ns) (length ns) 0 ≡ at + total ns
-unfolding startsFrom total
+ending : (at : ℕ) (ns : List ℕ) → getD (startsFrom at ns) (length ns) 0 ≡ at + inAll ns
+unfolding startsFrom inAll
 ending at [] = sym (add-zero at)
-ending at (n ∷ ns) = ending (at + n) ns ∙ add-assoc at n (total ns)
+ending at (n ∷ ns) = ending (at + n) ns ∙ add-assoc at n (inAll ns)
 
-pub starts-rise : (ns : List ℕ) → Starts (startsFrom 0 ns) (length ns) (total ns)
+pub starts-rise : (ns : List ℕ) → Starts (startsFrom 0 ns) (length ns) (inAll ns)
 starts-rise ns = record {
   begins = first-start 0 ns;
   rises = λ i h. rw (add-one i) (rising 0 ns i h);
-  ends = ending 0 ns ∙ zero-add (total ns);
+  ends = ending 0 ns ∙ zero-add (inAll ns);
 }
 
 -- what a list holds ends within the count

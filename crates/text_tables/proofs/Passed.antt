@@ -2,8 +2,8 @@
 use mathlib.Core.Path.{_≡_, refl, sym, ap, _∙_}
 use mathlib.Core.List.{List, [], _∷_, _++_, flatten, append-assoc, append-nil}
 use Rattle.layout.specs.Layout.{Word, Line, empty, word, ended, sequencesFrom}
-use Rattle.text_tables.specs.Pieces.{Piece, blank, linePieces, piecesOf, folded}
-use Rattle.text_tables.proofs.Lists.{flatten-append, folded-append}
+use Rattle.text_tables.specs.Pieces.{Piece, blank, linePieces, piecesOf, afterEach}
+use Rattle.text_tables.proofs.Lists.{flatten-append, each-append}
 
 -- the words of the sequences that are done, and of the open one
 pub open-words : (ss : List (List Word)) (ws : List Word) → flatten (ss ++ ended ws) ≡ flatten ss ++ ws
@@ -21,16 +21,16 @@ module _ {S : Type 0} (step : S → Piece → S) (state : List (List Word) → L
 
   module _
       (at-blank : (ss : List (List Word)) (ws : List Word) → step (state ss ws) blank ≡ state (ss ++ ended ws) [])
-      (at-word : (ss : List (List Word)) (ws : List Word) (w : Word) → folded step (state ss ws) (linePieces (word w)) ≡ state ss (ws ++ (w ∷ []))) where
-    pub passed : (ss : List (List Word)) (ws : List Word) (ls : List Line) → AtEnd (ss ++ sequencesFrom ws ls) (folded step (state ss ws) (piecesOf ls))
-    unfolding folded piecesOf sequencesFrom
+      (at-word : (ss : List (List Word)) (ws : List Word) (w : Word) → afterEach step (state ss ws) (linePieces (word w)) ≡ state ss (ws ++ (w ∷ []))) where
+    pub passed : (ss : List (List Word)) (ws : List Word) (ls : List Line) → AtEnd (ss ++ sequencesFrom ws ls) (afterEach step (state ss ws) (piecesOf ls))
+    unfolding afterEach piecesOf sequencesFrom
     passed ss ws [] = record { done = ss; last = ws; is = refl; all = refl }
     passed ss ws (empty ∷ ls) =
         let r = passed (ss ++ ended ws) [] ls in
         record {
           done = r .done;
           last = r .last;
-          is = ap (λ (s : S). folded step s (piecesOf ls)) (at-blank ss ws) ∙ r .is;
+          is = ap (λ (s : S). afterEach step s (piecesOf ls)) (at-blank ss ws) ∙ r .is;
           all = r .all ∙ append-assoc ss (ended ws) (sequencesFrom [] ls);
         }
     passed ss ws (word w ∷ ls) =
@@ -38,6 +38,6 @@ module _ {S : Type 0} (step : S → Piece → S) (state : List (List Word) → L
         record {
           done = r .done;
           last = r .last;
-          is = folded-append step (state ss ws) (linePieces (word w)) (piecesOf ls) ∙ ap (λ (s : S). folded step s (piecesOf ls)) (at-word ss ws w) ∙ r .is;
+          is = each-append step (state ss ws) (linePieces (word w)) (piecesOf ls) ∙ ap (λ (s : S). afterEach step s (piecesOf ls)) (at-word ss ws w) ∙ r .is;
           all = r .all;
         }

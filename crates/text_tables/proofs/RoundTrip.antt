@@ -11,7 +11,7 @@ use Rattle.refusals.specs.Meaning.{Starts}
 use Rattle.layout.specs.Layout.{Bytes, TextAttribute, Word, Line, empty, word, sequences, NoneEmpty}
 use Rattle.text_tables.specs.Distinct.{idIn, distinct}
 use Rattle.text_tables.specs.Tables.{Strings, startsFrom, flat, allWords, allAttributes, labelsOf, namesOf, scalesOf, tables}
-use Rattle.text_tables.specs.Written.{Unwritten, unwritten, stringAt, placesFrom, placesIn, attributeFrom, wordFrom, sequenceFrom, sequencesIn, allLines, writtenLines, total}
+use Rattle.text_tables.specs.Written.{Unwritten, unwritten, stringAt, placesFrom, placesIn, attributeFrom, wordFrom, sequenceFrom, sequencesIn, allLines, writtenLines, inAll}
 use Rattle.text_tables.specs.RoundTrip.{SameSequences, EachHasWords, ReadsBack}
 use Rattle.text_tables.proofs.Lists.{length-flatten}
 use Rattle.text_tables.proofs.Known.{EachKnown, each-known, id-name}

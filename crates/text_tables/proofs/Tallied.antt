@@ -14,7 +14,7 @@ use Rattle.refusals.specs.Meaning.{FirstBad}
 use Rattle.layout.specs.Layout.{Bytes, TextAttribute, Word, Line, empty, word, ended, sequencesFrom, sequences}
 use Rattle.text_tables.specs.Distinct.{learnt, learntAll, distinct}
 use Rattle.text_tables.specs.Tables.{allWords, allAttributes, labelsOf, namesOf, scalesOf}
-use Rattle.text_tables.specs.Pieces.{Piece, blank, label, attribute, linePieces, piecesOf, folded}
+use Rattle.text_tables.specs.Pieces.{Piece, blank, label, attribute, linePieces, piecesOf, afterEach}
 use Rattle.text_tables.specs.Tally.{Tally, nothingYet, tallied, tallyOf, AboveAt, Tallies, TallyMeans}
 use Rattle.text_tables.proofs.Lists.{map-append, flatten-append, flatten-one}
 use Rattle.text_tables.proofs.Known.{learnt-each, learnt-one}
@@ -103,8 +103,8 @@ withAttributes t xs = record {
   long = t .long;
 }
 
-tallied-attributes : (t : Tally) (xs : List TextAttribute) → folded tallied t (map attribute xs) ≡ withAttributes t xs
-unfolding folded learntAll flatten
+tallied-attributes : (t : Tally) (xs : List TextAttribute) → afterEach tallied t (map attribute xs) ≡ withAttributes t xs
+unfolding afterEach learntAll flatten
 tallied-attributes t [] = λ i. record {
   sequences = t .sequences;
   words = t .words;
@@ -172,8 +172,8 @@ scales-more vs w =
     ∙ ap (λ (xs : List Bytes). flatten xs) (map-append (λ (x : TextAttribute). x .scale) (allAttributes vs) (w .attributes))
     ∙ flatten-append (scalesOf (allAttributes vs)) (scalesOf (w .attributes))
 
-at-word : (ss : List (List Word)) (ws : List Word) (w : Word) → folded tallied (counted ss ws) (linePieces (word w)) ≡ counted ss (ws ++ (w ∷ []))
-unfolding folded
+at-word : (ss : List (List Word)) (ws : List Word) (w : Word) → afterEach tallied (counted ss ws) (linePieces (word w)) ≡ counted ss (ws ++ (w ∷ []))
+unfolding afterEach
 at-word ss ws w =
     let vs : List Word = flatten ss ++ ws in
     let t : Tally = tallied (counted ss ws) (label (w .label)) in

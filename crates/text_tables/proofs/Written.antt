@@ -6,7 +6,7 @@ use native.Mathlib.Nat.{add-assoc}
 use native.Mathlib.Omega.{arith}
 use lib.ListN.{length, length-append}
 use Rattle.layout.specs.Layout.{Bytes, TextAttribute, Word, Line, empty, word, escaped, scaleText, attributesText, lineText, moreLines, textOf, SoundTextLine, EachSound, SoundText, ended, sequencesFrom, sequences, NoneEmpty}
-use Rattle.text_tables.specs.Written.{sequenceLines, allLines, wordText, sequenceText, SumOfSequences, total, attributeLength, wordLength, sequenceLength, LengthIsSum}
+use Rattle.text_tables.specs.Written.{sequenceLines, allLines, wordText, sequenceText, SumOfSequences, inAll, attributeLength, wordLength, sequenceLength, LengthIsSum}
 use Rattle.text_tables.specs.RoundTrip.{EachSoundWord}
 use Rattle.text_tables.proofs.Lists.{map-append, flatten-append, length-flatten}
 
@@ -76,8 +76,8 @@ unfolding allLines
 sum-of-sequences ss = text-ended (flatten (map sequenceLines ss)) ∙ sequences-ended ss
 
 -- ---- its length
-attributes-length : (xs : List TextAttribute) → length (attributesText xs) ≡ total (map attributeLength xs)
-unfolding attributesText total
+attributes-length : (xs : List TextAttribute) → length (attributesText xs) ≡ inAll (map attributeLength xs)
+unfolding attributesText inAll
 attributes-length [] = refl
 attributes-length (x ∷ xs) =
     rw (length-append (escaped (x .name) ++ scaleText (x .scale)) (attributesText xs), length-append (escaped (x .name)) (scaleText (x .scale)), attributes-length xs)
@@ -95,14 +95,14 @@ length-words (w ∷ ws) = λ i. length-word w i ∷ length-words ws i
 
 pub length-sequence : (ws : List Word) → length (sequenceText ws) ≡ sequenceLength ws
 length-sequence ws =
-    length-append (flatten (map wordText ws)) (10 ∷ []) ∙ ap (λ (k : ℕ). k + 1) (length-flatten (map wordText ws) ∙ ap total (length-words ws))
+    length-append (flatten (map wordText ws)) (10 ∷ []) ∙ ap (λ (k : ℕ). k + 1) (length-flatten (map wordText ws) ∙ ap inAll (length-words ws))
 
 length-sequences : (ss : List (List Word)) → map length (map sequenceText ss) ≡ map sequenceLength ss
 length-sequences [] = refl
 length-sequences (s ∷ ss) = λ i. length-sequence s i ∷ length-sequences ss i
 
 pub length-is-sum : LengthIsSum
-length-is-sum ss = ap length (sum-of-sequences ss) ∙ length-flatten (map sequenceText ss) ∙ ap total (length-sequences ss)
+length-is-sum ss = ap length (sum-of-sequences ss) ∙ length-flatten (map sequenceText ss) ∙ ap inAll (length-sequences ss)
 
 -- ---- sound where each word is
 sound-append : (ls ms : List Line) → EachSound ls → EachSound ms → EachSound (ls ++ ms)

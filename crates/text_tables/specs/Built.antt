@@ -9,7 +9,7 @@ use Rattle.layout.specs.Layout.{Bytes, Word, Line, sequences}
 use Rattle.scales.specs.Value.{valueOf}
 use Rattle.text_tables.specs.Distinct.{idIn, distinct}
 use Rattle.text_tables.specs.Tables.{allWords, allAttributes, labelsOf, namesOf, tables}
-use Rattle.text_tables.specs.Pieces.{Piece, blank, label, attribute, piecesOf, folded}
+use Rattle.text_tables.specs.Pieces.{Piece, blank, label, attribute, piecesOf, afterEach}
 
 pub record Built : Type 0 where
   pub lineStarts : List ℕ
@@ -59,7 +59,7 @@ builtOn labels names b (attribute a) = record {
 }
 
 abbrev pub builtOf : List Bytes → List Bytes → List Piece → Built
-builtOf labels names pieces = folded (builtOn labels names) nothingBuilt pieces
+builtOf labels names pieces = afterEach (builtOn labels names) nothingBuilt pieces
 
 -- with the last start behind the others, the tables of the sequences
 pub record Builds (ss : List (List Word)) (b : Built) : Type 0 where

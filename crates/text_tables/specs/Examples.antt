@@ -8,7 +8,7 @@ use Rattle.layout.specs.Layout.{Bytes, Line, empty, word, escaped, scaleText, a
 use Rattle.scales.specs.Value.{worth, digitsIn, behindPoint, valueOf}
 use Rattle.text_tables.specs.Distinct.{same, idIn, learnt, learntAll}
 use Rattle.text_tables.specs.Tables.{startsFrom, Tables, tables}
-use Rattle.text_tables.specs.Pieces.{piecesOf, folded}
+use Rattle.text_tables.specs.Pieces.{piecesOf, afterEach}
 use Rattle.text_tables.specs.Tally.{nothingYet, tallyOf}
 use Rattle.text_tables.specs.Written.{unwritten, stringAt, placesFrom, allLines, writtenText}
 
@@ -103,16 +103,16 @@ unfolding textOf moreLines lineText attributesText escaped
 t3-texts = (refl, refl, refl)
 
 t3-none : (tallyOf (piecesOf (empty ∷ [])) ≡ nothingYet) × (tallyOf (piecesOf (empty ∷ empty ∷ empty ∷ [])) ≡ nothingYet)
-unfolding folded piecesOf
+unfolding afterEach piecesOf
 t3-none = (refl, refl)
 
 t3-one : tallyOf (piecesOf (word (record { label = 65 ∷ []; attributes = [] }) ∷ [])) ≡ record { sequences = 1; words = 1; attributes = 0; present = 1; scaleBytes = 0; labels = (65 ∷ []) ∷ []; names = []; long = 0 }
-unfolding folded piecesOf learnt idIn
+unfolding afterEach piecesOf learnt idIn
 t3-one = refl
 
 -- T1's counts: "Two sequences"
 t1-tally : tallyOf (piecesOf t1) ≡ record { sequences = 2; words = 3; attributes = 3; present = 0; scaleBytes = 5; labels = (65 ∷ []) ∷ (66 ∷ []) ∷ []; names = (97 ∷ []) ∷ (98 ∷ []) ∷ []; long = 0 }
-unfolding folded piecesOf learnt idIn same
+unfolding afterEach piecesOf learnt idIn same
 t1-tally = refl
 
 -- T4: "128 times `A␊`, `␊`, 129 times `A␊`: 4/1": the second is too long
@@ -120,5 +120,5 @@ abbrev manyA : ℕ → List Line
 manyA n = replicate n (word (record { label = 65 ∷ []; attributes = [] }))
 
 t4-long : (tallyOf (piecesOf (manyA 128 ++ (empty ∷ manyA 129))) .long ≡ 2) × (tallyOf (piecesOf (manyA 128 ++ (empty ∷ manyA 128))) .long ≡ 0)
-unfolding folded piecesOf learnt idIn same
+unfolding afterEach piecesOf learnt idIn same
 t4-long = (refl, refl)

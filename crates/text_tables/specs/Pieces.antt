@@ -16,7 +16,7 @@ unfoldable pub piecesOf : List Line → List Piece
 piecesOf [] = []
 piecesOf (l ∷ ls) = linePieces l ++ piecesOf ls
 
--- what a pass over pieces makes of what it had: one piece after the other
-unfoldable pub folded : {S A : Type 0} → (S → A → S) → S → List A → S
-folded step s [] = s
-folded step s (x ∷ xs) = folded step (step s x) xs
+-- what a pass has after each of some pieces, one after the other
+unfoldable pub afterEach : {S A : Type 0} → (S → A → S) → S → List A → S
+afterEach step s [] = s
+afterEach step s (x ∷ xs) = afterEach step (step s x) xs

@@ -10,7 +10,7 @@ use Rattle.refusals.specs.Meaning.{FirstBad}
 use Rattle.layout.specs.Layout.{Bytes, Word, Line, sequences}
 use Rattle.text_tables.specs.Distinct.{learnt, distinct}
 use Rattle.text_tables.specs.Tables.{allWords, allAttributes, labelsOf, namesOf, scalesOf}
-use Rattle.text_tables.specs.Pieces.{Piece, blank, label, attribute, piecesOf, folded}
+use Rattle.text_tables.specs.Pieces.{Piece, blank, label, attribute, piecesOf, afterEach}
 
 -- "counts, distinct names, bytes"
 pub record Tally : Type 0 where
@@ -66,7 +66,7 @@ tallied t (attribute a) = record {
 }
 
 abbrev pub tallyOf : List Piece → Tally
-tallyOf pieces = folded tallied nothingYet pieces
+tallyOf pieces = afterEach tallied nothingYet pieces
 
 -- ---- what it comes to, in plain terms
 

@@ -82,19 +82,21 @@ abbrev pub SumOfSequences : Type 0
 SumOfSequences = (ss : List (List Word)) → textOf (allLines ss) ≡ flatten (map sequenceText ss)
 
 -- ---- its length
-unfoldable pub total : List ℕ → ℕ
-total [] = 0
-total (n ∷ ns) = n + total ns
+
+-- so many in all
+unfoldable pub inAll : List ℕ → ℕ
+inAll [] = 0
+inAll (n ∷ ns) = n + inAll ns
 
 -- a tab, the escaped name, and the colon with the kept text, where there is one
 abbrev pub attributeLength : TextAttribute → ℕ
 attributeLength a = 1 + (length (escaped (a .name)) + length (scaleText (a .scale)))
 
 abbrev pub wordLength : Word → ℕ
-wordLength w = length (escaped (w .label)) + total (map attributeLength (w .attributes)) + 1
+wordLength w = length (escaped (w .label)) + inAll (map attributeLength (w .attributes)) + 1
 
 abbrev pub sequenceLength : List Word → ℕ
-sequenceLength ws = total (map wordLength ws) + 1
+sequenceLength ws = inAll (map wordLength ws) + 1
 
 abbrev pub LengthIsSum : Type 0
-LengthIsSum = (ss : List (List Word)) → length (textOf (allLines ss)) ≡ total (map sequenceLength ss)
+LengthIsSum = (ss : List (List Word)) → length (textOf (allLines ss)) ≡ inAll (map sequenceLength ss)
