@@ -15,7 +15,7 @@ use Rattle.text_tables.specs.Written.{unwritten, allLines, writtenText, 
 use Rattle.text_tables.specs.RoundTrip.{EachSoundWord}
 use Rattle.text_tables.specs.InText.{InText, FitsInText, FewWritten}
 use Rattle.text_tables.proofs.Lists.{map-append, flatten-append, all-append}
-use Rattle.text_tables.proofs.Written.{length-word, length-is-sum}
+use Rattle.text_tables.proofs.Written.{word-ended, length-word, length-is-sum, lengths-apart}
 use Rattle.text_tables.proofs.RoundTrip.{words-back}
 use Rattle.text_tables.proofs.Carried.{EachName, labels-named, all-attributes, attributes-named, text-words-sound}
 
@@ -39,7 +39,7 @@ text-span [] h = absurd h
 text-span (l ∷ ls) h = rw (length-append (lineText l) (moreLines ls), more-span ls) (omega arith)
 
 word-span : (w : Word) → lineSpan (word w) ≡ wordLength w
-word-span w = sym (length-append (lineText (word w)) (10 ∷ [])) ∙ length-word w
+word-span w = sym (length-append (lineText (word w)) (10 ∷ [])) ∙ ap length (word-ended w) ∙ length-word w
 
 parts-span : (ls : List Line) → inAll (map lineSpan ls) ≡ inAll (map wordLength (lineWords ls)) + empties ls
 unfolding inAll empties lineText
@@ -205,12 +205,6 @@ fits-in-text ls h =
     }
 
 -- ---- what is written of it
-lengths-apart : (ss : List (List Word)) → inAll (map sequenceLength ss) ≡ inAll (map wordLength (flatten ss)) + length ss
-unfolding inAll flatten
-lengths-apart [] = refl
-lengths-apart (s ∷ ss) =
-    rw (lengths-apart ss, map-append wordLength s (flatten ss), all-append (map wordLength s) (map wordLength (flatten ss))) (omega arith)
-
 pub few-written : FewWritten
 few-written ls h =
     let ss : List (List Word) = sequences ls in

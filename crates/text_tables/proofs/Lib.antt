@@ -9,4 +9,5 @@ pub mod Written
 pub mod Parts
 pub mod RoundTrip
 pub mod Carried
+pub mod Places
 pub mod InText

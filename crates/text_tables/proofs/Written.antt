@@ -6,9 +6,9 @@ use native.Mathlib.Nat.{add-assoc}
 use native.Mathlib.Omega.{arith}
 use lib.ListN.{length, length-append}
 use Rattle.layout.specs.Layout.{Bytes, TextAttribute, Word, Line, empty, word, escaped, scaleText, attributesText, lineText, moreLines, textOf, SoundTextLine, EachSound, SoundText, ended, sequencesFrom, sequences, NoneEmpty}
-use Rattle.text_tables.specs.Written.{sequenceLines, allLines, wordText, sequenceText, SumOfSequences, inAll, attributeLength, wordLength, sequenceLength, LengthIsSum}
+use Rattle.text_tables.specs.Written.{sequenceLines, allLines, attributeText, wordText, sequenceText, SumOfSequences, inAll, attributeLength, wordLength, sequenceLength, LengthIsSum}
 use Rattle.text_tables.specs.RoundTrip.{EachSoundWord}
-use Rattle.text_tables.proofs.Lists.{map-append, flatten-append, length-flatten}
+use Rattle.text_tables.proofs.Lists.{map-append, flatten-append, length-flatten, all-append}
 
 -- ---- their sequences
 words-in : (ws vs : List Word) (ls : List Line) → sequencesFrom ws (map word vs ++ ls) ≡ sequencesFrom (ws ++ vs) ls
@@ -35,7 +35,7 @@ unfolding allLines
 sequences-of-lines ss h = all-in ss h
 
 -- ---- their text
-abbrev lineEnded : Line → Bytes
+abbrev pub lineEnded : Line → Bytes
 lineEnded l = lineText l ++ (10 ∷ [])
 
 more-ended : (ls : List Line) → moreLines (ls ++ (empty ∷ [])) ≡ 10 ∷ flatten (map lineEnded ls)
@@ -51,9 +51,18 @@ text-ended [] = refl
 text-ended (l ∷ ls) =
     ap (λ (t : Bytes). lineText l ++ t) (more-ended ls) ∙ sym (append-assoc (lineText l) (10 ∷ []) (flatten (map lineEnded ls)))
 
+pub attributes-text : (xs : List TextAttribute) → attributesText xs ≡ flatten (map attributeText xs)
+unfolding attributesText flatten
+attributes-text [] = refl
+attributes-text (x ∷ xs) = ap (λ (t : Bytes). attributeText x ++ t) (attributes-text xs)
+
+pub word-ended : (w : Word) → lineEnded (word w) ≡ wordText w
+unfolding lineText
+word-ended w = ap (λ (t : Bytes). (escaped (w .label) ++ t) ++ (10 ∷ [])) (attributes-text (w .attributes))
+
 words-ended : (ws : List Word) → map lineEnded (map word ws) ≡ map wordText ws
 words-ended [] = refl
-words-ended (w ∷ ws) = ap (λ (ts : List Bytes). wordText w ∷ ts) (words-ended ws)
+words-ended (w ∷ ws) = λ i. word-ended w i ∷ words-ended ws i
 
 sequence-ended : (ws : List Word) → flatten (map lineEnded (sequenceLines ws)) ≡ sequenceText ws
 unfolding flatten lineText
@@ -76,18 +85,18 @@ unfolding allLines
 sum-of-sequences ss = text-ended (flatten (map sequenceLines ss)) ∙ sequences-ended ss
 
 -- ---- its length
-attributes-length : (xs : List TextAttribute) → length (attributesText xs) ≡ inAll (map attributeLength xs)
-unfolding attributesText inAll
+attributes-length : (xs : List TextAttribute) → length (flatten (map attributeText xs)) ≡ inAll (map attributeLength xs)
+unfolding flatten inAll
 attributes-length [] = refl
 attributes-length (x ∷ xs) =
-    rw (length-append (escaped (x .name) ++ scaleText (x .scale)) (attributesText xs), length-append (escaped (x .name)) (scaleText (x .scale)), attributes-length xs)
+    rw (length-append (escaped (x .name) ++ scaleText (x .scale)) (flatten (map attributeText xs)), length-append (escaped (x .name)) (scaleText (x .scale)), attributes-length xs)
     (omega arith)
 
 pub length-word : (w : Word) → length (wordText w) ≡ wordLength w
-unfolding lineText
 length-word w =
-    length-append (lineText (word w)) (10 ∷ [])
-    ∙ ap (λ (k : ℕ). k + 1) (length-append (escaped (w .label)) (attributesText (w .attributes)) ∙ ap (λ (k : ℕ). length (escaped (w .label)) + k) (attributes-length (w .attributes)))
+    let rest : Bytes = flatten (map attributeText (w .attributes)) in
+    length-append (escaped (w .label) ++ rest) (10 ∷ [])
+    ∙ ap (λ (k : ℕ). k + 1) (length-append (escaped (w .label)) rest ∙ ap (λ (k : ℕ). length (escaped (w .label)) + k) (attributes-length (w .attributes)))
 
 length-words : (ws : List Word) → map length (map wordText ws) ≡ map wordLength ws
 length-words [] = refl
@@ -103,6 +112,13 @@ length-sequences (s ∷ ss) = λ i. length-sequence s i ∷ length-sequences ss 
 
 pub length-is-sum : LengthIsSum
 length-is-sum ss = ap length (sum-of-sequences ss) ∙ length-flatten (map sequenceText ss) ∙ ap inAll (length-sequences ss)
+
+-- words one by one, and one more for each sequence
+pub lengths-apart : (ss : List (List Word)) → inAll (map sequenceLength ss) ≡ inAll (map wordLength (flatten ss)) + length ss
+unfolding inAll flatten
+lengths-apart [] = refl
+lengths-apart (s ∷ ss) =
+    rw (lengths-apart ss, map-append wordLength s (flatten ss), all-append (map wordLength s) (map wordLength (flatten ss))) (omega arith)
 
 -- ---- sound where each word is
 sound-append : (ls ms : List Line) → EachSound ls → EachSound ms → EachSound (ls ++ ms)

@@ -4,7 +4,8 @@ use mathlib.Core.List.{List, [], _∷_, _++_, map, flatten}
 use Prim.Native.Nat.{ℕ, zero, suc, _+_}
 use lib.ListN.{length, getD, take, drop}
 use Rattle.lines.specs.Passes.{start, size}
-use Rattle.layout.specs.Layout.{Bytes, TextAttribute, Word, Line, empty, word, escaped, scaleText, lineText, textOf}
+use Rattle.refusals.specs.Meaning.{Starts}
+use Rattle.layout.specs.Layout.{Bytes, TextAttribute, Word, Line, empty, word, escaped, scaleText, textOf}
 use Rattle.text_tables.specs.Tables.{Strings, Tables}
 
 -- "It is lent ids and kept texts, and neither values nor shares"
@@ -47,8 +48,11 @@ placesIn starts i = placesFrom (start starts i) (size starts i)
 abbrev pub attributeFrom : Unwritten → ℕ → TextAttribute
 attributeFrom t a = record { name = stringAt (t .names) (getD (t .ids) a 0); scale = stringAt (t .scales) a }
 
+abbrev pub labelFrom : Unwritten → ℕ → Bytes
+labelFrom t w = stringAt (t .labels) (getD (t .references) w 0)
+
 abbrev pub wordFrom : Unwritten → ℕ → Word
-wordFrom t w = record { label = stringAt (t .labels) (getD (t .references) w 0); attributes = map (attributeFrom t) (placesIn (t .wordStarts) w) }
+wordFrom t w = record { label = labelFrom t w; attributes = map (attributeFrom t) (placesIn (t .wordStarts) w) }
 
 abbrev pub sequenceFrom : Unwritten → ℕ → List Word
 sequenceFrom t i = map (wordFrom t) (placesIn (t .lineStarts) i)
@@ -70,9 +74,13 @@ writtenLines t = allLines (sequencesIn t)
 abbrev pub writtenText : Unwritten → Bytes
 writtenText t = textOf (writtenLines t)
 
--- ---- the same byte by byte: "a line feed ends each line", and one more each sequence
+-- ---- the same byte by byte: "for each attribute a tab, the escaped name, and, where the kept text is not empty, a colon and that text; a line feed ends
+-- each line", and one more each sequence
+abbrev pub attributeText : TextAttribute → Bytes
+attributeText a = 9 ∷ (escaped (a .name) ++ scaleText (a .scale))
+
 abbrev pub wordText : Word → Bytes
-wordText w = lineText (word w) ++ (10 ∷ [])
+wordText w = (escaped (w .label) ++ flatten (map attributeText (w .attributes))) ++ (10 ∷ [])
 
 abbrev pub sequenceText : List Word → Bytes
 sequenceText ws = flatten (map wordText ws) ++ (10 ∷ [])
@@ -100,3 +108,10 @@ sequenceLength ws = inAll (map wordLength ws) + 1
 
 abbrev pub LengthIsSum : Type 0
 LengthIsSum = (ss : List (List Word)) → length (textOf (allLines ss)) ≡ inAll (map sequenceLength ss)
+
+-- the same of tables whose starts rise to these counts: sequences, words and attributes one by one, each of them in exactly one list
+abbrev pub LengthOfTables : Type 0
+LengthOfTables = (t : Unwritten) (words attributes : ℕ) → Starts (t .lineStarts) (t .instances) words → Starts (t .wordStarts) words attributes →
+    length (writtenText t)
+    ≡ t .instances
+    + (inAll (map (λ (w : ℕ). length (escaped (labelFrom t w)) + 1) (placesFrom 0 words)) + inAll (map (λ (a : ℕ). attributeLength (attributeFrom t a)) (placesFrom 0 attributes)))
