@@ -59,7 +59,7 @@ id-before (m ∷ known) more n h = go (same m n) (id-before known more n) h
     go false rest k = ap suc (rest (le-of-suc-le-suc k))
 
 -- that of a new name is how many were known
-id-new : (known : List Bytes) (n : Bytes) → length known ≤ idIn known n → idIn (known ++ (n ∷ [])) n ≡ idIn known n
+pub id-new : (known : List Bytes) (n : Bytes) → length known ≤ idIn known n → idIn (known ++ (n ∷ [])) n ≡ idIn known n
 unfolding idIn
 id-new [] n h = rw (same-self n)
 id-new (m ∷ known) n h = go (same m n) (id-new known n) h

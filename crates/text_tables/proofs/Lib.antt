@@ -1,5 +1,6 @@
 pub mod Lists
 pub mod Known
+pub mod Appearance
 pub mod Passed
 pub mod Tallied
 pub mod Built
