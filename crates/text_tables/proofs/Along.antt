@@ -1,10 +1,9 @@
--- While the pieces come: what is built is as long as the tally says, counts only grow, names known stay in front, and none is above the pieces. Assumes nothing.
+-- While the pieces come: what is built is as long as the tally says, counts only grow, names known stay in front, and no count outgrows those above it. Assumes nothing.
 use mathlib.Core.Path.{_≡_, refl, sym, ap, _∙_}
 use mathlib.Core.Bool.{Bool, true, false, cond, not, _&&_}
 use mathlib.Core.List.{List, [], _∷_, _++_, append-nil, append-assoc}
 use Prim.Native.Nat.{ℕ, zero, suc, _+_, _≤_, _<_}
-use native.Mathlib.Nat.{le-refl, le-trans, add-zero, zero-add, add-suc, suc-add}
-use native.Mathlib.Numerals.{add-one}
+use native.Mathlib.Nat.{le-refl, le-trans}
 use native.Mathlib.Omega.{arith}
 use lib.Dec.{eqb, ltb}
 use lib.ListN.{length, length-append}
@@ -170,9 +169,8 @@ pub attribute-id : (t : Tally) (a : TextAttribute) (ps : List Piece) →
 unfolding afterEach
 attribute-id t a ps = let g = grown (tallied t (attribute a)) ps .names in stays (t .names) (g .0) (a .name) (g .1)
 
--- ---- none is above how many pieces there were
-pub record Few (t : Tally) (n : ℕ) : Type 0 where
-  pub pieces : t .words + t .attributes ≤ n
+-- ---- no count is above another that it cannot be above
+pub record Regular (t : Tally) : Type 0 where
   pub sequences : t .sequences ≤ t .words
   pub present : t .present ≤ t .words
   pub labels : length (t .labels) ≤ t .words
@@ -187,19 +185,14 @@ one-known-more known n k h = go (ltb (idIn known n) (length known))
     go true = omega (arith, h)
     go false = rw (length-append known (n ∷ [])) (omega (arith, h))
 
-pub few-by : (t : Tally) (n : ℕ) (p : Piece) → Few t n → Few (tallied t p) (n + 1)
-few-by t n blank h = record {
-  pieces = omega (arith, h .pieces);
-  sequences = h .sequences;
-  present = omega arith;
-  labels = h .labels;
-  names = h .names;
-  long = h .long;
-}
-few-by t n (label m) h =
+pub regular-none : Regular nothingYet
+regular-none = record { sequences = le-refl 0; present = le-refl 0; labels = le-refl 0; names = le-refl 0; long = le-refl 0 }
+
+pub regular-by : (t : Tally) (p : Piece) → Regular t → Regular (tallied t p)
+regular-by t blank h = record { sequences = h .sequences; present = omega arith; labels = h .labels; names = h .names; long = h .long }
+regular-by t (label m) h =
     let s = begun (eqb (t .present) 0) in
     record {
-      pieces = omega (arith, h .pieces);
       sequences = s .1;
       present = omega (arith, h .present);
       labels = one-known-more (t .labels) m (t .words) (h .labels);
@@ -214,8 +207,7 @@ few-by t n (label m) h =
     go : (b : Bool) {k : ℕ} → t .sequences ≤ k → cond b k (t .long) ≤ k
     go true l = le-refl _
     go false l = le-trans (h .long) l
-few-by t n (attribute a) h = record {
-  pieces = omega (arith, h .pieces);
+regular-by t (attribute a) h = record {
   sequences = h .sequences;
   present = h .present;
   labels = h .labels;
@@ -223,12 +215,7 @@ few-by t n (attribute a) h = record {
   long = h .long;
 }
 
-pub few-from : (t : Tally) (n : ℕ) (ps : List Piece) → Few t n → Few (afterEach tallied t ps) (n + length ps)
+pub regular : (t : Tally) (ps : List Piece) → Regular t → Regular (afterEach tallied t ps)
 unfolding afterEach
-few-from t n [] h = rw (add-zero n) h
-few-from t n (p ∷ ps) h = rw (add-suc n (length ps), ← suc-add n (length ps), ← add-one n) (few-from (tallied t p) (n + 1) ps (few-by t n p h))
-
-pub few : (ps : List Piece) → Few (tallyOf ps) (length ps)
-few ps =
-    let none : Few nothingYet 0 = record { pieces = le-refl 0; sequences = le-refl 0; present = le-refl 0; labels = le-refl 0; names = le-refl 0; long = le-refl 0 } in
-    rw (zero-add (length ps)) at (few-from nothingYet 0 ps none)
+regular t [] h = h
+regular t (p ∷ ps) h = regular (tallied t p) ps (regular-by t p h)

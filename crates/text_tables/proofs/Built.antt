@@ -17,7 +17,7 @@ use Rattle.text_tables.specs.Pieces.{Piece, blank, label, attribute, lin
 use Rattle.text_tables.specs.Tally.{Tally, nothingYet, tallied, tallyOf}
 use Rattle.text_tables.specs.Built.{Built, nothingBuilt, builtOn, builtOf, Builds, BuiltMeans}
 use Rattle.text_tables.specs.Written.{inAll}
-use Rattle.text_tables.proofs.Lists.{map-append, flatten-append, all-append, length-flatten, beginsFrom, starts-begins, begins-append, begins-more}
+use Rattle.text_tables.proofs.Lists.{map-append, flatten-append, all-append, length-flatten, beginsFrom, starts-begins, begins-append, begins-more, flat-starts}
 use Rattle.text_tables.proofs.Passed.{open-words, AtEnd, passed}
 use Rattle.text_tables.proofs.Tallied.{attributes-more, scales-more, more-length}
 
@@ -185,9 +185,6 @@ module _ (labels names : List Bytes) where
   word-starts : (vs : List Word) → beginsFrom 0 (map attributeCount vs) ++ (length (map (idIn names) (namesOf (allAttributes vs))) ∷ []) ≡ startsFrom 0 (map attributeCount vs)
   word-starts vs = starts-with-last (map attributeCount vs) (length (map (idIn names) (namesOf (allAttributes vs)))) (count-attributes vs)
 
-  scale-starts : (xs : List Bytes) → beginsFrom 0 (map length xs) ++ (length (flatten xs) ∷ []) ≡ startsFrom 0 (map length xs)
-  scale-starts xs = starts-with-last (map length xs) (length (flatten xs)) (length-flatten xs)
-
 pub built-means : BuiltMeans
 unfolding tables
 built-means ls =
@@ -202,7 +199,7 @@ built-means ls =
       references = refl;
       ids = refl;
       values = refl;
-      scaleStarts = scale-starts labels names (scalesOf (allAttributes vs));
+      scaleStarts = sym (flat-starts (scalesOf (allAttributes vs)));
       scales = refl;
     } in
     subst (Builds ss) (sym (r .1)) done

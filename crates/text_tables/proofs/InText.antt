@@ -13,8 +13,12 @@ use Rattle.text_tables.specs.Distinct.{idIn, learnt, learntAll, distinct
 use Rattle.text_tables.specs.Tables.{allWords, allAttributes, labelsOf, namesOf, scalesOf, tables}
 use Rattle.text_tables.specs.Written.{unwritten, allLines, writtenText, wordText, inAll, attributeLength, wordLength, sequenceLength}
 use Rattle.text_tables.specs.RoundTrip.{EachSoundWord}
+use Rattle.text_tables.specs.Pieces.{Piece, piecesOf, afterEach}
+use Rattle.text_tables.specs.Tally.{Tally, tallied, tallyOf}
 use Rattle.text_tables.specs.InText.{InText, FitsInText, FewWritten}
 use Rattle.text_tables.proofs.Lists.{map-append, flatten-append, all-append}
+use Rattle.text_tables.proofs.Tallied.{tally-means}
+use Rattle.text_tables.proofs.Along.{Grown, grown}
 use Rattle.text_tables.proofs.Written.{word-ended, length-word, length-is-sum, lengths-apart}
 use Rattle.text_tables.proofs.RoundTrip.{words-back}
 use Rattle.text_tables.proofs.Carried.{EachName, labels-named, all-attributes, attributes-named, text-words-sound}
@@ -211,3 +215,32 @@ few-written ls h =
     let span = words-span ls h in
     let few = sequences-few [] ls in
     rw (words-back ss, length-is-sum ss, lengths-apart ss) (omega (arith, span, few))
+
+-- ---- on the way there: what a pass has counted so far is within the text too
+pub record OnTheWay (t : Tally) (n : ℕ) : Type 0 where
+  pub sequences : t .sequences ≤ n
+  pub words : t .words ≤ n
+  pub attributes : t .attributes ≤ n
+  pub scaleBytes : t .scaleBytes ≤ n
+  pub labelBytes : length (flatten (t .labels)) ≤ n
+  pub nameBytes : length (flatten (t .names)) ≤ n
+
+front-bytes : (front more all : List Bytes) → all ≡ front ++ more → length (flatten front) ≤ length (flatten all)
+front-bytes front more all e =
+    rw (e, flatten-append front more, length-append (flatten front) (flatten more)) (omega arith)
+
+pub on-the-way : (ls : List Line) → SoundText ls → (t : Tally) (ps : List Piece) → afterEach tallied t ps ≡ tallyOf (piecesOf ls) → OnTheWay t (length (textOf ls))
+on-the-way ls h t ps e =
+    let f = fits-in-text ls h in
+    let m = tally-means ls in
+    let g : Grown t (tallyOf (piecesOf ls)) = rw e at (grown t ps) in
+    let labels = front-bytes (t .labels) (g .labels .0) (distinct (labelsOf (allWords (sequences ls)))) (sym (m .labels) ∙ g .labels .1) in
+    let names = front-bytes (t .names) (g .names .0) (distinct (namesOf (allAttributes (allWords (sequences ls))))) (sym (m .names) ∙ g .names .1) in
+    record {
+      sequences = omega (arith, g .sequences, m .sequences, f .instances);
+      words = omega (arith, g .words, m .words, f .words);
+      attributes = omega (arith, g .attributes, m .attributes, f .attributes);
+      scaleBytes = omega (arith, g .scaleBytes, m .scaleBytes, f .scaleBytes);
+      labelBytes = le-trans labels (f .labelBytes);
+      nameBytes = le-trans names (f .nameBytes);
+    }

@@ -4,7 +4,8 @@ use mathlib.Core.List.{List, [], _∷_, _++_, map, flatten, append-assoc, append
 use Prim.Native.Nat.{ℕ, zero, suc, _+_, _≤_, _<_}
 use native.Mathlib.Nat.{add-assoc, add-zero, zero-add}
 use lib.ListN.{length, drop, set, length-append, length-map}
-use Rattle.text_tables.specs.Tables.{startsFrom}
+use Rattle.layout.specs.Layout.{Bytes}
+use Rattle.text_tables.specs.Tables.{startsFrom, flat}
 use Rattle.text_tables.specs.Pieces.{afterEach}
 use Rattle.text_tables.specs.Written.{inAll}
 
@@ -72,3 +73,16 @@ pub length-begins : (at : ℕ) (ns : List ℕ) → length (beginsFrom at ns) ≡
 unfolding beginsFrom
 length-begins at [] = refl
 length-begins at (n ∷ ns) = ap suc (length-begins (at + n) ns)
+
+-- ---- strings that lie flat, one more at a time
+pub flat-begins : (xs : List Bytes) (x : Bytes) → beginsFrom 0 (map length (xs ++ (x ∷ []))) ≡ beginsFrom 0 (map length xs) ++ (length (flatten xs) ∷ [])
+flat-begins xs x =
+    ap (beginsFrom 0) (map-append length xs (x ∷ []))
+    ∙ begins-more (map length xs) (length x)
+    ∙ ap (λ (k : ℕ). beginsFrom 0 (map length xs) ++ (k ∷ [])) (sym (length-flatten xs))
+
+pub flat-bytes : (xs : List Bytes) (x : Bytes) → flatten (xs ++ (x ∷ [])) ≡ flatten xs ++ x
+flat-bytes xs x = flatten-append xs (x ∷ []) ∙ ap (λ (ys : Bytes). flatten xs ++ ys) (flatten-one x)
+
+pub flat-starts : (xs : List Bytes) → flat xs .starts ≡ beginsFrom 0 (map length xs) ++ (length (flatten xs) ∷ [])
+flat-starts xs = starts-begins 0 (map length xs) ∙ ap (λ (k : ℕ). beginsFrom 0 (map length xs) ++ (k ∷ [])) (zero-add (inAll (map length xs)) ∙ sym (length-flatten xs))
