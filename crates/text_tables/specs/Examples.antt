@@ -1,8 +1,8 @@
--- Desk cases T1 to T4, computed: the texts of T1 and T2, their tables whole with numbers by their bits, and what is written of them; counts. Assumes nothing.
+-- Desk cases T1 to T4, computed: the texts of T1 and T2, their tables whole with numbers by their bits, and what is written of them; counts of T3 and T4, and T7's length. Assumes nothing.
 use mathlib.Core.Path.{_≡_, refl}
 use mathlib.Core.List.{List, [], _∷_, _++_, flatten}
 use Prim.Native.Nat.{ℕ}
-use lib.ListN.{replicate}
+use lib.ListN.{length, replicate}
 use lib.Ieee.{Float, binary64, ofBits, ofInt, round}
 use Rattle.layout.specs.Layout.{Bytes, Line, empty, word, escaped, scaleText, attributesText, lineText, moreLines, textOf, sequencesFrom, sequences}
 use Rattle.scales.specs.Value.{worth, digitsIn, behindPoint, valueOf}
@@ -63,6 +63,11 @@ t1-read = refl
 t1-written : writtenText (unwritten t1-tables) ≡ 65 ∷ 9 ∷ 97 ∷ 58 ∷ 48 ∷ 46 ∷ 53 ∷ 9 ∷ 98 ∷ 10 ∷ 66 ∷ 10 ∷ 10 ∷ 65 ∷ 9 ∷ 98 ∷ 58 ∷ 45 ∷ 48 ∷ 10 ∷ 10 ∷ []
 unfolding textOf moreLines lineText attributesText escaped scaleText allLines stringAt placesFrom flatten
 t1-written = refl
+
+-- T7: "a text of 20 bytes 2/0 .., of 21 accepted": 21 bytes are needed
+t1-needs : length (writtenText (unwritten t1-tables)) ≡ 21
+unfolding textOf moreLines lineText attributesText escaped scaleText allLines stringAt placesFrom flatten
+t1-needs = refl
 
 -- T2: `h\:m␉C\:\\x:1`
 abbrev t2 : List Line

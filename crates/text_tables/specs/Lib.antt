@@ -4,6 +4,7 @@ pub mod Distinct
 pub mod Tables
 pub mod Pieces
 pub mod Tally
+pub mod Laid
 pub mod Built
 pub mod Written
 pub mod RoundTrip
