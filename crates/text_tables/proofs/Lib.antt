@@ -10,5 +10,6 @@ pub mod Written
 pub mod Parts
 pub mod RoundTrip
 pub mod Carried
+pub mod Tails
 pub mod Places
 pub mod InText

@@ -8,5 +8,6 @@ pub mod Laid
 pub mod Built
 pub mod Written
 pub mod RoundTrip
+pub mod Tails
 pub mod InText
 pub mod Examples
