@@ -1,5 +1,5 @@
 -- The sequences of lines: what empty lines do, that none is empty, and that every word is in one of them. Assumes nothing.
-use mathlib.Core.Path.{_≡_, refl, sym, ap, _∙_}
+use mathlib.Core.Path.{_≡_, refl, ap, _∙_}
 use mathlib.Core.List.{List, [], _∷_, _++_, append-assoc, append-nil, flatten}
 use Rattle.layout.specs.Layout.{Word, Line, empty, word, ended, sequencesFrom, sequences, NoneEmpty, lineWords}
 

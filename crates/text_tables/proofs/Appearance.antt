@@ -1,17 +1,17 @@
 -- Ids by first appearance, name by name. Assumes nothing.
 use mathlib.Core.Path.{_≡_, refl, sym, ap, subst, _∙_}
-use mathlib.Core.Bool.{Bool, true, false, cond}
+use mathlib.Core.Bool.{Bool, true, false}
 use mathlib.Core.List.{List, [], _∷_, _++_, append-assoc, append-nil}
 use mathlib.Core.Logic.{_⊎_, inl, inr}
-use Prim.Native.Nat.{ℕ, zero, suc, _+_, _≤_, _<_}
-use native.Mathlib.Nat.{not-suc-le-zero, eq-or-lt-of-le, le-of-suc-le-suc}
+use Prim.Native.Nat.{ℕ, _+_, _<_}
+use native.Mathlib.Nat.{not-suc-le-zero, eq-or-lt-of-le}
 use native.Mathlib.Omega.{arith}
 use lib.Dec.{ltb}
 use lib.ListN.{length, getD, length-append, List·getD-append}
 use lib.Seq.{getD-append-seam}
 use borrow.Author.Tests.{ltb-true, ltb-false}
 use Rattle.layout.specs.Layout.{Bytes}
-use Rattle.text_tables.specs.Distinct.{idIn, learnt, learntAll, distinct, FirstAppearance, IdsByFirstAppearance}
+use Rattle.text_tables.specs.Distinct.{idIn, learnt, learntAll, FirstAppearance, IdsByFirstAppearance}
 use Rattle.text_tables.proofs.Known.{id-at-most, id-name, id-before, id-new, learnt-known, learnt-new}
 
 -- a place of a list with one more behind it

@@ -1,25 +1,20 @@
 -- What is built of the pieces of lines is the tables of their sequences, and each list is as long as the tally says. Assumes nothing.
 use mathlib.Core.Path.{_≡_, refl, sym, ap, subst, _∙_}
-use mathlib.Core.Bool.{Bool, true, false, cond, not}
+use mathlib.Core.Bool.{Bool, true, false, cond}
 use mathlib.Core.List.{List, [], _∷_, _++_, map, flatten, append-assoc, append-nil}
-use Prim.Native.Nat.{ℕ, zero, suc, _+_, _≤_, _<_}
-use native.Mathlib.Nat.{zero-add, add-zero, suc-ne-zero}
-use native.Mathlib.Omega.{arith}
-use lib.Dec.{eqb}
+use Prim.Native.Nat.{ℕ, _+_}
+use native.Mathlib.Nat.{zero-add}
 use lib.ListN.{length, length-append, length-map}
-use lib.Ieee.{Float}
-use borrow.Author.Tests.{ne-eqb}
-use Rattle.layout.specs.Layout.{Bytes, TextAttribute, Word, Line, empty, word, ended, sequencesFrom, sequences}
+use Rattle.layout.specs.Layout.{Bytes, TextAttribute, Word, Line, word, ended, sequences}
 use Rattle.scales.specs.Value.{valueOf}
 use Rattle.text_tables.specs.Distinct.{idIn, distinct}
 use Rattle.text_tables.specs.Tables.{startsFrom, allWords, allAttributes, labelsOf, namesOf, scalesOf, tables}
-use Rattle.text_tables.specs.Pieces.{Piece, blank, label, attribute, linePieces, piecesOf, afterEach}
-use Rattle.text_tables.specs.Tally.{Tally, nothingYet, tallied, tallyOf}
-use Rattle.text_tables.specs.Built.{Built, nothingBuilt, builtOn, builtOf, Builds, BuiltMeans}
+use Rattle.text_tables.specs.Pieces.{blank, label, attribute, linePieces, piecesOf, afterEach}
+use Rattle.text_tables.specs.Built.{Built, builtOn, builtOf, Builds, BuiltMeans}
 use Rattle.text_tables.specs.Written.{inAll}
-use Rattle.text_tables.proofs.Lists.{map-append, flatten-append, all-append, length-flatten, beginsFrom, starts-begins, begins-append, begins-more, flat-starts}
+use Rattle.text_tables.proofs.Lists.{map-append, length-flatten, beginsFrom, starts-begins, begins-append, begins-more, flat-starts}
 use Rattle.text_tables.proofs.Passed.{open-words, AtEnd, passed}
-use Rattle.text_tables.proofs.Tallied.{attributes-more, scales-more, more-length}
+use Rattle.text_tables.proofs.Tallied.{attributes-more, scales-more}
 
 abbrev attributeCount : Word → ℕ
 attributeCount w = length (w .attributes)

@@ -3,20 +3,19 @@ use mathlib.Core.Path.{_≡_, refl, sym, ap, subst, _∙_}
 use mathlib.Core.Bool.{Bool, true, false, cond}
 use mathlib.Core.List.{List, [], _∷_, _++_, map, flatten}
 use Prim.Native.Nat.{ℕ, zero, suc, _+_, _-_, _≤_, _<_}
-use native.Mathlib.Nat.{not-suc-le-zero, le-of-suc-le-suc, le-refl}
+use native.Mathlib.Nat.{not-suc-le-zero, le-of-suc-le-suc}
 use native.Mathlib.Omega.{arith}
 use lib.Dec.{ltb}
 use lib.ListN.{length, getD, length-map}
 use Rattle.lines.specs.Passes.{start, size}
-use Rattle.refusals.specs.Meaning.{Starts}
-use Rattle.layout.specs.Layout.{Bytes, TextAttribute, Word, Line, empty, word, Name, KeptText, SoundAttributes, SoundTextLine, EachSound, SoundText, WellFormed, textOf, sequences, lineWords}
+use Rattle.layout.specs.Layout.{Bytes, TextAttribute, Word, Line, empty, word, Name, KeptText, SoundAttributes, SoundTextLine, EachSound, SoundText, sequences, lineWords}
 use Rattle.layout.proofs.Read.{one-one}
 use Rattle.layout.proofs.Runs.{none-empty, every-word}
 use Rattle.text_tables.specs.Distinct.{idIn, learnt, learntAll, distinct}
-use Rattle.text_tables.specs.Tables.{Strings, flat, allWords, allAttributes, labelsOf, namesOf, scalesOf, Tables, tables}
-use Rattle.text_tables.specs.Written.{Unwritten, unwritten, stringAt, placesFrom, placesIn, attributeFrom, wordFrom, sequenceFrom, sequencesIn, allLines, writtenLines, writtenText}
+use Rattle.text_tables.specs.Tables.{flat, allWords, allAttributes, labelsOf, namesOf, scalesOf, Tables, tables}
+use Rattle.text_tables.specs.Written.{Unwritten, unwritten, stringAt, placesFrom, attributeFrom, wordFrom, sequenceFrom, sequencesIn, writtenLines}
 use Rattle.text_tables.specs.RoundTrip.{Amounts, Writable, WritesWellFormed, EachSoundWord, amountsOf, ReadIsWritable, TextReadsBack}
-use Rattle.text_tables.proofs.Parts.{list-within, string-is, mapped-at}
+use Rattle.text_tables.proofs.Parts.{list-within, string-is}
 use Rattle.text_tables.proofs.Written.{sound-of-lines}
 use Rattle.text_tables.proofs.RoundTrip.{reads-back, id-below, word-counts, line-counts}
 

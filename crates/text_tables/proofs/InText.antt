@@ -2,21 +2,21 @@
 use mathlib.Core.Path.{_≡_, refl, sym, ap, _∙_}
 use mathlib.Core.Bool.{Bool, true, false, cond, _||_}
 use mathlib.Core.List.{List, [], _∷_, _++_, map, flatten, append-nil}
-use Prim.Native.Nat.{ℕ, zero, suc, _+_, _*_, _≤_, _<_}
+use Prim.Native.Nat.{ℕ, zero, suc, _+_, _*_, _≤_}
 use native.Mathlib.Nat.{le-refl, le-trans, suc-ne-zero, zero-add}
 use native.Mathlib.Omega.{arith}
 use lib.Dec.{eqb, ltb}
 use lib.ListN.{length, length-append, length-map}
-use Rattle.layout.specs.Layout.{Bytes, TextAttribute, Word, Line, empty, word, escaped, scaleText, attributesText, lineText, moreLines, textOf, Name, SoundText, ended, sequencesFrom, sequences, NoneEmpty, lineWords}
+use Rattle.layout.specs.Layout.{Bytes, TextAttribute, Word, Line, empty, word, escaped, scaleText, lineText, moreLines, textOf, SoundText, ended, sequencesFrom, sequences, NoneEmpty, lineWords}
 use Rattle.layout.proofs.Runs.{none-empty, every-word}
 use Rattle.text_tables.specs.Distinct.{idIn, learnt, learntAll, distinct}
-use Rattle.text_tables.specs.Tables.{allWords, allAttributes, labelsOf, namesOf, scalesOf, tables}
-use Rattle.text_tables.specs.Written.{unwritten, allLines, writtenText, wordText, inAll, attributeLength, wordLength, sequenceLength}
+use Rattle.text_tables.specs.Tables.{allWords, allAttributes, labelsOf, namesOf, scalesOf}
+use Rattle.text_tables.specs.Written.{inAll, attributeLength, wordLength}
 use Rattle.text_tables.specs.RoundTrip.{EachSoundWord}
 use Rattle.text_tables.specs.Pieces.{Piece, piecesOf, afterEach}
 use Rattle.text_tables.specs.Tally.{Tally, tallied, tallyOf}
-use Rattle.text_tables.specs.InText.{InText, FitsInText, FewWritten}
-use Rattle.text_tables.proofs.Lists.{map-append, flatten-append, all-append}
+use Rattle.text_tables.specs.InText.{FitsInText, FewWritten}
+use Rattle.text_tables.proofs.Lists.{map-append, flatten-append}
 use Rattle.text_tables.proofs.Tallied.{tally-means}
 use Rattle.text_tables.proofs.Along.{Grown, grown}
 use Rattle.text_tables.proofs.Written.{word-ended, length-word, length-is-sum, lengths-apart}

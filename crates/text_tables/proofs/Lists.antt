@@ -1,9 +1,9 @@
 -- Laws of lists that tables are made by: one behind the other, flat, starts. Assumes nothing.
 use mathlib.Core.Path.{_≡_, refl, sym, ap, _∙_}
 use mathlib.Core.List.{List, [], _∷_, _++_, map, flatten, append-assoc, append-nil}
-use Prim.Native.Nat.{ℕ, zero, suc, _+_, _≤_, _<_}
+use Prim.Native.Nat.{ℕ, suc, _+_}
 use native.Mathlib.Nat.{add-assoc, add-zero, zero-add}
-use lib.ListN.{length, drop, set, length-append, length-map}
+use lib.ListN.{length, length-append}
 use Rattle.layout.specs.Layout.{Bytes}
 use Rattle.text_tables.specs.Tables.{startsFrom, flat}
 use Rattle.text_tables.specs.Pieces.{afterEach}

@@ -1,11 +1,11 @@
 -- Lists that lie flat, read back by their starts. Assumes nothing.
-use mathlib.Core.Path.{_≡_, refl, sym, ap, subst, _∙_}
+use mathlib.Core.Path.{_≡_, refl, sym, ap, _∙_}
 use mathlib.Core.List.{List, [], _∷_, _++_, map, flatten, append-assoc}
-use Prim.Native.Nat.{ℕ, zero, suc, _+_, _-_, _≤_, _<_, suc-le-suc}
-use native.Mathlib.Nat.{add-zero, zero-add, add-suc, suc-add, not-suc-le-zero, le-of-suc-le-suc, zero-lt-suc, le-refl, le-trans, add-assoc}
+use Prim.Native.Nat.{ℕ, zero, suc, _+_, _-_, _≤_, _<_}
+use native.Mathlib.Nat.{add-zero, zero-add, not-suc-le-zero, le-of-suc-le-suc, add-assoc}
 use native.Mathlib.Numerals.{add-one}
 use native.Mathlib.Omega.{arith}
-use lib.ListN.{length, getD, take, drop, length-append, length-map}
+use lib.ListN.{length, getD, take, drop, length-append}
 use lib.Seq.{drop-cons, take-append-seam, drop-append-seam}
 use Rattle.lines.specs.Passes.{start, size}
 use Rattle.refusals.specs.Meaning.{Starts}
@@ -13,7 +13,6 @@ use Rattle.refusals.proofs.Meant.{within}
 use Rattle.layout.specs.Layout.{Bytes}
 use Rattle.text_tables.specs.Tables.{startsFrom, flat}
 use Rattle.text_tables.specs.Written.{stringAt, placesFrom, inAll}
-use Rattle.text_tables.proofs.Lists.{length-flatten}
 
 -- ---- starts
 first-start : (at : ℕ) (ns : List ℕ) → getD (startsFrom at ns) 0 0 ≡ at

@@ -1,5 +1,5 @@
 -- A pass over the pieces of lines, whatever it makes: it follows the sequences, those that are done and the one that is open. Assumes nothing.
-use mathlib.Core.Path.{_≡_, refl, sym, ap, _∙_}
+use mathlib.Core.Path.{_≡_, refl, ap, _∙_}
 use mathlib.Core.List.{List, [], _∷_, _++_, flatten, append-assoc, append-nil}
 use Rattle.layout.specs.Layout.{Word, Line, empty, word, ended, sequencesFrom}
 use Rattle.text_tables.specs.Pieces.{Piece, blank, linePieces, piecesOf, afterEach}

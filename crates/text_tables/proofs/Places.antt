@@ -1,16 +1,16 @@
 -- Writing place by place: texts and lengths grow by one place at their end, and lists whose starts rise hold every place once. Assumes nothing.
 use mathlib.Core.Path.{_≡_, refl, sym, ap, _∙_}
-use mathlib.Core.List.{List, [], _∷_, _++_, map, flatten, append-nil, map-map}
-use Prim.Native.Nat.{ℕ, zero, suc, _+_, _-_, _≤_, _<_}
-use native.Mathlib.Nat.{add-comm, sub-zero, add-zero, zero-add, add-suc, suc-add, le-refl, le-trans}
+use mathlib.Core.List.{List, [], _∷_, _++_, map, flatten, map-map}
+use Prim.Native.Nat.{ℕ, zero, suc, _+_, _-_, _≤_}
+use native.Mathlib.Nat.{add-comm, sub-zero, add-zero, zero-add, suc-add, le-refl, le-trans}
 use native.Mathlib.Numerals.{add-one}
 use native.Mathlib.Omega.{arith}
-use lib.ListN.{length, getD, length-map}
+use lib.ListN.{length, length-map}
 use Rattle.lines.specs.Passes.{start, size}
 use Rattle.refusals.specs.Meaning.{Starts}
-use Rattle.layout.specs.Layout.{Bytes, TextAttribute, Word, escaped, scaleText}
+use Rattle.layout.specs.Layout.{Bytes, TextAttribute, Word, escaped}
 use Rattle.text_tables.specs.Tables.{allWords, allAttributes}
-use Rattle.text_tables.specs.Written.{Unwritten, stringAt, placesFrom, placesIn, attributeFrom, labelFrom, wordFrom, sequenceFrom, sequencesIn, allLines, writtenText, attributeText, wordText, sequenceText, inAll, attributeLength, wordLength, sequenceLength, LengthOfTables}
+use Rattle.text_tables.specs.Written.{Unwritten, placesFrom, placesIn, attributeFrom, labelFrom, wordFrom, sequenceFrom, sequencesIn, writtenText, attributeText, wordText, sequenceText, inAll, attributeLength, wordLength, LengthOfTables}
 use Rattle.text_tables.proofs.Lists.{map-append, flatten-append, flatten-one, all-append}
 use Rattle.text_tables.proofs.Written.{sum-of-sequences, length-is-sum, lengths-apart}
 

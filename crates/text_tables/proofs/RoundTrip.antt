@@ -1,17 +1,17 @@
 -- The words that tables stand for: of the tables of sequences they are these sequences again; so what is written reads back. Assumes nothing.
-use mathlib.Core.Path.{_≡_, refl, sym, ap, subst, _∙_}
-use mathlib.Core.List.{List, [], _∷_, _++_, map, flatten}
-use Prim.Native.Nat.{ℕ, zero, suc, _+_, _-_, _≤_, _<_, suc-le-suc}
-use native.Mathlib.Nat.{zero-add, not-suc-le-zero, le-of-suc-le-suc, le-refl}
+use mathlib.Core.Path.{_≡_, refl, sym, ap, _∙_}
+use mathlib.Core.List.{List, [], _∷_, map}
+use Prim.Native.Nat.{ℕ, zero, suc, _+_, _-_, _≤_, _<_}
+use native.Mathlib.Nat.{not-suc-le-zero, le-of-suc-le-suc}
 use native.Mathlib.Omega.{arith}
-use lib.ListN.{length, getD, take, drop, length-append, length-map}
+use lib.ListN.{length, getD, take, drop, length-map}
 use lib.Seq.{take-length}
 use Rattle.lines.specs.Passes.{start, size}
 use Rattle.refusals.specs.Meaning.{Starts}
-use Rattle.layout.specs.Layout.{Bytes, TextAttribute, Word, Line, empty, word, sequences, NoneEmpty}
+use Rattle.layout.specs.Layout.{Bytes, TextAttribute, Word, sequences, NoneEmpty}
 use Rattle.text_tables.specs.Distinct.{idIn, distinct}
-use Rattle.text_tables.specs.Tables.{Strings, startsFrom, flat, allWords, allAttributes, labelsOf, namesOf, scalesOf, tables}
-use Rattle.text_tables.specs.Written.{Unwritten, unwritten, stringAt, placesFrom, placesIn, attributeFrom, wordFrom, sequenceFrom, sequencesIn, allLines, writtenLines, inAll}
+use Rattle.text_tables.specs.Tables.{startsFrom, flat, allWords, allAttributes, labelsOf, namesOf, scalesOf, tables}
+use Rattle.text_tables.specs.Written.{Unwritten, unwritten, stringAt, placesFrom, placesIn, attributeFrom, wordFrom, sequenceFrom, sequencesIn, allLines, writtenLines}
 use Rattle.text_tables.specs.RoundTrip.{SameSequences, EachHasWords, ReadsBack}
 use Rattle.text_tables.proofs.Lists.{length-flatten}
 use Rattle.text_tables.proofs.Known.{EachKnown, each-known, id-name}

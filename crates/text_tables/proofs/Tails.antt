@@ -1,19 +1,17 @@
 -- Only the needed fronts of the writer's tables matter. Assumes nothing.
-use mathlib.Core.Path.{_≡_, refl, sym, ap, _∙_}
-use mathlib.Core.List.{List, [], _∷_, _++_, map, flatten}
+use mathlib.Core.Path.{_≡_, refl, ap, _∙_}
+use mathlib.Core.List.{List, [], _∷_, _++_, map}
 use Prim.Native.Nat.{ℕ, zero, suc, _+_, _-_, _≤_, _<_}
-use native.Mathlib.Nat.{le-refl}
 use native.Mathlib.Omega.{arith}
 use lib.ListN.{length, getD, take, drop, length-map, length-drop, List·getD-append}
 use lib.Seq.{take-append-le, drop-append-le}
 use Rattle.lines.specs.Passes.{start, size}
-use Rattle.refusals.specs.Meaning.{Starts}
-use Rattle.layout.specs.Layout.{Bytes, TextAttribute, Word, sequences, NoneEmpty}
+use Rattle.layout.specs.Layout.{Bytes, TextAttribute, Word, sequences}
 use Rattle.text_tables.specs.Distinct.{idIn, distinct}
 use Rattle.text_tables.specs.Tables.{Strings, startsFrom, flat, allWords, allAttributes, labelsOf, namesOf, scalesOf, tables}
-use Rattle.text_tables.specs.Written.{Unwritten, unwritten, stringAt, placesFrom, placesIn, attributeFrom, labelFrom, wordFrom, sequenceFrom, sequencesIn, allLines, writtenLines, inAll}
+use Rattle.text_tables.specs.Written.{Unwritten, unwritten, stringAt, placesFrom, placesIn, attributeFrom, wordFrom, sequenceFrom, allLines, inAll}
 use Rattle.text_tables.specs.RoundTrip.{Amounts, amountsOf}
-use Rattle.text_tables.specs.Tails.{Tails, longer, lentWith, Held, Reached, TailsUnread, LentReadsBack}
+use Rattle.text_tables.specs.Tails.{Tails, stringsWith, lentWith, StringsWithin, TablesWithin, TailsUnread, LentReadsBack}
 use Rattle.text_tables.proofs.Lists.{length-flatten}
 use Rattle.text_tables.proofs.Parts.{starts-rise, list-within}
 use Rattle.text_tables.proofs.RoundTrip.{id-below, word-counts, line-counts, reads-back}
@@ -30,7 +28,7 @@ part-front xs tail at n l =
     let rest : n ≤ length (drop at xs) = rw (length-drop at xs) (omega (arith, l)) in
     ap (take n) (drop-append-le at xs tail (omega (arith, l))) ∙ take-append-le n (drop at xs) tail rest
 
-string-front : (s tail : Strings) (n i : ℕ) → Held s n → i < n → stringAt (longer s tail) i ≡ stringAt s i
+string-front : (s tail : Strings) (n i : ℕ) → StringsWithin s n → i < n → stringAt (stringsWith s tail) i ≡ stringAt s i
 unfolding stringAt
 string-front s tail n i h l =
     let inside = h .starts in
@@ -46,12 +44,12 @@ same-places f g at (suc n) h =
     λ i. here i ∷ rest i
 
 -- ---- what is written
-module _ (t : Unwritten) (n : Amounts) (h : Reached t n) (tails : Tails) where
+module _ (t : Unwritten) (n : Amounts) (h : TablesWithin t n) (tails : Tails) where
   attribute-front : (a : ℕ) → a < n .attributes → attributeFrom (lentWith t tails) a ≡ attributeFrom t a
   attribute-front a l =
       let inside = h .ids in
       let id = List·getD-append (t .ids) (tails .ids) 0 a (omega (arith, l, inside)) in
-      let name = ap (stringAt (longer (t .names) (tails .names))) id ∙ string-front (t .names) (tails .names) (n .names) (getD (t .ids) a 0) (h .names) (h .named a l) in
+      let name = ap (stringAt (stringsWith (t .names) (tails .names))) id ∙ string-front (t .names) (tails .names) (n .names) (getD (t .ids) a 0) (h .names) (h .named a l) in
       let scale = string-front (t .scales) (tails .scales) (n .attributes) a (h .scales) l in
       λ i. record { name = name i; scale = scale i }
 
@@ -61,7 +59,7 @@ module _ (t : Unwritten) (n : Amounts) (h : Reached t n) (tails : Tails) where
       let lists = h .wordStarts in
       let s : List ℕ = t .wordStarts in
       let id = List·getD-append (t .references) (tails .references) 0 w (omega (arith, l, inside)) in
-      let label = ap (stringAt (longer (t .labels) (tails .labels))) id ∙ string-front (t .labels) (tails .labels) (n .labels) (getD (t .references) w 0) (h .labels) (h .labelled w l) in
+      let label = ap (stringAt (stringsWith (t .labels) (tails .labels))) id ∙ string-front (t .labels) (tails .labels) (n .labels) (getD (t .references) w 0) (h .labels) (h .labelled w l) in
       let ends = list-within s (n .words) (n .attributes) w (h .words) l in
       let first = start-front s (tails .wordStarts) w (omega (arith, l, lists)) in
       let many = size-front s (tails .wordStarts) w (omega (arith, l, lists)) in
@@ -89,7 +87,7 @@ unfolding startsFrom
 length-starts at [] = refl
 length-starts at (m ∷ ns) = let r = length-starts (at + m) ns in omega (arith, r)
 
-flat-held : (xs : List Bytes) → Held (flat xs) (length xs)
+flat-held : (xs : List Bytes) → StringsWithin (flat xs) (length xs)
 flat-held xs =
     let count = length-map xs (λ (x : Bytes). length x) in
     let long = length-starts 0 (map length xs) in
@@ -101,7 +99,7 @@ flat-held xs =
           omega (arith, ends, sum);
     }
 
-pub tables-reached : (ss : List (List Word)) → Reached (unwritten (tables ss)) (amountsOf ss)
+pub tables-reached : (ss : List (List Word)) → TablesWithin (unwritten (tables ss)) (amountsOf ss)
 unfolding tables
 tables-reached ss =
     let vs : List Word = allWords ss in

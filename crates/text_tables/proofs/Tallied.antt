@@ -3,19 +3,19 @@ use mathlib.Core.Path.{_≡_, refl, sym, ap, subst, _∙_}
 use mathlib.Core.Bool.{Bool, true, false, cond, _&&_}
 use mathlib.Core.List.{List, [], _∷_, _++_, map, flatten, append-assoc, append-nil}
 use mathlib.Core.Logic.{_↔_}
-use Prim.Native.Nat.{ℕ, zero, suc, _+_, _≤_, _<_, suc-le-suc}
+use Prim.Native.Nat.{ℕ, zero, suc, _+_, _<_, suc-le-suc}
 use native.Mathlib.Nat.{suc-ne-zero, suc-inj, add-zero, zero-add, add-suc, suc-add, not-suc-le-zero, le-of-suc-le-suc, zero-lt-suc}
 use native.Mathlib.Numerals.{add-one}
 use native.Mathlib.Omega.{arith}
 use lib.Dec.{eqb, ltb}
-use lib.ListN.{length, getD, length-append}
-use borrow.Author.Tests.{eqb-true, ne-eqb, eq-eqb, ltb-true, ltb-false, lt-ltb, le-ltb}
+use lib.ListN.{length, length-append}
+use borrow.Author.Tests.{eqb-true, ne-eqb, ltb-true, ltb-false, lt-ltb}
 use Rattle.refusals.specs.Meaning.{FirstBad}
-use Rattle.layout.specs.Layout.{Bytes, TextAttribute, Word, Line, empty, word, ended, sequencesFrom, sequences}
+use Rattle.layout.specs.Layout.{Bytes, TextAttribute, Word, Line, word, ended, sequences}
 use Rattle.text_tables.specs.Distinct.{learnt, learntAll, distinct}
-use Rattle.text_tables.specs.Tables.{allWords, allAttributes, labelsOf, namesOf, scalesOf}
-use Rattle.text_tables.specs.Pieces.{Piece, blank, label, attribute, linePieces, piecesOf, afterEach}
-use Rattle.text_tables.specs.Tally.{Tally, nothingYet, tallied, tallyOf, AboveAt, Tallies, TallyMeans}
+use Rattle.text_tables.specs.Tables.{allAttributes, labelsOf, namesOf, scalesOf}
+use Rattle.text_tables.specs.Pieces.{blank, label, attribute, linePieces, piecesOf, afterEach}
+use Rattle.text_tables.specs.Tally.{Tally, tallied, tallyOf, AboveAt, Tallies, TallyMeans}
 use Rattle.text_tables.proofs.Lists.{map-append, flatten-append, flatten-one}
 use Rattle.text_tables.proofs.Known.{learnt-each, learnt-one}
 use Rattle.text_tables.proofs.Passed.{open-words, AtEnd, passed}

@@ -1,11 +1,10 @@
 -- Lines of sequences: they have these sequences, their text is the sum of the sequences' texts, and they are sound where each word is. Assumes nothing.
 use mathlib.Core.Path.{_≡_, refl, sym, ap, _∙_}
 use mathlib.Core.List.{List, [], _∷_, _++_, map, flatten, append-assoc, append-nil}
-use Prim.Native.Nat.{ℕ, zero, suc, _+_}
-use native.Mathlib.Nat.{add-assoc}
+use Prim.Native.Nat.{ℕ, _+_}
 use native.Mathlib.Omega.{arith}
 use lib.ListN.{length, length-append}
-use Rattle.layout.specs.Layout.{Bytes, TextAttribute, Word, Line, empty, word, escaped, scaleText, attributesText, lineText, moreLines, textOf, SoundTextLine, EachSound, SoundText, ended, sequencesFrom, sequences, NoneEmpty}
+use Rattle.layout.specs.Layout.{Bytes, TextAttribute, Word, Line, empty, word, escaped, scaleText, attributesText, lineText, moreLines, textOf, EachSound, SoundText, ended, sequencesFrom, sequences, NoneEmpty}
 use Rattle.text_tables.specs.Written.{sequenceLines, allLines, attributeText, wordText, sequenceText, SumOfSequences, inAll, attributeLength, wordLength, sequenceLength, LengthIsSum}
 use Rattle.text_tables.specs.RoundTrip.{EachSoundWord}
 use Rattle.text_tables.proofs.Lists.{map-append, flatten-append, length-flatten, all-append}

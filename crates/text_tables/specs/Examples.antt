@@ -4,7 +4,7 @@ use mathlib.Core.List.{List, [], _∷_, _++_, flatten}
 use Prim.Native.Nat.{ℕ}
 use lib.ListN.{length, replicate}
 use lib.Ieee.{Float, binary64, ofBits, ofInt, round}
-use Rattle.layout.specs.Layout.{Bytes, Line, empty, word, escaped, scaleText, attributesText, lineText, moreLines, textOf, sequencesFrom, sequences}
+use Rattle.layout.specs.Layout.{Line, empty, word, escaped, scaleText, attributesText, lineText, moreLines, textOf, sequencesFrom, sequences}
 use Rattle.scales.specs.Value.{worth, digitsIn, behindPoint, valueOf}
 use Rattle.text_tables.specs.Distinct.{same, idIn, learnt, learntAll}
 use Rattle.text_tables.specs.Tables.{startsFrom, Tables, tables}

@@ -5,7 +5,7 @@ use Prim.Native.Nat.{ℕ, _+_, _≤_, _<_}
 use lib.ListN.{length, getD}
 use Rattle.lines.specs.Passes.{start, size}
 use Rattle.refusals.specs.Meaning.{Starts}
-use Rattle.layout.specs.Layout.{Bytes, Word, sequences, NoneEmpty}
+use Rattle.layout.specs.Layout.{Word, sequences, NoneEmpty}
 use Rattle.text_tables.specs.Tables.{Strings, tables}
 use Rattle.text_tables.specs.Written.{Unwritten, unwritten, sequencesIn, writtenLines}
 use Rattle.text_tables.specs.RoundTrip.{Amounts}
@@ -20,10 +20,10 @@ pub record Tails : Type 0 where
   pub names : Strings
   pub scales : Strings
 
-abbrev pub longer : Strings → Strings → Strings
-longer s tail = record { starts = s .starts ++ tail .starts; bytes = s .bytes ++ tail .bytes }
+abbrev pub stringsWith : Strings → Strings → Strings
+stringsWith s tail = record { starts = s .starts ++ tail .starts; bytes = s .bytes ++ tail .bytes }
 
--- the same tables, lent longer
+-- the same tables, lent stringsWith
 abbrev pub lentWith : Unwritten → Tails → Unwritten
 lentWith t tails = record {
   instances = t .instances;
@@ -31,18 +31,18 @@ lentWith t tails = record {
   wordStarts = t .wordStarts ++ tails .wordStarts;
   ids = t .ids ++ tails .ids;
   references = t .references ++ tails .references;
-  labels = longer (t .labels) (tails .labels);
-  names = longer (t .names) (tails .names);
-  scales = longer (t .scales) (tails .scales);
+  labels = stringsWith (t .labels) (tails .labels);
+  names = stringsWith (t .names) (tails .names);
+  scales = stringsWith (t .scales) (tails .scales);
 }
 
 -- n strings that end within their bytes
-pub record Held (s : Strings) (n : ℕ) : Type 0 where
+pub record StringsWithin (s : Strings) (n : ℕ) : Type 0 where
   pub starts : n < length (s .starts)
   pub bytes : (i : ℕ) → i < n → start (s .starts) i + size (s .starts) i ≤ length (s .bytes)
 
 -- tables that have what their counts say
-pub record Reached (t : Unwritten) (n : Amounts) : Type 0 where
+pub record TablesWithin (t : Unwritten) (n : Amounts) : Type 0 where
   pub lines : Starts (t .lineStarts) (t .instances) (n .words)
   pub lineStarts : t .instances < length (t .lineStarts)
   pub words : Starts (t .wordStarts) (n .words) (n .attributes)
@@ -51,12 +51,12 @@ pub record Reached (t : Unwritten) (n : Amounts) : Type 0 where
   pub named : (a : ℕ) → a < n .attributes → getD (t .ids) a 0 < n .names
   pub references : n .words ≤ length (t .references)
   pub labelled : (w : ℕ) → w < n .words → getD (t .references) w 0 < n .labels
-  pub labels : Held (t .labels) (n .labels)
-  pub names : Held (t .names) (n .names)
-  pub scales : Held (t .scales) (n .attributes)
+  pub labels : StringsWithin (t .labels) (n .labels)
+  pub names : StringsWithin (t .names) (n .names)
+  pub scales : StringsWithin (t .scales) (n .attributes)
 
 abbrev pub TailsUnread : Type 0
-TailsUnread = (t : Unwritten) (n : Amounts) → Reached t n → (tails : Tails) → sequencesIn (lentWith t tails) ≡ sequencesIn t
+TailsUnread = (t : Unwritten) (n : Amounts) → TablesWithin t n → (tails : Tails) → sequencesIn (lentWith t tails) ≡ sequencesIn t
 
 -- "what it writes of tables that the reader filled reads back to the same tables", whatever lies behind their fronts
 abbrev pub LentReadsBack : Type 0
