@@ -1,4 +1,4 @@
--- What the writer can carry, and that what it writes reads back. The proofs are in proofs/Written and proofs/RoundTrip.
+-- What the writer can carry, and that what it writes reads back. The proofs are in proofs/RoundTrip and proofs/Carried.
 use mathlib.Core.Path.{_≡_}
 use mathlib.Core.List.{List, [], _∷_}
 use Prim.Native.Nat.{ℕ, _+_, _<_}
