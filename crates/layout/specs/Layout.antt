@@ -135,6 +135,18 @@ sequencesFrom ws (word w ∷ ls) = sequencesFrom (ws ++ (w ∷ [])) ls
 abbrev pub sequences : List Line → List (List Word)
 sequences ls = sequencesFrom [] ls
 
+-- "an instance has at least one word": none of the sequences is empty
+abbrev pub NoneEmpty : List (List Word) → Type 0
+NoneEmpty [] = Unit {0}
+NoneEmpty ([] ∷ ss) = ⊥
+NoneEmpty ((w ∷ ws) ∷ ss) = NoneEmpty ss
+
+-- the words of lines, whatever sequence they are in
+abbrev pub lineWords : List Line → List Word
+lineWords [] = []
+lineWords (empty ∷ ls) = lineWords ls
+lineWords (word w ∷ ls) = w ∷ lineWords ls
+
 -- "`textOf` is one-one on sound lines": what is read is settled
 abbrev pub OneOne : Type 0
 OneOne = (ls ms : List Line) → SoundText ls → SoundText ms → textOf ls ≡ textOf ms → ls ≡ ms

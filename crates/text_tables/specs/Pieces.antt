@@ -15,3 +15,8 @@ linePieces (word w) = label (w .label) ∷ map attribute (w .attributes)
 unfoldable pub piecesOf : List Line → List Piece
 piecesOf [] = []
 piecesOf (l ∷ ls) = linePieces l ++ piecesOf ls
+
+-- what a pass has after each of some pieces, one after the other
+unfoldable pub afterEach : {S A : Type 0} → (S → A → S) → S → List A → S
+afterEach step s [] = s
+afterEach step s (x ∷ xs) = afterEach step (step s x) xs
