@@ -1,0 +1,66 @@
+-- Names as they stand in the text, escapes and all. "Every name is written in one way only", so two fields name the same thing
+-- exactly where these bytes are equal. Assumes nothing.
+use mathlib.Core.Path.{_≡_}
+use mathlib.Core.Bool.{Bool, true, false, cond, _||_}
+use mathlib.Core.List.{List, [], _∷_, map}
+use Prim.Native.Nat.{ℕ, _≤_, _<_}
+use lib.Dec.{eqb}
+use lib.ListN.{length, getD, take, drop}
+use lib.Seq.{slice}
+use Rattle.layout.specs.Layout.{Bytes, escaped, Clean}
+use Rattle.text_tables.specs.Distinct.{idIn, learnt}
+
+-- a byte that ends a name where no backslash stands before it: tab, line feed, colon
+abbrev pub endsName : ℕ → Bool
+endsName b = (eqb b 9 || eqb b 10) || eqb b 58
+
+-- a name may end before these bytes: there are none, or the first ends it
+abbrev pub nameEnds : Bytes → Bool
+nameEnds [] = true
+nameEnds (b ∷ text) = endsName b
+
+-- a name may end before this place
+unfoldable pub endsAt : Bytes → ℕ → Bool
+endsAt text at = nameEnds (drop at text)
+
+-- what is left of a name, behind a backslash or not
+unfoldable pub rawFrom : Bool → Bytes → Bytes
+rawFrom behind [] = []
+rawFrom true (b ∷ text) = b ∷ rawFrom false text
+rawFrom false (b ∷ text) = cond (endsName b) [] (b ∷ rawFrom (eqb b 92) text)
+
+-- the name that a text begins with
+abbrev pub rawName : Bytes → Bytes
+rawName text = rawFrom false text
+
+-- the name at a place
+abbrev pub nameAt : Bytes → ℕ → Bytes
+nameAt text at = rawName (drop at text)
+
+-- the names at the first so many of some places
+unfoldable pub namesAt : Bytes → List ℕ → ℕ → List Bytes
+namesAt text positions count = map (nameAt text) (take count positions)
+
+-- a whole name stands from one place up to another: `escaped` made it, and behind it is what ends it
+pub record NameStands (text : Bytes) (from to : ℕ) : Type 0 where
+  pub name : Bytes
+  pub clean : Clean name
+  pub low : from ≤ to
+  pub inside : to ≤ length text
+  pub bytes : slice from to text ≡ escaped name
+  pub ends : endsAt text to ≡ true
+
+-- so many places, and all of them in the text
+pub record Listed (text : Bytes) (positions : List ℕ) (count : ℕ) : Type 0 where
+  pub room : count ≤ length positions
+  pub inside : (v : ℕ) → v < count → getD positions v 0 ≤ length text
+
+-- the names known are those at the places, the name with id v at the v-th
+pub record Known (text : Bytes) (positions : List ℕ) (count : ℕ) (known : List Bytes) : Type 0 where
+  pub listed : Listed text positions count
+  pub names : namesAt text positions count ≡ known
+
+-- what a label more leaves: its id, and the names known with it
+pub record LearntLabel (text : Bytes) (known : List Bytes) (name : Bytes) (positions : List ℕ) (id : ℕ) : Type 0 where
+  pub first : id ≡ idIn known name
+  pub knows : Known text positions (length (learnt known name)) (learnt known name)
