@@ -6,11 +6,11 @@ use Prim.Native.Nat.{ℕ, zero, suc, _+_, _-_, _≤_, _<_}
 use native.Mathlib.Omega.{arith}
 use lib.Dec.{eqb}
 use lib.ListN.{length, getD, take, drop, length-append, length-drop, take-append-drop, List·getD-append}
-use lib.Seq.{slice, length-slice, length-take-le, drop-append-le, take-at, drop-at, take-append-seam, drop-append-seam, getD-drop, getD-take, drop-drop, ext-getD}
+use lib.Seq.{slice, length-slice, length-take-le, drop-append-le, getD-drop, getD-take, drop-drop, ext-getD}
 use borrow.Author.Tests.{eqb-true, eqb-false, ne-eqb}
 use Rattle.layout.specs.Layout.{Bytes, escaped, Clean}
 use Rattle.text_tables.specs.Distinct.{same}
-use Rattle.distinct.specs.Names.{endsName, nameEnds, endsAt, rawFrom, rawName, nameAt, NameStands}
+use Rattle.distinct.specs.Names.{endsName, nameEnds, endsAt, rawFrom, rawName, nameAt, Named, NameStands}
 use Rattle.distinct.proofs.Same.{eq-same, ne-same}
 
 raw-front : (behind : Bool) (t : Bytes) → rawFrom behind t ++ drop (length (rawFrom behind t)) t ≡ t
@@ -81,41 +81,19 @@ parted text f t a b =
     ap (drop f) (sym (take-append-drop t text))
     ∙ drop-append-le f (take t text) (drop t text) (let l = length-take-le t text b in omega (arith, l, a))
 
-pub stands-name : (text : Bytes) (from to : ℕ) (h : NameStands text from to) → nameAt text from ≡ escaped (h .name)
-unfolding endsAt
-stands-name text from to h =
+pub named-is : (text : Bytes) (from to : ℕ) (name : Bytes) → Named text from to name → nameAt text from ≡ escaped name
+named-is text from to name h =
     ap rawName (parted text from to (h .low) (h .inside) ∙ ap (λ (x : Bytes). x ++ drop to text) (h .bytes))
-    ∙ raw-escaped (h .name) (drop to text) (h .clean) (h .ends)
+    ∙ raw-escaped name (drop to text) (h .clean) (h .ends)
 
 pub stands-bytes : (text : Bytes) (from to : ℕ) → NameStands text from to → slice from to text ≡ nameAt text from
-stands-bytes text from to h = h .bytes ∙ sym (stands-name text from to h)
+stands-bytes text from to h = h .1 .bytes ∙ sym (named-is text from to (h .0) (h .1))
 
 stands-length : (text : Bytes) (from to : ℕ) → NameStands text from to → length (nameAt text from) ≡ to - from
-stands-length text from to h = ap length (sym (stands-bytes text from to h)) ∙ length-slice from to text (h .inside)
+stands-length text from to h = ap length (sym (stands-bytes text from to h)) ∙ length-slice from to text (h .1 .inside)
 
 slice-byte : (text : Bytes) (f n j : ℕ) → j < n → getD (slice f (f + n) text) j 0 ≡ getD text (f + j) 0
 slice-byte text f n j h = getD-drop f (take (f + n) text) j 0 ∙ getD-take (f + n) text (f + j) 0 (omega (arith, h))
-
--- ---- for callers, who know the bytes from a place on
-pub made-name : (text : Bytes) (from : ℕ) (name rest : Bytes) → drop from text ≡ escaped name ++ rest → Clean name → nameEnds rest ≡ true → nameAt text from ≡ escaped name
-made-name text from name rest e c f = ap rawName e ∙ raw-escaped name rest c f
-
-pub made-stands : (text : Bytes) (from to : ℕ) (name rest : Bytes) → drop from text ≡ escaped name ++ rest → Clean name → nameEnds rest ≡ true → to ≡ from + length (escaped name) → to ≤ length text → NameStands text from to
-unfolding endsAt
-made-stands text from to name rest e c f m inside = record {
-  name = name;
-  clean = c;
-  low = low;
-  inside = inside;
-  bytes = sym (take-at (slice from to text) (drop to text) (length (escaped name)) long) ∙ ap (take (length (escaped name))) (sym (parted text from to low inside) ∙ e) ∙ take-append-seam (escaped name) rest;
-  ends = ap nameEnds (sym (drop-at (slice from to text) (drop to text) (length (escaped name)) long) ∙ ap (drop (length (escaped name))) (sym (parted text from to low inside) ∙ e) ∙ drop-append-seam (escaped name) rest) ∙ f;
-}
-  where
-    low : from ≤ to
-    low = omega (arith, m)
-
-    long : length (slice from to text) ≡ length (escaped name)
-    long = length-slice from to text inside ∙ omega (arith, m)
 
 -- ---- the comparison of two names, byte by byte
 pub record Alike (text : Bytes) (p from n k : ℕ) : Type 0 where
@@ -154,15 +132,15 @@ module _ (text : Bytes) (p from to n : ℕ) (h : NameStands text from to) (e : n
       f = o ∙ ap (endsAt text) m
 
       to-is : from + n ≡ to
-      to-is = let l = h .low in omega (arith, e, l)
+      to-is = let l = h .1 .low in omega (arith, e, l)
 
-      whole : slice p (p + n) text ≡ escaped (h .name)
+      whole : slice p (p + n) text ≡ escaped (h .0)
       whole =
           ext-getD 0 (slice p (p + n) text) (slice from (from + n) text)
-          (length-slice p (p + n) text (omega (arith, s, i)) ∙ (omega arith) ∙ sym (length-slice from (from + n) text (rw to-is (h .inside))))
+          (length-slice p (p + n) text (omega (arith, s, i)) ∙ (omega arith) ∙ sym (length-slice from (from + n) text (rw to-is (h .1 .inside))))
           (λ j l. each j (let a = length-slice p (p + n) text (omega (arith, s, i)) in omega (arith, l, a)))
           ∙ ap (λ (x : ℕ). slice from x text) to-is
-          ∙ h .bytes
+          ∙ h .1 .bytes
         where
           each : (j : ℕ) → j < n → getD (slice p (p + n) text) j 0 ≡ getD (slice from (from + n) text) j 0
           each j l = slice-byte text p n j l ∙ w .bytes j (omega (arith, l, d)) ∙ sym (slice-byte text from n j l)
@@ -172,6 +150,6 @@ module _ (text : Bytes) (p from to n : ℕ) (h : NameStands text from to) (e : n
           f ∙ g
           ∙ sym (eq-same (nameAt text p) (nameAt text from)
           (ap rawName (parted text p (p + n) (omega arith) (omega (arith, s, i)) ∙ ap (λ (x : Bytes). x ++ drop (p + n) text) whole)
-          ∙ raw-escaped (h .name) (drop (p + n) text) (h .clean) g
-          ∙ sym (stands-name text from to h)))
+          ∙ raw-escaped (h .0) (drop (p + n) text) (h .1 .clean) g
+          ∙ sym (named-is text from to (h .0) (h .1))))
       go false g = f ∙ g ∙ sym (ne-same (nameAt text p) (nameAt text from) λ q. true≢false (sym (name-ends text p) ∙ ap (λ (x : ℕ). nameEnds (drop (p + x) text)) (ap length q ∙ stands-length text from to h ∙ sym e) ∙ g))

@@ -41,14 +41,17 @@ nameAt text at = rawName (drop at text)
 unfoldable pub namesAt : Bytes → List ℕ → ℕ → List Bytes
 namesAt text positions count = map (nameAt text) (take count positions)
 
--- a whole name stands from one place up to another: `escaped` made it, and behind it is what ends it
-pub record NameStands (text : Bytes) (from to : ℕ) : Type 0 where
-  pub name : Bytes
+-- a name stands here, escaped, and what is behind ends it
+pub record Named (text : Bytes) (from to : ℕ) (name : Bytes) : Type 0 where
   pub clean : Clean name
   pub low : from ≤ to
   pub inside : to ≤ length text
   pub bytes : slice from to text ≡ escaped name
-  pub ends : endsAt text to ≡ true
+  pub ends : nameEnds (drop to text) ≡ true
+
+-- some name does
+abbrev pub NameStands : Bytes → ℕ → ℕ → Type 0
+NameStands text from to = (name : Bytes) × Named text from to name
 
 -- so many places, and all of them in the text
 pub record Listed (text : Bytes) (positions : List ℕ) (count : ℕ) : Type 0 where

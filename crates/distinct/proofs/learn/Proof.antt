@@ -68,7 +68,7 @@ returns c known k =
     let v : tie.After-at = search in
     let z : tie.Then1 = search in
     let w : tie.After-in-slot = search in
-    name-new _ _ _ _ _ _ _ (s .pre .0 .0) (a .seek .ensures) (v .at .ensures) known k (s .pre .1 .0) (omega (arith, s .pre .0 .1 .low, s .pre .0 .1 .inside)) _ (w .in-slot .ensures) (z .if1 .taken)
+    name-new _ _ _ _ _ _ _ (s .pre .0 .0) (a .seek .ensures) (v .at .ensures) known k (s .pre .1 .0) (omega (arith, s .pre .0 .1 .1 .low, s .pre .0 .1 .1 .inside)) _ (w .in-slot .ensures) (z .if1 .taken)
 
 -- src/lib.rt:144:5
 sub-result : tie.Need-sub-result

@@ -32,7 +32,7 @@ returns : tie.Need-returns
 returns c known k =
     let s : tie.Start = search in
     let a : tie.After-label-id = search in
-    label-new _ _ _ _ _ _ k (s .pre .1 .0) (omega (arith, s .pre .0 .1 .low, s .pre .0 .1 .inside)) (a .label-id .ensures known k) (c .if1 .taken)
+    label-new _ _ _ _ _ _ k (s .pre .1 .0) (omega (arith, s .pre .0 .1 .1 .low, s .pre .0 .1 .1 .inside)) (a .label-id .ensures known k) (c .if1 .taken)
 
 -- src/lib.rt:158:1
 same-length-2 : tie.Need-same-length-2

@@ -23,7 +23,7 @@ abbrev μ-loop : tie.MeasureT-loop
 home-of-requires : tie.Need-home-of-requires Inv-loop μ-loop
 home-of-requires c κs =
     let s : tie.Start Inv-loop μ-loop = search in
-    (s .pre .1 .low, s .pre .1 .inside, s .pre .0 .few)
+    (s .pre .1 .1 .low, s .pre .1 .1 .inside, s .pre .0 .few)
 
 -- src/lib.rt:93:5
 loop-holds : tie.Need-loop-holds Inv-loop μ-loop
