@@ -56,9 +56,11 @@ raw-escaped (b ∷ n) rest c e = go (eqb b 58 || eqb b 92) refl (raw-escaped n r
 
 -- ---- the name at a place is what the text holds there, up to where a name may end
 pub name-parts : (text : Bytes) (p : ℕ) → drop p text ≡ nameAt text p ++ drop (p + length (nameAt text p)) text
+unfolding nameAt
 name-parts text p = sym (raw-front false (drop p text)) ∙ ap (λ (x : Bytes). nameAt text p ++ x) (drop-drop (length (nameAt text p)) p text)
 
 name-long : (text : Bytes) (p : ℕ) → length (nameAt text p) ≤ length text - p
+unfolding nameAt
 name-long text p =
     let a = length-append (nameAt text p) (drop (length (nameAt text p)) (drop p text)) in
     let b = ap length (raw-front false (drop p text)) in
@@ -66,13 +68,14 @@ name-long text p =
     omega (arith, a, b, d)
 
 name-byte : (text : Bytes) (p k : ℕ) → k < length (nameAt text p) → getD (nameAt text p) k 0 ≡ getD text (p + k) 0
+unfolding nameAt
 name-byte text p k h =
     sym (List·getD-append (nameAt text p) (drop (length (nameAt text p)) (drop p text)) 0 k h)
     ∙ ap (λ (x : Bytes). getD x k 0) (raw-front false (drop p text))
     ∙ getD-drop p text k 0
 
 pub name-ends : (text : Bytes) (p : ℕ) → endsAt text (p + length (nameAt text p)) ≡ true
-unfolding endsAt
+unfolding endsAt nameAt
 name-ends text p = ap nameEnds (sym (drop-drop (length (nameAt text p)) p text)) ∙ raw-ends false (drop p text)
 
 -- a part, and what lies behind it
@@ -82,6 +85,7 @@ parted text f t a b =
     ∙ drop-append-le f (take t text) (drop t text) (let l = length-take-le t text b in omega (arith, l, a))
 
 pub named-is : (text : Bytes) (from to : ℕ) (name : Bytes) → Named text from to name → nameAt text from ≡ escaped name
+unfolding nameAt
 named-is text from to name h =
     ap rawName (parted text from to (h .low) (h .inside) ∙ ap (λ (x : Bytes). x ++ drop to text) (h .bytes))
     ∙ raw-escaped name (drop to text) (h .clean) (h .ends)
@@ -125,7 +129,7 @@ module _ (text : Bytes) (p from to n : ℕ) (h : NameStands text from to) (e : n
       d (sym (name-byte text p k (omega (arith, b, l, e, s))) ∙ ap (λ (x : Bytes). getD x k 0) q ∙ name-byte text from k (omega (arith, l, e, s)))
 
   pub alike-ends : (r : Bool) (k : ℕ) → n ≤ length text - p → p ≤ length text → Alike text p from n k → n ≤ k → (q : ℕ) → q ≡ p + n → r ≡ endsAt text q → r ≡ same (nameAt text p) (nameAt text from)
-  unfolding endsAt
+  unfolding endsAt nameAt
   alike-ends r k s i w d q m o = go (nameEnds (drop (p + n) text)) refl
     where
       f : r ≡ nameEnds (drop (p + n) text)

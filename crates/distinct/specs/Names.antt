@@ -34,7 +34,7 @@ abbrev pub rawName : Bytes → Bytes
 rawName text = rawFrom false text
 
 -- the name at a place
-abbrev pub nameAt : Bytes → ℕ → Bytes
+unfoldable pub nameAt : Bytes → ℕ → Bytes
 nameAt text at = rawName (drop at text)
 
 -- the names at the first so many of some places
