@@ -12,7 +12,7 @@ use lib.Seq.{take-suc-set, getD-set-same, getD-set-other}
 use borrow.Author.Tests.{eqb-true, eqb-false}
 use Rattle.layout.specs.Layout.{Bytes}
 use Rattle.text_tables.specs.Distinct.{idIn, learnt}
-use Rattle.distinct.specs.Names.{nameAt, namesAt, NameStands, Listed, Known, LearntLabel}
+use Rattle.distinct.specs.Names.{nameAt, namesAt, Known, LearntLabel}
 use Rattle.distinct.specs.Slots.{slotFor, used, Filed, Searchable, Tabled, LearntName}
 use Rattle.distinct.proofs.Same.{id-meant, longer, learnt-new, learnt-old}
 use Rattle.distinct.proofs.Filing.{slot-low, SearchEnd, search-end, filed-more}

@@ -7,7 +7,7 @@ use lib.Dec.{eqb}
 use lib.ListN.{length, getD}
 use Rattle.layout.specs.Layout.{Bytes}
 use Rattle.text_tables.specs.Distinct.{same, idIn, learnt}
-use Rattle.distinct.specs.Names.{NameStands, Listed, Known}
+use Rattle.distinct.specs.Names.{Listed, Known}
 
 -- a number of 32 bits for some bytes, behind one for those before them
 unfoldable pub hashed : ℕ → Bytes → ℕ

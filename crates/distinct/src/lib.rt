@@ -2,16 +2,14 @@
 // names are found by open addressing in lent slots, labels are compared one by one. The search is right whatever the slots' homes
 // are; homes that lie apart make it short.
 ghost use mathlib.Core.Path.{_≡_};
-ghost use mathlib.Core.Bool.{cond};
 ghost use mathlib.Core.List.{List};
 ghost use Prim.Native.Nat.{_+_, _*_, _/_, _%_, _≤_, _<_};
-ghost use lib.Dec.{eqb};
 ghost use lib.ListN.{length};
 ghost use lib.Seq.{slice};
 ghost use Rattle.layout.specs.Layout.{Bytes};
 ghost use Rattle.text_tables.specs.Distinct.{same, idIn};
 ghost use Rattle.distinct.specs.Names.{endsAt, nameAt, namesAt, NameStands, Listed, Known, LearntLabel};
-ghost use Rattle.distinct.specs.Slots.{hashed, home, slotFor, Searchable, Tabled, LearntName};
+ghost use Rattle.distinct.specs.Slots.{home, slotFor, Searchable, Tabled, LearntName};
 
 fn wide(b: u8) -> u64
     ensures { λ r. ⌜ r ≡ b ⌝ }
