@@ -13,8 +13,9 @@ use lib.Ieee.{Float, binary64, round}
 use borrow.Author.Tests.{eqb-true, eqb-false, ne-eqb}
 use Rattle.layout.specs.Layout.{Bytes, Digits, Part, none, point as pointed, partText, fraction, minusText, Scale}
 use Rattle.scales.specs.declared.Amount.{Amount}
-use Rattle.scales.specs.Value.{worth, scaleValue, taken, Ready}
+use Rattle.scales.specs.Value.{digitsWorth, scaleValue, valueOf, taken, Ready}
 use Rattle.scales.proofs.Laws.{tens}
+use Rattle.scales.proofs.Meant.{value-meant}
 
 abbrev pub gathered : Amount → Bytes → Amount
 gathered a [] = a
@@ -80,11 +81,11 @@ record Run (a : Amount) (ds s : Bytes) : Type 0 where
   minus : last .minus ≡ a .minus
   point : last .point ≡ a .point
   digits : last .digits ≡ a .digits + length ds
-  amount : last .amount ≡ worth (a .amount) ds
+  amount : last .amount ≡ digitsWorth (a .amount) ds
   parts : last .parts ≡ cond (a .point) (a .parts * 10 ^ length ds) (a .parts)
 
 digit-run : (ds s : Bytes) (a : Amount) → Digits ds → Within a → a .digits + length ds ≤ 15 → Run a ds s
-unfolding worth
+unfolding digitsWorth
 digit-run [] s a g w f = record {
   last = a;
   ends = refl;
@@ -131,10 +132,10 @@ start = record { minus = false; point = false; digits = 0; amount = 0; parts = 1
 
 pub record Ends (minus : Bool) (whole : Bytes) (part : Part) (a : Amount) (s : Bytes) : Type 0 where
   pub goes : Goes a s
-  pub value : round binary64 (gathered a s .minus) (gathered a s .amount) (gathered a s .parts) ≡ round binary64 minus (worth 0 (whole ++ fraction part)) (10 ^ length (fraction part))
+  pub value : round binary64 (gathered a s .minus) (gathered a s .amount) (gathered a s .parts) ≡ round binary64 minus (digitsWorth 0 (whole ++ fraction part)) (10 ^ length (fraction part))
 
-worth-append : (m : ℕ) (s t : Bytes) → worth m (s ++ t) ≡ worth (worth m s) t
-unfolding worth
+worth-append : (m : ℕ) (s t : Bytes) → digitsWorth m (s ++ t) ≡ digitsWorth (digitsWorth m s) t
+unfolding digitsWorth
 worth-append m [] t = refl
 worth-append m (b ∷ s) t = worth-append (m * 10 + (b - 48)) s t
 
@@ -155,8 +156,8 @@ body m whole none g h few =
       value =
           ap (λ (z : Amount). round binary64 (z .minus) (z .amount) (z .parts)) (r .ends)
           ∙ ap (λ (z : Bool). round binary64 z (r .last .amount) (r .last .parts)) (r .minus)
-          ∙ ap (λ (z : ℕ). round binary64 m z (r .last .parts)) (r .amount ∙ ap (worth 0) (sym (append-nil whole)))
-          ∙ ap (λ (z : ℕ). round binary64 m (worth 0 (whole ++ [])) z) (r .parts);
+          ∙ ap (λ (z : ℕ). round binary64 m z (r .last .parts)) (r .amount ∙ ap (digitsWorth 0) (sym (append-nil whole)))
+          ∙ ap (λ (z : ℕ). round binary64 m (digitsWorth 0 (whole ++ [])) z) (r .parts);
     }
 body m whole (pointed ds) g h few =
     let r = digit-run whole (46 ∷ ds) (begun m) g (within-begun m) (omega (arith, few)) in
@@ -170,8 +171,8 @@ body m whole (pointed ds) g h few =
       value =
           ap (λ (z : Amount). round binary64 (z .minus) (z .amount) (z .parts)) (r .ends ∙ ap (gathered p) (sym (append-nil ds)) ∙ q .ends)
           ∙ ap (λ (z : Bool). round binary64 z (q .last .amount) (q .last .parts)) (q .minus ∙ r .minus)
-          ∙ ap (λ (z : ℕ). round binary64 m z (q .last .parts)) (q .amount ∙ ap (λ (z : ℕ). worth z ds) (r .amount) ∙ sym (worth-append 0 whole ds))
-          ∙ ap (λ (z : ℕ). round binary64 m (worth 0 (whole ++ ds)) z) (q .parts ∙ ap (λ (z : ℕ). z * 10 ^ length ds) (r .parts) ∙ once (10 ^ length ds));
+          ∙ ap (λ (z : ℕ). round binary64 m z (q .last .parts)) (q .amount ∙ ap (λ (z : ℕ). digitsWorth z ds) (r .amount) ∙ sym (worth-append 0 whole ds))
+          ∙ ap (λ (z : ℕ). round binary64 m (digitsWorth 0 (whole ++ ds)) z) (q .parts ∙ ap (λ (z : ℕ). z * 10 ^ length ds) (r .parts) ∙ once (10 ^ length ds));
     }
   where
     once : (x : ℕ) → 1 * x ≡ x
@@ -218,9 +219,9 @@ bounded text a i g =
     lower : (x y : ℕ) → x < y → x ≤ y
     lower x y h = omega (arith, h)
 
-pub ends : (text : Bytes) (a : Amount) (i : ℕ) → Gathering text a i → length text ≤ i → (r : Float) → r ≡ round binary64 (a .minus) (a .amount) (a .parts) → (h : Scale text) → r ≡ scaleValue h
+pub ends : (text : Bytes) (a : Amount) (i : ℕ) → Gathering text a i → length text ≤ i → (r : Float) → r ≡ round binary64 (a .minus) (a .amount) (a .parts) → Scale text → r ≡ valueOf text
 ends text a i g past r e h =
-    e ∙ ap (λ (z : Amount). round binary64 (z .minus) (z .amount) (z .parts)) (ap (gathered a) (sym (drop-of-length-le text {i = i} past)) ∙ g .same) ∙ scale-ends text h .value
+    e ∙ ap (λ (z : Amount). round binary64 (z .minus) (z .amount) (z .parts)) (ap (gathered a) (sym (drop-of-length-le text {i = i} past)) ∙ g .same) ∙ scale-ends text h .value ∙ sym (value-meant text h)
 
 -- what one byte asks
 pub amount-fits : (a : Amount) (b : ℕ) → Ready a b → a .amount ≤ 1000000000000000
