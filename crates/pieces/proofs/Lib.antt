@@ -1,0 +1,5 @@
+mod Names
+mod Fields
+mod Made
+mod Walk
+mod Found
