@@ -16,23 +16,23 @@ use Rattle.pieces.proofs.Walk.{ahead-named, ahead-fielded, met}
 
 -- what the code knows of the name's end
 abbrev pub Split : Bytes → Cursor → ℕ → Type 0
-Split text c split = (name : Bytes) → Named text (c .at) name → split ≡ c .at + length (escaped name)
+Split text c split = (to : ℕ) (name : Bytes) → Named text (c .at) to name → split ≡ to
 
 pub name-ahead : {text : Bytes} {c : Cursor} → SomeAhead text c → SomeName text (c .at)
-name-ahead a = (_, ahead-named (a .2))
+name-ahead a = (_, _, ahead-named (a .2))
 
 bare : length (scaleText []) ≡ 0
 unfolding scaleText
 bare = refl
 
 pub found-attribute : {text : Bytes} (c : Cursor) (s : Span) → c .field ≡ true → s .kind ≡ Attribute → s .from ≡ c .at → Split text c (s .split)
-    → ((field : Bytes) → Fielded text (s .split) field → s .to ≡ s .split + length field) → Finds text c s
+    → ((to : ℕ) → Fielded text (s .split) to → s .to ≡ to) → Finds text c s
 found-attribute {text} c s f k e split to = record { met = go }
   where
     go : (p : Piece) (rest : List Piece) → Ahead text c (p ∷ rest) → Met text c s p rest
     go blank rest a = absurd (true≢false (sym f ∙ a .field))
     go (label n) rest a = absurd (true≢false (sym f ∙ a .field))
-    go (attribute b) rest a = met s a k e (split _ (ahead-named a)) (to _ (ahead-fielded a (split _ (ahead-named a))))
+    go (attribute b) rest a = met s a k e (split _ _ (ahead-named a)) (to _ (ahead-fielded a (split _ _ (ahead-named a))))
 
 pub found-blank : {text : Bytes} (c : Cursor) (s : Span) → c .field ≡ false → s .kind ≡ Blank → s .from ≡ c .at → Split text c (s .split) → s .to ≡ s .split → s .split ≡ c .at
     → Finds text c s
@@ -42,9 +42,9 @@ found-blank {text} c s f k e split to h = record { met = go }
     none n g = omega (arith, g, h)
 
     go : (p : Piece) (rest : List Piece) → Ahead text c (p ∷ rest) → Met text c s p rest
-    go blank rest a = met s a k e (split _ (ahead-named a)) (omega (arith, to, bare))
+    go blank rest a = met s a k e (split _ _ (ahead-named a)) (omega (arith, to, bare))
     go (label []) rest a = absurd (a .sound .0)
-    go (label (b ∷ n)) rest a = absurd (omega (arith, none (b ∷ n) (split _ (ahead-named a)), escaped-some b n))
+    go (label (b ∷ n)) rest a = absurd (omega (arith, none (b ∷ n) (split _ _ (ahead-named a)), escaped-some b n))
     go (attribute b) rest a = absurd (false≢true (sym f ∙ a .field))
 
 pub found-label : {text : Bytes} (c : Cursor) (s : Span) → c .field ≡ false → s .kind ≡ Label → s .from ≡ c .at → Split text c (s .split) → s .to ≡ s .split → (s .split ≡ c .at → ⊥)
@@ -52,6 +52,6 @@ pub found-label : {text : Bytes} (c : Cursor) (s : Span) → c .field ≡ false 
 found-label {text} c s f k e split to h = record { met = go }
   where
     go : (p : Piece) (rest : List Piece) → Ahead text c (p ∷ rest) → Met text c s p rest
-    go blank rest a = absurd (h (omega (arith, split _ (ahead-named a), ap length escaped-nil)))
-    go (label n) rest a = met s a k e (split _ (ahead-named a)) (omega (arith, to, bare))
+    go blank rest a = absurd (h (omega (arith, split _ _ (ahead-named a), ap length escaped-nil)))
+    go (label n) rest a = met s a k e (split _ _ (ahead-named a)) (omega (arith, to, bare))
     go (attribute b) rest a = absurd (false≢true (sym f ∙ a .field))

@@ -1,3 +1,4 @@
+mod Parts
 mod Names
 mod Fields
 mod Made

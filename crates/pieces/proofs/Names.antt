@@ -10,10 +10,8 @@ use lib.ListN.{length, drop, getD, drop-of-length-le, length-drop, length-append
 use lib.Seq.{drop-cons}
 use borrow.Author.Tests.{eqb-true, eqb-false}
 use Rattle.layout.specs.Layout.{Bytes, escaped, Clean}
-use Rattle.pieces.specs.Standing.{endsName, EndsName, Named, SomeName}
-
-pub here : (text : Bytes) (i : ℕ) → i < length text → drop i text ≡ getD text i 0 ∷ drop (i + 1) text
-here text i h = drop-cons text i 0 h ∙ ap (λ (k : ℕ). getD text i 0 ∷ drop k text) (sym (add-one i))
+use Rattle.pieces.specs.Standing.{endsName, nameEnds, Named, SomeName}
+use Rattle.pieces.proofs.Parts.{here, slice-front, slice-length}
 
 escaped-special : (b : ℕ) (n : Bytes) → eqb b 58 || eqb b 92 ≡ true → escaped (b ∷ n) ≡ 92 ∷ b ∷ escaped n
 unfolding escaped
@@ -49,7 +47,7 @@ record Onward (n rest t : Bytes) (by : ℕ) : Type 0 where
   bytes : t ≡ escaped more ++ rest
   shorter : length (escaped n) ≡ by + length (escaped more)
 
-onward-plain : (n rest : Bytes) (b : ℕ) (t : Bytes) → Clean n → EndsName rest → b ∷ t ≡ escaped n ++ rest → (b ≡ 92 → ⊥) → endsName b ≡ false → Onward n rest t 1
+onward-plain : (n rest : Bytes) (b : ℕ) (t : Bytes) → Clean n → nameEnds rest ≡ true → b ∷ t ≡ escaped n ++ rest → (b ≡ 92 → ⊥) → endsName b ≡ false → Onward n rest t 1
 onward-plain [] [] b t g h e s k = absurd (cons≢nil (e ∙ ap (λ (x : Bytes). x ++ []) escaped-nil))
 onward-plain [] (c ∷ r) b t g h e s k = absurd (no-ending b c h k (first (e ∙ ap (λ (x : Bytes). x ++ (c ∷ r)) escaped-nil)))
 onward-plain (x ∷ n) rest b t g h e s k =
@@ -62,7 +60,7 @@ onward-plain (x ∷ n) rest b t g h e s k =
       shorter = ap length (escaped-plain x n y) ∙ omega arith;
     })
 
-onward-slash : (n rest : Bytes) (b c : ℕ) (t : Bytes) → Clean n → EndsName rest → b ∷ c ∷ t ≡ escaped n ++ rest → b ≡ 92 → Onward n rest t 2
+onward-slash : (n rest : Bytes) (b c : ℕ) (t : Bytes) → Clean n → nameEnds rest ≡ true → b ∷ c ∷ t ≡ escaped n ++ rest → b ≡ 92 → Onward n rest t 2
 onward-slash [] [] b c t g h e s = absurd (cons≢nil (e ∙ ap (λ (x : Bytes). x ++ []) escaped-nil))
 onward-slash [] (d ∷ r) b c t g h e s = absurd (false≢true (ap endsName (sym s ∙ first (e ∙ ap (λ (x : Bytes). x ++ (d ∷ r)) escaped-nil)) ∙ h))
 onward-slash (x ∷ n) rest b c t g h e s =
@@ -76,7 +74,7 @@ onward-slash (x ∷ n) rest b c t g h e s =
     (λ y. absurd (true≢false (ap (λ (z : ℕ). eqb z 58 || eqb z 92) (sym s ∙ first (e ∙ ap (λ (z : Bytes). z ++ rest) (escaped-plain x n y))) ∙ y)))
 
 -- behind a backslash there is a byte
-slash-pair : (n rest : Bytes) (b : ℕ) (t : Bytes) → EndsName rest → b ∷ t ≡ escaped n ++ rest → b ≡ 92 → 1 ≤ length t
+slash-pair : (n rest : Bytes) (b : ℕ) (t : Bytes) → nameEnds rest ≡ true → b ∷ t ≡ escaped n ++ rest → b ≡ 92 → 1 ≤ length t
 slash-pair [] [] b t h e s = absurd (cons≢nil (e ∙ ap (λ (x : Bytes). x ++ []) escaped-nil))
 slash-pair [] (d ∷ r) b t h e s = absurd (false≢true (ap endsName (sym s ∙ first (e ∙ ap (λ (x : Bytes). x ++ (d ∷ r)) escaped-nil)) ∙ h))
 slash-pair (x ∷ n) rest b t h e s =
@@ -111,62 +109,73 @@ escaped-some b n =
 
 -- ---- the loop
 
--- a name that began at `at` goes on at i
-pub record Naming (text : Bytes) (at i : ℕ) (name : Bytes) : Type 0 where
-  pub more : Bytes
-  pub named : Named text i more
-  pub same : i + length (escaped more) ≡ at + length (escaped name)
+-- a name goes on at i, and this is left of the text behind it
+record Ahead (text : Bytes) (i : ℕ) (name rest : Bytes) : Type 0 where
+  clean : Clean name
+  bytes : drop i text ≡ escaped name ++ rest
+  ends : nameEnds rest ≡ true
+
+-- a name that began at `at` and ends at `to` goes on at i
+pub record Going (text : Bytes) (i to : ℕ) : Type 0 where
+  more : Bytes
+  left : Ahead text i more (drop to text)
+  same : i + length (escaped more) ≡ to
 
 abbrev pub Walked : Bytes → ℕ → ℕ → Type 0
-Walked text at i = (name : Bytes) → Named text at name → Naming text at i name
+Walked text at i = (to : ℕ) (name : Bytes) → Named text at to name → Going text i to
 
 pub walk-starts : (text : Bytes) (at : ℕ) → Walked text at at
-walk-starts text at name g = record { more = name; named = g; same = refl }
+walk-starts text at to name g =
+    let l = slice-length text at to (g .low) (g .inside) ∙ ap length (g .bytes) in
+    record {
+      more = name;
+      left = record { clean = g .clean; bytes = slice-front text at to (g .low) ∙ ap (λ (t : Bytes). t ++ drop to text) (g .bytes); ends = g .ends };
+      same = omega (arith, l, g .low);
+    }
 
 pub walk-plain : (text : Bytes) (at i : ℕ) → Walked text at i → i < length text → (getD text i 0 ≡ 92 → ⊥) → endsName (getD text i 0) ≡ false → Walked text at (i + 1)
-walk-plain text at i w h s k name g =
-    let a = w name g in
-    let m = a .named in
-    let o = onward-plain (a .more) (m .rest) (getD text i 0) (drop (i + 1) text) (m .clean) (m .ends) (sym (here text i h) ∙ m .bytes) s k in
+walk-plain text at i w h s k to name g =
+    let a = w to name g in
+    let m = a .left in
+    let o = onward-plain (a .more) (drop to text) (getD text i 0) (drop (i + 1) text) (m .clean) (m .ends) (sym (here text i h) ∙ m .bytes) s k in
     record {
       more = o .more;
-      named = record { rest = m .rest; inside = omega (arith, h); clean = o .clean; bytes = o .bytes; ends = m .ends };
+      left = record { clean = o .clean; bytes = o .bytes; ends = m .ends };
       same = omega (arith, a .same, o .shorter);
     }
 
 -- where the byte behind a backslash stands
 pub walk-room : (text : Bytes) (at i : ℕ) → Walked text at i → SomeName text at → i < length text → getD text i 0 ≡ 92 → i + 2 ≤ length text
 walk-room text at i w g h s =
-    let m = w (g .0) (g .1) .named in
-    let more = w (g .0) (g .1) .more in
-    let l = slash-pair more (m .rest) (getD text i 0) (drop (i + 1) text) (m .ends) (sym (here text i h) ∙ m .bytes) s in
+    let a = w (g .0) (g .1) (g .2) in
+    let m = a .left in
+    let l = slash-pair (a .more) (drop (g .0) text) (getD text i 0) (drop (i + 1) text) (m .ends) (sym (here text i h) ∙ m .bytes) s in
     let d = length-drop (i + 1) text in
     omega (arith, l, d)
 
 pub walk-slash : (text : Bytes) (at i : ℕ) → Walked text at i → i < length text → getD text i 0 ≡ 92 → Walked text at (i + 2)
-walk-slash text at i w h s name g =
-    let a = w name g in
-    let m = a .named in
-    let room : i + 2 ≤ length text = walk-room text at i w (name, g) h s in
+walk-slash text at i w h s to name g =
+    let a = w to name g in
+    let m = a .left in
+    let room : i + 2 ≤ length text = walk-room text at i w (to, name, g) h s in
     let two : i + 1 + 1 ≡ i + 2 = omega arith in
     let e = sym (here text i h ∙ ap (λ (t : Bytes). getD text i 0 ∷ t) (here text (i + 1) (omega (arith, room)))) ∙ m .bytes in
-    let o = onward-slash (a .more) (m .rest) (getD text i 0) (getD text (i + 1) 0) (drop (i + 1 + 1) text) (m .clean) (m .ends) e s in
+    let o = onward-slash (a .more) (drop to text) (getD text i 0) (getD text (i + 1) 0) (drop (i + 1 + 1) text) (m .clean) (m .ends) e s in
     record {
       more = o .more;
-      named = record { rest = m .rest; inside = room; clean = o .clean; bytes = ap (λ (k : ℕ). drop k text) (sym two) ∙ o .bytes; ends = m .ends };
+      left = record { clean = o .clean; bytes = ap (λ (k : ℕ). drop k text) (sym two) ∙ o .bytes; ends = m .ends };
       same = omega (arith, a .same, o .shorter);
     }
 
-pub walk-ends : (text : Bytes) (at i : ℕ) → Walked text at i → i < length text → endsName (getD text i 0) ≡ true → (name : Bytes) → Named text at name → i ≡ at + length (escaped name)
-walk-ends text at i w h k name g =
-    let a = w name g in
-    let m = a .named in
-    let z = ends-here (a .more) (m .rest) (getD text i 0) (drop (i + 1) text) (m .clean) (sym (here text i h) ∙ m .bytes) k in
+pub walk-ends : (text : Bytes) (at i : ℕ) → Walked text at i → i < length text → endsName (getD text i 0) ≡ true → (to : ℕ) (name : Bytes) → Named text at to name → i ≡ to
+walk-ends text at i w h k to name g =
+    let a = w to name g in
+    let m = a .left in
+    let z = ends-here (a .more) (drop to text) (getD text i 0) (drop (i + 1) text) (m .clean) (sym (here text i h) ∙ m .bytes) k in
     omega (arith, a .same, z)
 
-pub walk-over : (text : Bytes) (at i : ℕ) → Walked text at i → length text ≤ i → (name : Bytes) → Named text at name → i ≡ at + length (escaped name)
-walk-over text at i w h name g =
-    let a = w name g in
-    let m = a .named in
-    let z = nothing-left (a .more) (m .rest) (sym (drop-of-length-le text {i = i} h) ∙ m .bytes) in
+pub walk-over : (text : Bytes) (at i : ℕ) → Walked text at i → length text ≤ i → (to : ℕ) (name : Bytes) → Named text at to name → i ≡ to
+walk-over text at i w h to name g =
+    let a = w to name g in
+    let z = nothing-left (a .more) (drop to text) (sym (drop-of-length-le text {i = i} h) ∙ a .left .bytes) in
     omega (arith, a .same, z)

@@ -15,23 +15,10 @@ use Rattle.pieces.specs.declared.Kind.the-variants.{Blank, Label, Attrib
 use Rattle.pieces.specs.declared.Cursor.{Cursor}
 use Rattle.pieces.specs.declared.Span.{Span}
 use Rattle.pieces.specs.PieceText.{kindOf, nameIn, keptIn, isField, pieceText, parting, moreText, piecesText, SoundPiece, SoundPieces}
-use Rattle.pieces.specs.Standing.{between, EndsName, EndsField, Named, SomeName, Fielded, Stands, Behind, none, Ahead, SomeAhead, Met, Finds, Follows, Starts}
-use Rattle.pieces.proofs.Names.{here, first, further, escaped-nil}
+use Rattle.pieces.specs.Standing.{nameEnds, fieldEnds, Named, SomeName, Fielded, Stands, Behind, none, Ahead, SomeAhead, Met, Finds, Follows, Starts}
+use Rattle.pieces.proofs.Parts.{here, part-of, drop-past, fits}
+use Rattle.pieces.proofs.Names.{first, further}
 use Rattle.pieces.proofs.Made.{same-text, sound-pieces, some-first, line-first}
-
--- ---- parts of a text
-
-pub part-of : (text : Bytes) (a b : ℕ) (x y : Bytes) → drop a text ≡ x ++ y → b ≡ a + length x → between text a b ≡ x
-part-of text a b x y e h = ap (λ (k : ℕ). take k (drop a text)) width ∙ ap (take (length x)) e ∙ take-append-seam x y
-  where
-    width : b - a ≡ length x
-    width = omega (arith, h)
-
-pub drop-past : (text : Bytes) (a b : ℕ) (x y : Bytes) → drop a text ≡ x ++ y → b ≡ a + length x → drop b text ≡ y
-drop-past text a b x y e h = ap (λ (k : ℕ). drop k text) h ∙ sym (drop-drop (length x) a text) ∙ ap (drop (length x)) e ∙ drop-append-seam x y
-
-fits : (text : Bytes) (a : ℕ) (x y : Bytes) → a ≤ length text → drop a text ≡ x ++ y → a + length x ≤ length text
-fits text a x y h e = let l = sym (length-drop a text) ∙ ap length e ∙ length-append x y in omega (arith, l, h)
 
 -- ---- what sound pieces are made of
 
@@ -77,16 +64,16 @@ kept-sound blank g = tt
 kept-sound (label n) g = tt
 kept-sound (attribute a) g = g .1
 
-ends-field : (rest : List Piece) → EndsField (moreText rest)
+ends-field : (rest : List Piece) → fieldEnds (moreText rest) ≡ true
 unfolding moreText
-ends-field [] = tt
+ends-field [] = refl
 ends-field (blank ∷ rest) = refl
 ends-field (label n ∷ rest) = refl
 ends-field (attribute a ∷ rest) = refl
 
-ends-name : (k : Bytes) (rest : List Piece) → EndsName (scaleText k ++ moreText rest)
+ends-name : (k : Bytes) (rest : List Piece) → nameEnds (scaleText k ++ moreText rest) ≡ true
 unfolding scaleText moreText
-ends-name [] [] = tt
+ends-name [] [] = refl
 ends-name [] (blank ∷ rest) = refl
 ends-name [] (label n ∷ rest) = refl
 ends-name [] (attribute a ∷ rest) = refl
@@ -104,47 +91,53 @@ split-text {text} {c} {p} {rest} a = a .bytes ∙ made ∙ append-assoc (escaped
 pub ahead-inside : {text : Bytes} {c : Cursor} {p : Piece} {rest : List Piece} → Ahead text c (p ∷ rest) → c .at ≤ length text
 ahead-inside a = ltb-false _ _ (a .over)
 
-pub ahead-named : {text : Bytes} {c : Cursor} {p : Piece} {rest : List Piece} → Ahead text c (p ∷ rest) → Named text (c .at) (nameIn p)
-ahead-named {text} {c} {p} {rest} a = record {
-  rest = scaleText (keptIn p) ++ moreText rest;
-  inside = ahead-inside a;
-  clean = clean-name p (a .sound .0);
-  bytes = split-text a;
-  ends = ends-name (keptIn p) rest;
-}
+pub ahead-named : {text : Bytes} {c : Cursor} {p : Piece} {rest : List Piece} → Ahead text c (p ∷ rest) → Named text (c .at) (c .at + length (escaped (nameIn p))) (nameIn p)
+ahead-named {text} {c} {p} {rest} a =
+    let n = escaped (nameIn p) in
+    let to = c .at + length n in
+    let r = scaleText (keptIn p) ++ moreText rest in
+    record {
+      clean = clean-name p (a .sound .0);
+      low = omega arith;
+      inside = fits text (c .at) n r (ahead-inside a) (split-text a);
+      bytes = part-of text (c .at) to n r (split-text a) refl;
+      ends = ap nameEnds (drop-past text (c .at) to n r (split-text a) refl) ∙ ends-name (keptIn p) rest;
+    }
 
-pub ahead-fielded : {text : Bytes} {c : Cursor} {p : Piece} {rest : List Piece} {split : ℕ} → Ahead text c (p ∷ rest) → split ≡ c .at + length (escaped (nameIn p)) → Fielded text split (scaleText (keptIn p))
-ahead-fielded {text} {c} {p} {rest} {split} a h = record {
-  rest = moreText rest;
-  clean = clean-kept (keptIn p) (kept-sound p (a .sound .0));
-  bytes = drop-past text (c .at) split (escaped (nameIn p)) (scaleText (keptIn p) ++ moreText rest) (split-text a) h;
-  ends = ends-field rest;
-}
+pub ahead-fielded : {text : Bytes} {c : Cursor} {p : Piece} {rest : List Piece} {split : ℕ} → Ahead text c (p ∷ rest) → split ≡ c .at + length (escaped (nameIn p))
+    → Fielded text split (split + length (scaleText (keptIn p)))
+ahead-fielded {text} {c} {p} {rest} {split} a h =
+    let n = escaped (nameIn p) in
+    let y = scaleText (keptIn p) in
+    let d : drop split text ≡ y ++ moreText rest = drop-past text (c .at) split n (y ++ moreText rest) (split-text a) h in
+    let i : split ≤ length text = subst (λ (k : ℕ). k ≤ length text) (sym h) (fits text (c .at) n (y ++ moreText rest) (ahead-inside a) (split-text a)) in
+    record {
+      clean = subst Clean (sym (part-of text split (split + length y) y (moreText rest) d refl)) (clean-kept (keptIn p) (kept-sound p (a .sound .0)));
+      low = omega arith;
+      inside = fits text split y (moreText rest) i d;
+      ends = ap fieldEnds (drop-past text split (split + length y) y (moreText rest) d refl) ∙ ends-field rest;
+    }
 
 pub met : {text : Bytes} {c : Cursor} {p : Piece} {rest : List Piece} (s : Span) → Ahead text c (p ∷ rest) → s .kind ≡ kindOf p → s .from ≡ c .at
     → s .split ≡ c .at + length (escaped (nameIn p)) → s .to ≡ s .split + length (scaleText (keptIn p)) → Met text c s p rest
 met {text} {c} {p} {rest} s a k f h t =
     let n = escaped (nameIn p) in
     let y = scaleText (keptIn p) in
-    let d0 : drop (s .from) text ≡ n ++ (y ++ moreText rest) = ap (λ (i : ℕ). drop i text) f ∙ split-text a in
-    let h0 : s .split ≡ s .from + length n = h ∙ ap (λ (i : ℕ). i + length n) (sym f) in
-    let d1 : drop (s .split) text ≡ y ++ moreText rest = drop-past text (s .from) (s .split) n (y ++ moreText rest) d0 h0 in
-    let i0 : s .from ≤ length text = subst (λ (i : ℕ). i ≤ length text) (sym f) (ahead-inside a) in
-    let i1 : s .split ≤ length text = subst (λ (i : ℕ). i ≤ length text) (sym h0) (fits text (s .from) n (y ++ moreText rest) i0 d0) in
-    let i2 : s .to ≤ length text = subst (λ (i : ℕ). i ≤ length text) (sym t) (fits text (s .split) y (moreText rest) i1 d1) in
+    let r = y ++ moreText rest in
+    let d : drop (s .split) text ≡ r = drop-past text (c .at) (s .split) n r (split-text a) h in
+    let g = ahead-fielded a h in
+    let i : s .to ≤ length text = subst (λ (j : ℕ). j ≤ length text) (sym t) (g .inside) in
     record {
       from = f;
       stands = record {
         kind = k;
-        forward = omega (arith, h0);
-        onward = omega (arith, t);
-        inside = i2;
-        name = part-of text (s .from) (s .split) n (y ++ moreText rest) d0 h0;
-        scale = part-of text (s .split) (s .to) y (moreText rest) d1 t;
-        named = subst (λ (i : ℕ). Named text i (nameIn p)) (sym f) (ahead-named a);
+        name = subst (λ (j : ℕ). Named text j (s .split) (nameIn p)) (sym f) (subst (λ (j : ℕ). Named text (c .at) j (nameIn p)) (sym h) (ahead-named a));
+        low = omega (arith, t);
+        inside = i;
+        scale = part-of text (s .split) (s .to) y (moreText rest) d t;
         sound = a .sound .0;
       };
-      behind = record { inside = i2; bytes = drop-past text (s .split) (s .to) y (moreText rest) d1 t; sound = a .sound .1 };
+      behind = record { inside = i; bytes = drop-past text (s .split) (s .to) y (moreText rest) d t; sound = a .sound .1 };
     }
 
 -- ---- the cursor behind a piece

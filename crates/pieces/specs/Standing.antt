@@ -2,65 +2,60 @@
 use mathlib.Core.Path.{_≡_}
 use mathlib.Core.Bool.{Bool, true, false, _||_}
 use mathlib.Core.List.{List, [], _∷_, _++_}
-use Prim.Native.Nat.{ℕ, _+_, _-_, _≤_, _<_}
+use Prim.Native.Nat.{ℕ, _+_, _≤_}
 use lib.Dec.{eqb, ltb}
-use lib.ListN.{length, take, drop}
+use lib.ListN.{length, drop}
+use lib.Seq.{slice}
 use Rattle.layout.specs.Layout.{Bytes, escaped, scaleText, Clean, WellFormed}
 use Rattle.text_tables.specs.Pieces.{Piece, piecesOf}
 use Rattle.pieces.specs.declared.Cursor.{Cursor}
 use Rattle.pieces.specs.declared.Span.{Span}
 use Rattle.pieces.specs.PieceText.{kindOf, nameIn, keptIn, isField, moreText, piecesText, SoundPiece, SoundPieces}
 
--- the bytes from one place to another, as a part of a slice has them
-abbrev pub between : Bytes → ℕ → ℕ → Bytes
-between text from to = take (to - from) (drop from text)
-
--- ---- one name, one scale
+-- ---- one name, one field
 
 -- a bare tab, line feed or colon ends a name, a tab or a line feed a field; so does the end of the text
 abbrev pub endsName : ℕ → Bool
 endsName b = (eqb b 9 || eqb b 10) || eqb b 58
 
+abbrev pub nameEnds : Bytes → Bool
+nameEnds [] = true
+nameEnds (b ∷ text) = endsName b
+
 abbrev pub endsField : ℕ → Bool
 endsField b = eqb b 9 || eqb b 10
 
-abbrev pub EndsName : Bytes → Type 0
-EndsName [] = Unit {0}
-EndsName (b ∷ t) = endsName b ≡ true
+abbrev pub fieldEnds : Bytes → Bool
+fieldEnds [] = true
+fieldEnds (b ∷ text) = endsField b
 
-abbrev pub EndsField : Bytes → Type 0
-EndsField [] = Unit {0}
-EndsField (b ∷ t) = endsField b ≡ true
-
--- a name stands here, escaped, and nothing behind it belongs to it
-pub record Named (text : Bytes) (at : ℕ) (name : Bytes) : Type 0 where
-  pub rest : Bytes
-  pub inside : at ≤ length text
+-- a name stands here, escaped, and what is behind ends it
+pub record Named (text : Bytes) (from to : ℕ) (name : Bytes) : Type 0 where
   pub clean : Clean name
-  pub bytes : drop at text ≡ escaped name ++ rest
-  pub ends : EndsName rest
+  pub low : from ≤ to
+  pub inside : to ≤ length text
+  pub bytes : slice from to text ≡ escaped name
+  pub ends : nameEnds (drop to text) ≡ true
 
 abbrev pub SomeName : Bytes → ℕ → Type 0
-SomeName text at = (name : Bytes) × Named text at name
+SomeName text from = (to : ℕ) × (name : Bytes) × Named text from to name
 
--- what is left of a field
-pub record Fielded (text : Bytes) (at : ℕ) (field : Bytes) : Type 0 where
-  pub rest : Bytes
-  pub clean : Clean field
-  pub bytes : drop at text ≡ field ++ rest
-  pub ends : EndsField rest
+-- a field goes on here, and what is behind ends it
+pub record Fielded (text : Bytes) (from to : ℕ) : Type 0 where
+  pub clean : Clean (slice from to text)
+  pub low : from ≤ to
+  pub inside : to ≤ length text
+  pub ends : fieldEnds (drop to text) ≡ true
 
 -- ---- pieces
 
--- a piece stands in the text as a span says: its name, escaped, from `from` to `split`, then to `to` the colon and the kept text, if there is one
+-- a piece stands in the text as a span says: its name from `from` to `split`, then to `to` the colon and the kept text, if there is one
 pub record Stands (text : Bytes) (s : Span) (p : Piece) : Type 0 where
   pub kind : s .kind ≡ kindOf p
-  pub forward : s .from ≤ s .split
-  pub onward : s .split ≤ s .to
+  pub name : Named text (s .from) (s .split) (nameIn p)
+  pub low : s .split ≤ s .to
   pub inside : s .to ≤ length text
-  pub name : between text (s .from) (s .split) ≡ escaped (nameIn p)
-  pub scale : between text (s .split) (s .to) ≡ scaleText (keptIn p)
-  pub named : Named text (s .from) (nameIn p)
+  pub scale : slice (s .split) (s .to) text ≡ scaleText (keptIn p)
   pub sound : SoundPiece p
 
 -- these pieces come behind a place where one has ended

@@ -2,11 +2,11 @@
 // where a piece begins. Nothing is stored: a piece is told by its places in the text.
 ghost use mathlib.Core.Path.{_≡_};
 ghost use mathlib.Core.Bool.{true, false};
-ghost use Prim.Native.Nat.{_+_, _≤_};
+ghost use Prim.Native.Nat.{ℕ, _+_, _≤_};
 ghost use lib.ListN.{length};
-ghost use Rattle.layout.specs.Layout.{Bytes, escaped, WellFormed};
+ghost use Rattle.layout.specs.Layout.{Bytes};
 ghost use Rattle.answer_line.specs.Line.{RoomFor, Put};
-ghost use Rattle.pieces.specs.Standing.{between, Named, SomeName, Fielded, SomeAhead, Finds, Follows, Starts};
+ghost use Rattle.pieces.specs.Standing.{Named, SomeName, Fielded, SomeAhead, Finds, Follows, Starts};
 ghost use Rattle.pieces.specs.Unescaped.{unescaped};
 
 // An empty line, a word's label, an attribute.
@@ -33,7 +33,7 @@ pub struct Span {
 // Where the name that begins here ends.
 pub fn name_end(text: &[u8], at: usize) -> usize
     requires { ⌜ SomeName (now text) at ⌝ }
-    ensures { λ r. ⌜ ((name : Bytes) → Named (now (text .entry)) at name → r ≡ at + length (escaped name)) ⌝ }
+    ensures { λ r. ⌜ ((to : ℕ) (name : Bytes) → Named (now (text .entry)) at to name → r ≡ to) ⌝ }
 {
     let mut i = at;
     while i < text.len() {
@@ -52,7 +52,7 @@ pub fn name_end(text: &[u8], at: usize) -> usize
 
 // Where the field that goes on here ends.
 fn scale_end(text: &[u8], at: usize) -> usize
-    ensures { λ r. ⌜ ((field : Bytes) → Fielded (now (text .entry)) at field → r ≡ at + length field) ⌝ }
+    ensures { λ r. ⌜ ((to : ℕ) → Fielded (now (text .entry)) at to → r ≡ to) ⌝ }
 {
     let mut i = at;
     while i < text.len() {
