@@ -4,3 +4,4 @@ mod Fields
 mod Made
 mod Walk
 mod Found
+mod Bare

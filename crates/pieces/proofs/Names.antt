@@ -13,11 +13,11 @@ use Rattle.layout.specs.Layout.{Bytes, escaped, Clean}
 use Rattle.pieces.specs.Standing.{endsName, nameEnds, Named, SomeName}
 use Rattle.pieces.proofs.Parts.{here, slice-front, slice-length}
 
-escaped-special : (b : ℕ) (n : Bytes) → eqb b 58 || eqb b 92 ≡ true → escaped (b ∷ n) ≡ 92 ∷ b ∷ escaped n
+pub escaped-special : (b : ℕ) (n : Bytes) → eqb b 58 || eqb b 92 ≡ true → escaped (b ∷ n) ≡ 92 ∷ b ∷ escaped n
 unfolding escaped
 escaped-special b n h = rw h refl
 
-escaped-plain : (b : ℕ) (n : Bytes) → eqb b 58 || eqb b 92 ≡ false → escaped (b ∷ n) ≡ b ∷ escaped n
+pub escaped-plain : (b : ℕ) (n : Bytes) → eqb b 58 || eqb b 92 ≡ false → escaped (b ∷ n) ≡ b ∷ escaped n
 unfolding escaped
 escaped-plain b n h = rw h refl
 
@@ -34,7 +34,7 @@ pub further : {b c : ℕ} {t u : Bytes} → b ∷ t ≡ c ∷ u → t ≡ u
 further e = cc
 
 -- either way of a test
-either : {P : Type 0} (x : Bool) → (x ≡ true → P) → (x ≡ false → P) → P
+pub either : {P : Type 0} (x : Bool) → (x ≡ true → P) → (x ≡ false → P) → P
 either true f g = f refl
 either false f g = g refl
 

@@ -4,6 +4,7 @@ ghost use mathlib.Core.Path.{_≡_};
 ghost use mathlib.Core.Bool.{true, false};
 ghost use Prim.Native.Nat.{ℕ, _+_, _≤_};
 ghost use lib.ListN.{length};
+ghost use lib.Seq.{slice};
 ghost use Rattle.layout.specs.Layout.{Bytes};
 ghost use Rattle.answer_line.specs.Line.{RoomFor, Put};
 ghost use Rattle.pieces.specs.Standing.{Named, SomeName, Fielded, SomeAhead, Finds, Follows, Starts};
@@ -121,4 +122,48 @@ pub fn after(text: &[u8], to: usize) -> Cursor
         at: to + 1,
         field: false,
     }
+}
+
+// How many bytes the name between two places has without its backslashes.
+pub fn unescaped_length(text: &[u8], from: usize, to: usize) -> usize
+    requires { ⌜ (from ≤ to) × (to ≤ length (now text)) ⌝ }
+    ensures { λ r. ⌜ r ≡ length (unescaped (slice from to (now (text .entry)))) ⌝ }
+{
+    let mut i = from;
+    let mut count = 0usize;
+    let mut slashed = false;
+    while i < to {
+        let b = text[i];
+        i += 1;
+        if (b == 92) & !slashed {
+            slashed = true;
+        } else {
+            slashed = false;
+            count += 1;
+        }
+    }
+    count
+}
+
+// The name between two places without its backslashes, written from `at` on; the place after it.
+pub fn unescape(text: &[u8], from: usize, to: usize, out: &mut [u8], at: usize) -> usize
+    requires { ⌜ (from ≤ to) × (to ≤ length (now text)) ⌝ }
+    requires { ⌜ RoomFor (unescaped (slice from to (now text))) (now out) at ⌝ }
+    ensures { λ r. ⌜ Put (unescaped (slice from to (now (text .entry)))) (now (out .entry)) at r (now (out .exit)) ⌝ }
+{
+    let mut i = from;
+    let mut k = at;
+    let mut slashed = false;
+    while i < to {
+        let b = text[i];
+        i += 1;
+        if (b == 92) & !slashed {
+            slashed = true;
+        } else {
+            slashed = false;
+            out[k] = b;
+            k += 1;
+        }
+    }
+    k
 }
