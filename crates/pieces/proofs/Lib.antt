@@ -1,7 +1,9 @@
-mod Parts
+pub mod Parts
 mod Names
 mod Fields
 mod Made
 mod Walk
 mod Found
-mod Bare
+pub mod Bare
+pub mod Spans
+pub mod Passes

@@ -59,7 +59,7 @@ unfolding scaleText
 clean-kept [] g = tt
 clean-kept (b ∷ s) g = ((λ e. omega (arith, e)), (λ e. omega (arith, e)), clean-scale g)
 
-kept-sound : (p : Piece) → SoundPiece p → KeptText (keptIn p)
+pub kept-sound : (p : Piece) → SoundPiece p → KeptText (keptIn p)
 kept-sound blank g = tt
 kept-sound (label n) g = tt
 kept-sound (attribute a) g = g .1
