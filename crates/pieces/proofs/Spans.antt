@@ -1,6 +1,7 @@
 -- What a span tells of its piece. Assumes nothing.
 use mathlib.Core.Path.{_≡_, refl, sym, ap, subst, _∙_}
-use mathlib.Core.List.{List, [], _∷_, _++_, cons≢nil}
+use mathlib.Core.Bool.{false}
+use mathlib.Core.List.{List, [], _∷_, _++_}
 use Prim.Native.Nat.{ℕ, zero, suc, _+_, _-_, _≤_, _<_}
 use native.Mathlib.Omega.{arith}
 use lib.ListN.{length, take, drop}
@@ -15,7 +16,7 @@ use Rattle.pieces.specs.Standing.{Stands}
 use Rattle.pieces.specs.Unescaped.{unescaped}
 use Rattle.pieces.proofs.Parts.{slice-lent, slice-length, slice-front, part-of, drop-past}
 use Rattle.pieces.proofs.Walk.{kept-sound}
-use Rattle.pieces.proofs.Bare.{bare-name}
+use Rattle.pieces.proofs.Bare.{bare-name, bare-shorter}
 
 -- ---- which piece it is
 
@@ -54,6 +55,24 @@ pub kept-length : {text : Bytes} {s : Span} {p : Piece} → Stands text s p → 
 kept-length {text} {s} {p} g h =
     let l : s .to - s .split ≡ length (keptIn p) + 1 = scale-length (keptIn p) (s .to - s .split) (size g) .1 (omega (arith, h)) .0 in
     omega (arith, l, h)
+
+-- what a piece tells is no longer than where it stands
+pub kept-fits : {text : Bytes} {s : Span} {p : Piece} → Stands text s p → s .split + length (keptIn p) ≤ s .to
+kept-fits {text} {s} {p} g = let l = size g in omega (arith, l, shorter (keptIn p), g .low)
+  where
+    shorter : (kept : Bytes) → length kept ≤ length (scaleText kept)
+    shorter [] = omega arith
+    shorter (b ∷ k) = long b k
+      where
+        long : (b : ℕ) (k : Bytes) → length (b ∷ k) ≤ length (scaleText (b ∷ k))
+        long b k = unfold scaleText in (omega arith)
+
+pub name-fits : {text : Bytes} {s : Span} {p : Piece} → Stands text s p → s .from + length (nameIn p) ≤ s .split
+name-fits {text} {s} {p} g =
+    let l = ap length (name-is g) in
+    let m = bare-shorter false (slice (s .from) (s .split) text) in
+    let n = slice-length text (s .from) (s .split) (g .name .low) (g .name .inside) in
+    omega (arith, l, m, n, g .name .low)
 
 -- the kept text as a part of the text that is lent
 pub kept-lent : {text : Bytes} {s : Span} {p : Piece} → Stands text s p → s .split < s .to → take (s .to - (s .split + 1)) (drop (s .split + 1) text) ≡ keptIn p
