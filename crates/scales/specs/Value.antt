@@ -40,13 +40,13 @@ ValueMeant = (text : Bytes) (h : Scale text) → valueOf text ≡ scaleValue h
 -- one byte more
 abbrev pub taken : Amount → ℕ → Amount
 taken a b =
-    cond (eqb b 45) (record { minus = true; point = a .point; digits = a .digits; amount = a .amount; parts = a .parts })
-    (cond (eqb b 46) (record { minus = a .minus; point = true; digits = a .digits; amount = a .amount; parts = a .parts })
-    (record { minus = a .minus; point = a .point; digits = a .digits + 1; amount = a .amount * 10 + (b - 48); parts = cond (a .point) (a .parts * 10) (a .parts) }))
+    cond (eqb b 45) (record { minus = true; point = a .point; digits = a .digits; amount = a .amount; behind = a .behind })
+    (cond (eqb b 46) (record { minus = a .minus; point = true; digits = a .digits; amount = a .amount; behind = a .behind })
+    (record { minus = a .minus; point = a .point; digits = a .digits + 1; amount = a .amount * 10 + (b - 48); behind = cond (a .point) (a .behind + 1) (a .behind) }))
 
 -- a byte that may come
 pub record Ready (a : Amount) (b : ℕ) : Type 0 where
   pub digit : (b ≡ 45 → ⊥) → (b ≡ 46 → ⊥) → (48 ≤ b) × (b ≤ 57) × (a .digits < 15)
   pub amount : a .amount < 10 ^ (a .digits)
-  pub parts : a .parts ≤ 10 ^ (a .digits)
+  pub behind : a .behind ≤ a .digits
   pub few : a .digits ≤ 15
