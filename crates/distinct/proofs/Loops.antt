@@ -12,7 +12,8 @@ use lib.Seq.{slice, slice-empty, slice-cons, length-take-le, getD-take, drop-con
 use borrow.Author.Tests.{ne-eqb}
 use Rattle.layout.specs.Layout.{Bytes}
 use Rattle.text_tables.specs.Distinct.{same, idIn}
-use Rattle.distinct.specs.Names.{endsName, nameEnds, endsAt, nameAt, namesAt, NameStands, Listed}
+use Rattle.pieces.specs.Standing.{endsName, nameEnds}
+use Rattle.distinct.specs.Names.{endsAt, nameAt, namesAt, NameStands, Listed}
 use Rattle.distinct.specs.Slots.{hashed, home, slotAt, endsSearch, firstStep, slotFor, Searchable}
 use Rattle.distinct.proofs.First.{step-on, step-here, step-none}
 use Rattle.distinct.proofs.Filing.{home-low, ends-free}

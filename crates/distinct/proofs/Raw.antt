@@ -10,7 +10,8 @@ use lib.Seq.{slice, length-slice, length-take-le, drop-append-le, getD-drop, get
 use borrow.Author.Tests.{eqb-true, eqb-false, ne-eqb}
 use Rattle.layout.specs.Layout.{Bytes, escaped, Clean}
 use Rattle.text_tables.specs.Distinct.{same}
-use Rattle.distinct.specs.Names.{endsName, nameEnds, endsAt, rawFrom, rawName, nameAt, Named, NameStands}
+use Rattle.pieces.specs.Standing.{endsName, nameEnds, Named}
+use Rattle.distinct.specs.Names.{endsAt, rawFrom, rawName, nameAt, NameStands}
 use Rattle.distinct.proofs.Same.{eq-same, ne-same}
 
 raw-front : (behind : Bool) (t : Bytes) → rawFrom behind t ++ drop (length (rawFrom behind t)) t ≡ t

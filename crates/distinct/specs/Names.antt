@@ -1,23 +1,14 @@
 -- Names as they stand in the text, escapes and all. "Every name is written in one way only", so two fields name the same thing
 -- exactly where these bytes are equal. Assumes nothing.
 use mathlib.Core.Path.{_≡_}
-use mathlib.Core.Bool.{Bool, true, false, cond, _||_}
+use mathlib.Core.Bool.{Bool, true, false, cond}
 use mathlib.Core.List.{List, [], _∷_, map}
 use Prim.Native.Nat.{ℕ, _≤_, _<_}
 use lib.Dec.{eqb}
 use lib.ListN.{length, getD, take, drop}
-use lib.Seq.{slice}
-use Rattle.layout.specs.Layout.{Bytes, escaped, Clean}
+use Rattle.layout.specs.Layout.{Bytes}
 use Rattle.text_tables.specs.Distinct.{idIn, learnt}
-
--- a byte that ends a name where no backslash stands before it: tab, line feed, colon
-abbrev pub endsName : ℕ → Bool
-endsName b = (eqb b 9 || eqb b 10) || eqb b 58
-
--- a name may end before these bytes: there are none, or the first ends it
-abbrev pub nameEnds : Bytes → Bool
-nameEnds [] = true
-nameEnds (b ∷ text) = endsName b
+use Rattle.pieces.specs.Standing.{endsName, nameEnds, Named}
 
 -- a name may end before this place
 unfoldable pub endsAt : Bytes → ℕ → Bool
@@ -41,15 +32,7 @@ nameAt text at = rawName (drop at text)
 unfoldable pub namesAt : Bytes → List ℕ → ℕ → List Bytes
 namesAt text positions count = map (nameAt text) (take count positions)
 
--- a name stands here, escaped, and what is behind ends it
-pub record Named (text : Bytes) (from to : ℕ) (name : Bytes) : Type 0 where
-  pub clean : Clean name
-  pub low : from ≤ to
-  pub inside : to ≤ length text
-  pub bytes : slice from to text ≡ escaped name
-  pub ends : nameEnds (drop to text) ≡ true
-
--- some name does
+-- some name stands from one place up to another
 abbrev pub NameStands : Bytes → ℕ → ℕ → Type 0
 NameStands text from to = (name : Bytes) × Named text from to name
 

@@ -3,7 +3,7 @@ use mathlib.Core.Path.{_≡_, refl}
 use mathlib.Core.List.{List, [], _∷_, flatten}
 use lib.Ieee.{Float, toBits, ofInt, round}
 use Rattle.layout.specs.Layout.{Line, empty, word, sequencesFrom, sequences}
-use Rattle.scales.specs.Value.{worth, digitsIn, behindPoint, valueOf}
+use Rattle.scales.specs.Value.{digitsWorth, digitsIn, behindPoint, valueOf}
 use Rattle.text_tables.specs.Distinct.{same, idIn, learnt, learntAll}
 use Rattle.text_tables.specs.Tables.{startsFrom, tables}
 

@@ -15,3 +15,8 @@ linePieces (word w) = label (w .label) ∷ map attribute (w .attributes)
 unfoldable pub piecesOf : List Line → List Piece
 piecesOf [] = []
 piecesOf (l ∷ ls) = linePieces l ++ piecesOf ls
+
+-- what a pass over pieces makes of what it had: one piece after the other
+unfoldable pub folded : {S A : Type 0} → (S → A → S) → S → List A → S
+folded step s [] = s
+folded step s (x ∷ xs) = folded step (step s x) xs
