@@ -3,7 +3,7 @@ use mathlib.Core.Path.{_≡_, refl, sym, ap, subst, _∙_}
 use mathlib.Core.Bool.{Bool, true, false}
 use mathlib.Core.List.{List, [], _∷_, _++_, map}
 use Prim.Native.Nat.{ℕ, zero, suc, _+_, _-_, _≤_, _<_}
-use native.Mathlib.Nat.{le-refl}
+use native.Mathlib.Nat.{le-refl, suc-ne-zero}
 use native.Mathlib.Numerals.{add-one}
 use native.Mathlib.Omega.{arith}
 use lib.Dec.{eqb}
@@ -23,18 +23,33 @@ pub none-known : (text : Bytes) (positions : List ℕ) → Known text positions 
 unfolding namesAt
 none-known text positions = record { listed = record { room = omega arith; inside = λ v h. absurd (omega (arith, h)) }; names = refl }
 
-used-none : (n : ℕ) → used (replicate n 0) ≡ 0
+used-none : (slots : List ℕ) → ((i : ℕ) → getD slots i 0 ≡ 0) → used slots ≡ 0
 unfolding used
-used-none zero = refl
-used-none (suc n) = used-none n
+used-none [] free = refl
+used-none (zero ∷ slots) free = used-none slots (λ i. free (suc i))
+used-none (suc v ∷ slots) free = absurd (suc-ne-zero v (free 0))
+
+-- slots that are all free, few or many
+pub free-filed : (slots : List ℕ) → ((i : ℕ) → getD slots i 0 ≡ 0) → Filed (length slots) [] slots
+free-filed slots free = record { long = refl; count = used-none slots free; low = λ i. rw (free i) (le-refl 0); finds = λ v h. absurd (omega (arith, h)) }
 
 zeros : (n i : ℕ) → getD {A = ℕ} (replicate n 0) i 0 ≡ 0
 zeros zero i = refl
 zeros (suc n) zero = refl
 zeros (suc n) (suc i) = zeros n i
 
+front-zeros : (m n i : ℕ) → getD {A = ℕ} (take m (replicate n 0)) i 0 ≡ 0
+front-zeros zero n i = refl
+front-zeros (suc m) zero i = refl
+front-zeros (suc m) (suc n) zero = refl
+front-zeros (suc m) (suc n) (suc i) = front-zeros m n i
+
+-- a new array of them, or its front
 pub none-filed : (n : ℕ) → Filed (length {A = ℕ} (replicate n 0)) [] (replicate n 0)
-none-filed n = record { long = refl; count = used-none n; low = λ i. rw (zeros n i) (le-refl 0); finds = λ v h. absurd (omega (arith, h)) }
+none-filed n = free-filed (replicate n 0) (zeros n)
+
+pub front-filed : (m n : ℕ) → Filed (length {A = ℕ} (take m (replicate n 0))) [] (take m (replicate n 0))
+front-filed m n = free-filed (take m (replicate n 0)) (front-zeros m n)
 
 -- ---- the names at places
 pub known-count : (text : Bytes) (positions : List ℕ) (count : ℕ) (known : List Bytes) → Known text positions count known → length known ≡ count
