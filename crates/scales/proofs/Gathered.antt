@@ -13,8 +13,9 @@ use lib.Ieee.{Float, binary64, round}
 use borrow.Author.Tests.{eqb-true, eqb-false, ne-eqb}
 use Rattle.layout.specs.Layout.{Bytes, Digits, Part, none, point as pointed, partText, fraction, minusText, Scale}
 use Rattle.scales.specs.declared.Amount.{Amount}
-use Rattle.scales.specs.Value.{worth, scaleValue, taken, Ready}
+use Rattle.scales.specs.Value.{digitsWorth, scaleValue, valueOf, taken, Ready}
 use Rattle.scales.proofs.Laws.{tens}
+use Rattle.scales.proofs.Meant.{value-meant}
 
 abbrev pub gathered : Amount → Bytes → Amount
 gathered a [] = a
@@ -22,8 +23,7 @@ gathered a (b ∷ s) = gathered (taken a b) s
 
 pub record Within (a : Amount) : Type 0 where
   pub amount : a .amount < 10 ^ (a .digits)
-  pub parts : a .parts ≤ 10 ^ (a .digits)
-  pub some : 0 < a .parts
+  pub behind : a .behind ≤ a .digits
   pub few : a .digits ≤ 15
 
 abbrev pub Goes : Amount → Bytes → Type 0
@@ -35,7 +35,7 @@ within a [] g = g
 within a (b ∷ s) g = g .0
 
 abbrev digitTaken : Amount → ℕ → Amount
-digitTaken a b = record { minus = a .minus; point = a .point; digits = a .digits + 1; amount = a .amount * 10 + (b - 48); parts = cond (a .point) (a .parts * 10) (a .parts) }
+digitTaken a b = record { minus = a .minus; point = a .point; digits = a .digits + 1; amount = a .amount * 10 + (b - 48); behind = cond (a .point) (a .behind + 1) (a .behind) }
 
 taken-digit : (a : Amount) (b : ℕ) → 48 ≤ b → taken a b ≡ digitTaken a b
 taken-digit a b h = rw (ne-eqb b 45 (λ e. omega (arith, h, e)), ne-eqb b 46 (λ e. omega (arith, h, e))) refl
@@ -43,8 +43,7 @@ taken-digit a b h = rw (ne-eqb b 45 (λ e. omega (arith, h, e)), ne-eqb b 46 (λ
 within-digit : (a : Amount) (b : ℕ) → Within a → 48 ≤ b → b ≤ 57 → a .digits < 15 → Within (digitTaken a b)
 within-digit a b w l h d = record {
   amount = grows (a .amount) (a .digits) b (w .amount) l h;
-  parts = times (a .point) (a .parts) (a .digits) (w .parts);
-  some = keeps (a .point) (a .parts) (w .some);
+  behind = up (a .point) (a .behind) (a .digits) (w .behind);
   few = omega (arith, d);
 }
   where
@@ -57,19 +56,9 @@ within-digit a b w l h d = record {
     grows : (m d b : ℕ) → m < 10 ^ d → 48 ≤ b → b ≤ 57 → m * 10 + (b - 48) < 10 ^ (d + 1)
     grows m d b k l h = rw (power d) (linear m (10 ^ d) b k l h)
 
-    ten : (p q : ℕ) → p ≤ q → p * 10 ≤ q * 10
-    ten p q h = omega (arith, h)
-
-    less : (p q : ℕ) → p ≤ q → p ≤ q * 10
-    less p q h = omega (arith, h)
-
-    times : (x : Bool) (p d : ℕ) → p ≤ 10 ^ d → cond x (p * 10) p ≤ 10 ^ (d + 1)
-    times true p d k = rw (power d) (ten p (10 ^ d) k)
-    times false p d k = rw (power d) (less p (10 ^ d) k)
-
-    keeps : (x : Bool) (p : ℕ) → 0 < p → 0 < cond x (p * 10) p
-    keeps true p k = omega (arith, k)
-    keeps false p k = k
+    up : (x : Bool) (k d : ℕ) → k ≤ d → cond x (k + 1) k ≤ d + 1
+    up true k d h = omega (arith, h)
+    up false k d h = omega (arith, h)
 
 -- what a run of digits makes
 record Run (a : Amount) (ds s : Bytes) : Type 0 where
@@ -80,11 +69,11 @@ record Run (a : Amount) (ds s : Bytes) : Type 0 where
   minus : last .minus ≡ a .minus
   point : last .point ≡ a .point
   digits : last .digits ≡ a .digits + length ds
-  amount : last .amount ≡ worth (a .amount) ds
-  parts : last .parts ≡ cond (a .point) (a .parts * 10 ^ length ds) (a .parts)
+  amount : last .amount ≡ digitsWorth (a .amount) ds
+  behind : last .behind ≡ cond (a .point) (a .behind + length ds) (a .behind)
 
 digit-run : (ds s : Bytes) (a : Amount) → Digits ds → Within a → a .digits + length ds ≤ 15 → Run a ds s
-unfolding worth
+unfolding digitsWorth
 digit-run [] s a g w f = record {
   last = a;
   ends = refl;
@@ -94,15 +83,12 @@ digit-run [] s a g w f = record {
   point = refl;
   digits = omega arith;
   amount = refl;
-  parts = same (a .point) (a .parts);
+  behind = same (a .point) (a .behind);
 }
   where
-    one : (p : ℕ) → p ≡ p * 1
-    one p = omega arith
-
-    same : (x : Bool) (p : ℕ) → p ≡ cond x (p * 10 ^ 0) p
-    same true p = one p
-    same false p = refl
+    same : (x : Bool) (k : ℕ) → k ≡ cond x (k + 0) k
+    same true k = omega arith
+    same false k = refl
 digit-run (b ∷ ds) s a g w f =
     let r = digit-run ds s (digitTaken a b) (g .2) (within-digit a b w (g .0) (g .1) (omega (arith, f))) (omega (arith, f)) in
     let e = taken-digit a b (g .0) in
@@ -115,37 +101,31 @@ digit-run (b ∷ ds) s a g w f =
       point = r .point;
       digits = let d = r .digits in omega (arith, d);
       amount = r .amount;
-      parts = r .parts ∙ onward (a .point) (a .parts) (length ds);
+      behind = r .behind ∙ onward (a .point) (a .behind) (length ds);
     }
   where
-    more : (p q : ℕ) → p * 10 * q ≡ p * (q * 10)
-    more p q = omega arith
-
-    onward : (x : Bool) (p n : ℕ) → cond x (cond x (p * 10) p * 10 ^ n) (cond x (p * 10) p) ≡ cond x (p * 10 ^ suc n) p
-    onward true p n = more p (10 ^ n) ∙ ap (λ (z : ℕ). p * z) (sym (pow-suc 10 n))
-    onward false p n = refl
+    onward : (x : Bool) (k n : ℕ) → cond x (cond x (k + 1) k + n) (cond x (k + 1) k) ≡ cond x (k + suc n) k
+    onward true k n = omega arith
+    onward false k n = refl
 
 -- the whole scale
 abbrev pub start : Amount
-start = record { minus = false; point = false; digits = 0; amount = 0; parts = 1 }
+start = record { minus = false; point = false; digits = 0; amount = 0; behind = 0 }
 
 pub record Ends (minus : Bool) (whole : Bytes) (part : Part) (a : Amount) (s : Bytes) : Type 0 where
   pub goes : Goes a s
-  pub value : round binary64 (gathered a s .minus) (gathered a s .amount) (gathered a s .parts) ≡ round binary64 minus (worth 0 (whole ++ fraction part)) (10 ^ length (fraction part))
+  pub value : round binary64 (gathered a s .minus) (gathered a s .amount) (10 ^ (gathered a s .behind)) ≡ round binary64 minus (digitsWorth 0 (whole ++ fraction part)) (10 ^ length (fraction part))
 
-worth-append : (m : ℕ) (s t : Bytes) → worth m (s ++ t) ≡ worth (worth m s) t
-unfolding worth
+worth-append : (m : ℕ) (s t : Bytes) → digitsWorth m (s ++ t) ≡ digitsWorth (digitsWorth m s) t
+unfolding digitsWorth
 worth-append m [] t = refl
 worth-append m (b ∷ s) t = worth-append (m * 10 + (b - 48)) s t
 
 abbrev begun : Bool → Amount
-begun m = record { minus = m; point = false; digits = 0; amount = 0; parts = 1 }
+begun m = record { minus = m; point = false; digits = 0; amount = 0; behind = 0 }
 
 within-begun : (m : Bool) → Within (begun m)
-within-begun m = record { amount = omega arith; parts = omega arith; some = omega arith; few = omega arith }
-
-pointTaken : Amount → Amount
-pointTaken a = record { minus = a .minus; point = true; digits = a .digits; amount = a .amount; parts = a .parts }
+within-begun m = record { amount = omega arith; behind = omega arith; few = omega arith }
 
 body : (m : Bool) (whole : Bytes) (part : Part) → Digits whole → Digits (fraction part) → length whole + length (fraction part) ≤ 15 → Ends m whole part (begun m) (whole ++ partText part)
 body m whole none g h few =
@@ -153,28 +133,28 @@ body m whole none g h few =
     record {
       goes = r .goes (r .within);
       value =
-          ap (λ (z : Amount). round binary64 (z .minus) (z .amount) (z .parts)) (r .ends)
-          ∙ ap (λ (z : Bool). round binary64 z (r .last .amount) (r .last .parts)) (r .minus)
-          ∙ ap (λ (z : ℕ). round binary64 m z (r .last .parts)) (r .amount ∙ ap (worth 0) (sym (append-nil whole)))
-          ∙ ap (λ (z : ℕ). round binary64 m (worth 0 (whole ++ [])) z) (r .parts);
+          ap (λ (z : Amount). round binary64 (z .minus) (z .amount) (10 ^ (z .behind))) (r .ends)
+          ∙ ap (λ (z : Bool). round binary64 z (r .last .amount) (10 ^ (r .last .behind))) (r .minus)
+          ∙ ap (λ (z : ℕ). round binary64 m z (10 ^ (r .last .behind))) (r .amount ∙ ap (digitsWorth 0) (sym (append-nil whole)))
+          ∙ ap (λ (z : ℕ). round binary64 m (digitsWorth 0 (whole ++ [])) (10 ^ z)) (r .behind);
     }
 body m whole (pointed ds) g h few =
     let r = digit-run whole (46 ∷ ds) (begun m) g (within-begun m) (omega (arith, few)) in
     let w = r .within in
     let d = r .digits in
-    let p : Amount = record { minus = r .last .minus; point = true; digits = r .last .digits; amount = r .last .amount; parts = r .last .parts } in
-    let q = digit-run ds [] p h (record { amount = w .amount; parts = w .parts; some = w .some; few = w .few }) (omega (arith, d, few)) in
+    let p : Amount = record { minus = r .last .minus; point = true; digits = r .last .digits; amount = r .last .amount; behind = r .last .behind } in
+    let q = digit-run ds [] p h (record { amount = w .amount; behind = w .behind; few = w .few }) (omega (arith, d, few)) in
     let ew : Bytes = ds ++ [] in
     record {
       goes = r .goes (w, (λ _ no46. absurd (no46 refl)), subst (Goes p) (append-nil ds) (q .goes (q .within)));
       value =
-          ap (λ (z : Amount). round binary64 (z .minus) (z .amount) (z .parts)) (r .ends ∙ ap (gathered p) (sym (append-nil ds)) ∙ q .ends)
-          ∙ ap (λ (z : Bool). round binary64 z (q .last .amount) (q .last .parts)) (q .minus ∙ r .minus)
-          ∙ ap (λ (z : ℕ). round binary64 m z (q .last .parts)) (q .amount ∙ ap (λ (z : ℕ). worth z ds) (r .amount) ∙ sym (worth-append 0 whole ds))
-          ∙ ap (λ (z : ℕ). round binary64 m (worth 0 (whole ++ ds)) z) (q .parts ∙ ap (λ (z : ℕ). z * 10 ^ length ds) (r .parts) ∙ once (10 ^ length ds));
+          ap (λ (z : Amount). round binary64 (z .minus) (z .amount) (10 ^ (z .behind))) (r .ends ∙ ap (gathered p) (sym (append-nil ds)) ∙ q .ends)
+          ∙ ap (λ (z : Bool). round binary64 z (q .last .amount) (10 ^ (q .last .behind))) (q .minus ∙ r .minus)
+          ∙ ap (λ (z : ℕ). round binary64 m z (10 ^ (q .last .behind))) (q .amount ∙ ap (λ (z : ℕ). digitsWorth z ds) (r .amount) ∙ sym (worth-append 0 whole ds))
+          ∙ ap (λ (z : ℕ). round binary64 m (digitsWorth 0 (whole ++ ds)) (10 ^ z)) (q .behind ∙ ap (λ (z : ℕ). z + length ds) (r .behind) ∙ once (length ds));
     }
   where
-    once : (x : ℕ) → 1 * x ≡ x
+    once : (x : ℕ) → 0 + x ≡ x
     once x = omega arith
 
 pub scale-ends : (text : Bytes) (h : Scale text) → Ends (h .minus) (h .whole) (h .part) start text
@@ -200,7 +180,7 @@ pub ready : (text : Bytes) (a : Amount) (i : ℕ) → Gathering text a i → i <
 ready text a i g h =
     let t = subst (Goes a) (here text i h) (g .goes) in
     let w = t .0 in
-    record { digit = t .1; amount = w .amount; parts = w .parts; few = w .few }
+    record { digit = t .1; amount = w .amount; behind = w .behind; few = w .few }
 
 pub again : (text : Bytes) (a r : Amount) (i : ℕ) → Gathering text a i → i < length text → r ≡ taken a (getD text i 0) → Gathering text r (i + 1)
 again text a r i g h e = record {
@@ -209,18 +189,17 @@ again text a r i g h e = record {
   same = ap (λ (z : Amount). gathered z (drop (i + 1) text)) e ∙ ap (gathered a) (sym (here text i h)) ∙ g .same;
 }
 
-pub bounded : (text : Bytes) (a : Amount) (i : ℕ) → Gathering text a i → (a .amount ≤ 1000000000000000) × (0 < a .parts) × (a .parts ≤ 1000000000000000)
+pub bounded : (text : Bytes) (a : Amount) (i : ℕ) → Gathering text a i → (a .amount ≤ 1000000000000000) × (a .behind ≤ 15)
 bounded text a i g =
     let w = within a (drop i text) (g .goes) in
-    let t = tens (a .digits) (w .few) in
-    (le-trans (lower (a .amount) (10 ^ (a .digits)) (w .amount)) t, w .some, le-trans (w .parts) t)
+    (le-trans (lower (a .amount) (10 ^ (a .digits)) (w .amount)) (tens (a .digits) (w .few)), le-trans (w .behind) (w .few))
   where
     lower : (x y : ℕ) → x < y → x ≤ y
     lower x y h = omega (arith, h)
 
-pub ends : (text : Bytes) (a : Amount) (i : ℕ) → Gathering text a i → length text ≤ i → (r : Float) → r ≡ round binary64 (a .minus) (a .amount) (a .parts) → (h : Scale text) → r ≡ scaleValue h
+pub ends : (text : Bytes) (a : Amount) (i : ℕ) → Gathering text a i → length text ≤ i → (r : Float) → r ≡ round binary64 (a .minus) (a .amount) (10 ^ (a .behind)) → Scale text → r ≡ valueOf text
 ends text a i g past r e h =
-    e ∙ ap (λ (z : Amount). round binary64 (z .minus) (z .amount) (z .parts)) (ap (gathered a) (sym (drop-of-length-le text {i = i} past)) ∙ g .same) ∙ scale-ends text h .value
+    e ∙ ap (λ (z : Amount). round binary64 (z .minus) (z .amount) (10 ^ (z .behind))) (ap (gathered a) (sym (drop-of-length-le text {i = i} past)) ∙ g .same) ∙ scale-ends text h .value ∙ sym (value-meant text h)
 
 -- what one byte asks
 pub amount-fits : (a : Amount) (b : ℕ) → Ready a b → a .amount ≤ 1000000000000000
@@ -229,9 +208,9 @@ amount-fits a b r = le-trans (lower (a .amount) (10 ^ (a .digits)) (r .amount)) 
     lower : (x y : ℕ) → x < y → x ≤ y
     lower x y h = omega (arith, h)
 
-pub parts-fits : (a : Amount) (b : ℕ) → Ready a b → a .parts ≤ 1000000000000000
-parts-fits a b r = le-trans (r .parts) (tens (a .digits) (r .few))
+pub behind-fits : (a : Amount) (b : ℕ) → Ready a b → a .behind ≤ 15
+behind-fits a b r = le-trans (r .behind) (r .few)
 
-pub one-byte : (a : Amount) (b w p : ℕ) → (b ≡ 45 → ⊥) → (b ≡ 46 → ⊥) → w ≡ b → p ≡ cond (a .point) (a .parts * 10) (a .parts)
-    → _≡_ {A = Amount} (record { minus = a .minus; point = a .point; digits = a .digits + 1; amount = a .amount * 10 + (w - 48); parts = p }) (taken a b)
-one-byte a b w p h k e f = rw (ne-eqb b 45 h, ne-eqb b 46 k, e, f) refl
+pub one-byte : (a : Amount) (b w k : ℕ) → (b ≡ 45 → ⊥) → (b ≡ 46 → ⊥) → w ≡ b → k ≡ cond (a .point) (a .behind + 1) (a .behind)
+    → _≡_ {A = Amount} (record { minus = a .minus; point = a .point; digits = a .digits + 1; amount = a .amount * 10 + (w - 48); behind = k }) (taken a b)
+one-byte a b w k h g e f = rw (ne-eqb b 45 h, ne-eqb b 46 g, e, f) refl

@@ -5,7 +5,7 @@ use Prim.Native.Nat.{ℕ}
 use lib.ListN.{length, replicate}
 use lib.Ieee.{Float, binary64, ofBits, ofInt, round}
 use Rattle.layout.specs.Layout.{Line, empty, word, escaped, scaleText, attributesText, lineText, moreLines, textOf, sequencesFrom, sequences}
-use Rattle.scales.specs.Value.{worth, digitsIn, behindPoint, valueOf}
+use Rattle.scales.specs.Value.{digitsWorth, digitsIn, behindPoint, valueOf}
 use Rattle.text_tables.specs.Distinct.{same, idIn, learnt, learntAll}
 use Rattle.text_tables.specs.Tables.{startsFrom, Tables, tables}
 use Rattle.text_tables.specs.Pieces.{piecesOf, afterEach}
@@ -56,7 +56,7 @@ t1-tables = record {
 }
 
 t1-read : tables (sequences t1) ≡ t1-tables
-unfolding tables sequencesFrom startsFrom flatten learntAll learnt idIn same valueOf worth digitsIn behindPoint round ofInt ofBits
+unfolding tables sequencesFrom startsFrom flatten learntAll learnt idIn same valueOf digitsWorth digitsIn behindPoint round ofInt ofBits
 t1-read = refl
 
 -- "Written: `A␉a:0.5␉b␊B␊␊A␉b:-0␊␊`"
@@ -94,7 +94,7 @@ t2-tables = record {
 }
 
 t2-read : tables (sequences t2) ≡ t2-tables
-unfolding tables sequencesFrom startsFrom flatten learntAll learnt idIn same valueOf worth digitsIn behindPoint round ofInt ofBits
+unfolding tables sequencesFrom startsFrom flatten learntAll learnt idIn same valueOf digitsWorth digitsIn behindPoint round ofInt ofBits
 t2-read = refl
 
 -- "Written: the same and two line feeds"

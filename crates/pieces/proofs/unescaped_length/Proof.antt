@@ -1,0 +1,79 @@
+-- `pieces::unescaped_length` meets its contract. Assumes nothing.
+use Prim.Native.Nat.{_-_}
+use native.Mathlib.Omega.{arith}
+use borrow.Author.Needs.{needs}
+use lib.Seq.{slice}
+use Rattle.pieces.specs.Unescaped.{unescaped}
+use Rattle.pieces.proofs.Bare.{Counting, counting-starts, counting-skip, counting-keep, counting-over}
+use Rattle.pieces.proofs.unescaped_length.Statement.{statement}
+use Rattle.pieces.proofs.unescaped_length.Tie as tie
+use Rattle.pieces.proofs.unescaped_length.Reads as reads
+use Rattle.pieces.proofs.unescaped_length.Lts as lts
+
+abbrev Inv-loop : tie.InvT-loop
+Inv-loop text from to i₀ count₀ slashed₀ i count slashed = Counting text to i count slashed (unescaped (slice from to text))
+
+abbrev μ-loop : tie.MeasureT-loop
+μ-loop text from to i₀ count₀ slashed₀ i count slashed = to - i
+
+-- src/lib.rt:135:5
+loop-holds : tie.Need-loop-holds Inv-loop μ-loop
+loop-holds c =
+    let s : tie.Start Inv-loop μ-loop = search in
+    counting-starts (s .pre)
+
+-- src/lib.rt:136:17
+shared-slice-read-b : tie.Need-shared-slice-read-b Inv-loop μ-loop
+shared-slice-read-b c = search needs
+
+-- src/lib.rt:137:9
+add-i : tie.Need-add-i Inv-loop μ-loop
+add-i c = search needs
+
+-- src/lib.rt:135:5
+loop-less : tie.Need-loop-less Inv-loop μ-loop
+loop-less c = omega arith
+
+-- src/lib.rt:135:5
+loop-again : tie.Need-loop-again Inv-loop μ-loop
+loop-again c =
+    let l : tie.At-loop Inv-loop μ-loop = search in
+    let t : tie.In-loop Inv-loop μ-loop = search in
+    counting-skip (l .loop .inv) (t .loop-test .taken) (c .if1 .taken)
+
+-- src/lib.rt:142:13
+add-count : tie.Need-add-count Inv-loop μ-loop
+add-count c = search needs
+
+-- src/lib.rt:135:5
+loop-less-2 : tie.Need-loop-less-2 Inv-loop μ-loop
+loop-less-2 c = omega arith
+
+-- src/lib.rt:135:5
+loop-again-2 : tie.Need-loop-again-2 Inv-loop μ-loop
+loop-again-2 c =
+    let l : tie.At-loop Inv-loop μ-loop = search in
+    let t : tie.In-loop Inv-loop μ-loop = search in
+    counting-keep (l .loop .inv) (t .loop-test .taken) (c .if1 .left)
+
+-- src/lib.rt:128:1
+returns : tie.Need-returns Inv-loop μ-loop
+returns c =
+    let l : tie.At-loop Inv-loop μ-loop = search in
+    counting-over (l .loop .inv) (c .loop-test .left)
+
+pub unescaped-length-spec : {M : Type 1} → statement M
+unescaped-length-spec =
+    tie.close
+    (tie.spec
+    Inv-loop
+    μ-loop
+    loop-holds
+    shared-slice-read-b
+    add-i
+    loop-less
+    loop-again
+    add-count
+    loop-less-2
+    loop-again-2
+    returns)

@@ -1,0 +1,6 @@
+-- To read in this order: the bytes that pieces make; where pieces stand, and what is ahead of a cursor; a pass over all of them; names
+-- unescaped.
+pub mod PieceText
+pub mod Standing
+pub mod Passing
+pub mod Unescaped
