@@ -7,7 +7,7 @@ ghost use lib.ListN.{length};
 ghost use lib.Seq.{slice};
 ghost use Rattle.layout.specs.Layout.{Bytes};
 ghost use Rattle.answer_line.specs.Line.{RoomFor, Put};
-ghost use Rattle.pieces.specs.Standing.{Named, SomeName, Fielded, SomeAhead, Finds, Follows, Starts};
+ghost use Rattle.pieces.specs.Standing.{endsName, endsField, Named, SomeName, Fielded, SomeAhead, Finds, Follows, Starts};
 ghost use Rattle.pieces.specs.Unescaped.{unescaped};
 
 // An empty line, a word's label, an attribute.
@@ -31,6 +31,20 @@ pub struct Span {
     pub to: usize,
 }
 
+// A bare byte that ends a name.
+fn ends_name(b: u8) -> bool
+    ensures { λ r. ⌜ r ≡ endsName b ⌝ }
+{
+    (b == 9) | (b == 10) | (b == 58)
+}
+
+// A byte that ends a field.
+fn ends_field(b: u8) -> bool
+    ensures { λ r. ⌜ r ≡ endsField b ⌝ }
+{
+    (b == 9) | (b == 10)
+}
+
 // Where the name that begins here ends.
 pub fn name_end(text: &[u8], at: usize) -> usize
     requires { ⌜ SomeName (now text) at ⌝ }
@@ -42,7 +56,7 @@ pub fn name_end(text: &[u8], at: usize) -> usize
         if b == 92 {
             i += 2;
         } else {
-            if (b == 9) | (b == 10) | (b == 58) {
+            if ends_name(b) {
                 return i;
             }
             i += 1;
@@ -58,7 +72,7 @@ fn scale_end(text: &[u8], at: usize) -> usize
     let mut i = at;
     while i < text.len() {
         let b = text[i];
-        if (b == 9) | (b == 10) {
+        if ends_field(b) {
             return i;
         }
         i += 1;
