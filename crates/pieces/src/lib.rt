@@ -7,8 +7,9 @@ ghost use lib.ListN.{length};
 ghost use lib.Seq.{slice};
 ghost use Rattle.layout.specs.Layout.{Bytes};
 ghost use Rattle.answer_line.specs.Line.{RoomFor, Put};
+ghost use Rattle.pieces.specs.PieceText.{lineKind};
 ghost use Rattle.pieces.specs.Standing.{endsName, endsField, Named, SomeName, Fielded, SomeAhead, Finds, Follows, Starts};
-ghost use Rattle.pieces.specs.Unescaped.{unescaped};
+ghost use Rattle.pieces.specs.Unescaped.{isSkipped, unescaped};
 
 // An empty line, a word's label, an attribute.
 pub enum Kind {
@@ -90,6 +91,13 @@ pub fn start(text: &[u8]) -> Cursor
     }
 }
 
+// What a line begins with: nothing, or a label.
+fn line_kind(empty: bool) -> Kind
+    ensures { λ r. ⌜ r ≡ lineKind empty ⌝ }
+{
+    if empty { Kind::Blank } else { Kind::Label }
+}
+
 // The piece at the cursor.
 pub fn piece_at(text: &[u8], cursor: Cursor) -> Span
     requires { ⌜ SomeAhead (now text) cursor ⌝ }
@@ -105,16 +113,8 @@ pub fn piece_at(text: &[u8], cursor: Cursor) -> Span
             to: scale_end(text, split),
         };
     }
-    if split == at {
-        return Span {
-            kind: Kind::Blank,
-            from: at,
-            split: split,
-            to: split,
-        };
-    }
     Span {
-        kind: Kind::Label,
+        kind: line_kind(split == at),
         from: at,
         split: split,
         to: split,
@@ -126,16 +126,25 @@ pub fn after(text: &[u8], to: usize) -> Cursor
     requires { ⌜ to ≤ 4294967295 ⌝ }
     ensures { λ r. ⌜ Follows (now (text .entry)) to r ⌝ }
 {
+    let at = to + 1;
     if to < text.len() {
+        let b = text[to];
         return Cursor {
-            at: to + 1,
-            field: text[to] == 9,
+            at: at,
+            field: b == 9,
         };
     }
     Cursor {
-        at: to + 1,
+        at: at,
         field: false,
     }
+}
+
+// Whether a byte of an escaped name goes: a backslash that stands behind none.
+fn skips(b: u8, slashed: bool) -> bool
+    ensures { λ r. ⌜ r ≡ isSkipped slashed b ⌝ }
+{
+    (b == 92) & !slashed
 }
 
 // How many bytes the name between two places has without its backslashes.
@@ -149,7 +158,7 @@ pub fn unescaped_length(text: &[u8], from: usize, to: usize) -> usize
     while i < to {
         let b = text[i];
         i += 1;
-        if (b == 92) & !slashed {
+        if skips(b, slashed) {
             slashed = true;
         } else {
             slashed = false;
@@ -171,7 +180,7 @@ pub fn unescape(text: &[u8], from: usize, to: usize, out: &mut [u8], at: usize) 
     while i < to {
         let b = text[i];
         i += 1;
-        if (b == 92) & !slashed {
+        if skips(b, slashed) {
             slashed = true;
         } else {
             slashed = false;

@@ -1,4 +1,5 @@
 -- `pieces::unescape` meets its contract. Assumes nothing.
+use mathlib.Core.Path.{sym, _∙_}
 use Prim.Native.Nat.{_-_}
 use native.Mathlib.Omega.{arith}
 use borrow.Author.Needs.{needs}
@@ -25,6 +26,9 @@ shared-slice-read-b c = search needs
 add-i : tie.Need-add-i Inv-loop μ-loop
 add-i c = search needs
 
+skips-requires : tie.Need-skips-requires Inv-loop μ-loop
+skips-requires c κs = search needs
+
 loop-less : tie.Need-loop-less Inv-loop μ-loop
 loop-less c = omega arith
 
@@ -32,19 +36,26 @@ loop-again : tie.Need-loop-again Inv-loop μ-loop
 loop-again c =
     let l : tie.At-loop Inv-loop μ-loop = search in
     let t : tie.In-loop Inv-loop μ-loop = search in
-    writing-skip (l .loop .inv) (t .loop-test .taken) (c .if1 .taken)
+    let k : tie.After-skips Inv-loop μ-loop = search in
+    writing-skip (l .loop .inv) (t .loop-test .taken) (sym (k .skips .ensures) ∙ c .if1 .taken)
 
 slice-write-out : tie.Need-slice-write-out Inv-loop μ-loop
 slice-write-out c =
     let l : tie.At-loop Inv-loop μ-loop = search in
     let t : tie.In-loop Inv-loop μ-loop = search in
-    writing-room (l .loop .inv) (t .loop-test .taken) (c .if1 .left)
+    let k : tie.After-skips Inv-loop μ-loop = search in
+    let e : tie.Else1 Inv-loop μ-loop = search in
+    writing-room (l .loop .inv) (t .loop-test .taken) (sym (k .skips .ensures) ∙ e .if1 .left)
 
 add-k : tie.Need-add-k Inv-loop μ-loop
 add-k c =
+    let s : tie.Start Inv-loop μ-loop = search in
     let l : tie.At-loop Inv-loop μ-loop = search in
     let t : tie.In-loop Inv-loop μ-loop = search in
-    omega (arith, writing-room (l .loop .inv) (t .loop-test .taken) (c .if1 .left))
+    let k : tie.After-skips Inv-loop μ-loop = search in
+    let e : tie.Else1 Inv-loop μ-loop = search in
+    let r = writing-room (l .loop .inv) (t .loop-test .taken) (sym (k .skips .ensures) ∙ e .if1 .left) in
+    omega (arith, r, l .loop .inv .long, s .good .1 .1 .1 .0 .0)
 
 loop-less-2 : tie.Need-loop-less-2 Inv-loop μ-loop
 loop-less-2 c = omega arith
@@ -53,7 +64,9 @@ loop-again-2 : tie.Need-loop-again-2 Inv-loop μ-loop
 loop-again-2 c =
     let l : tie.At-loop Inv-loop μ-loop = search in
     let t : tie.In-loop Inv-loop μ-loop = search in
-    writing-keep (l .loop .inv) (t .loop-test .taken) (c .if1 .left)
+    let k : tie.After-skips Inv-loop μ-loop = search in
+    let e : tie.Else1 Inv-loop μ-loop = search in
+    writing-keep (l .loop .inv) (t .loop-test .taken) (sym (k .skips .ensures) ∙ e .if1 .left)
 
 same-length : tie.Need-same-length Inv-loop μ-loop
 same-length c =
@@ -74,6 +87,7 @@ unescape-spec =
     loop-holds
     shared-slice-read-b
     add-i
+    skips-requires
     loop-less
     loop-again
     slice-write-out

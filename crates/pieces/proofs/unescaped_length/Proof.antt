@@ -1,4 +1,5 @@
 -- `pieces::unescaped_length` meets its contract. Assumes nothing.
+use mathlib.Core.Path.{sym, _∙_}
 use Prim.Native.Nat.{_-_}
 use native.Mathlib.Omega.{arith}
 use borrow.Author.Needs.{needs}
@@ -25,6 +26,9 @@ shared-slice-read-b c = search needs
 add-i : tie.Need-add-i Inv-loop μ-loop
 add-i c = search needs
 
+skips-requires : tie.Need-skips-requires Inv-loop μ-loop
+skips-requires c κs = search needs
+
 loop-less : tie.Need-loop-less Inv-loop μ-loop
 loop-less c = omega arith
 
@@ -32,7 +36,8 @@ loop-again : tie.Need-loop-again Inv-loop μ-loop
 loop-again c =
     let l : tie.At-loop Inv-loop μ-loop = search in
     let t : tie.In-loop Inv-loop μ-loop = search in
-    counting-skip (l .loop .inv) (t .loop-test .taken) (c .if1 .taken)
+    let k : tie.After-skips Inv-loop μ-loop = search in
+    counting-skip (l .loop .inv) (t .loop-test .taken) (sym (k .skips .ensures) ∙ c .if1 .taken)
 
 add-count : tie.Need-add-count Inv-loop μ-loop
 add-count c = search needs
@@ -44,7 +49,9 @@ loop-again-2 : tie.Need-loop-again-2 Inv-loop μ-loop
 loop-again-2 c =
     let l : tie.At-loop Inv-loop μ-loop = search in
     let t : tie.In-loop Inv-loop μ-loop = search in
-    counting-keep (l .loop .inv) (t .loop-test .taken) (c .if1 .left)
+    let k : tie.After-skips Inv-loop μ-loop = search in
+    let e : tie.Else1 Inv-loop μ-loop = search in
+    counting-keep (l .loop .inv) (t .loop-test .taken) (sym (k .skips .ensures) ∙ e .if1 .left)
 
 returns : tie.Need-returns Inv-loop μ-loop
 returns c =
@@ -60,6 +67,7 @@ unescaped-length-spec =
     loop-holds
     shared-slice-read-b
     add-i
+    skips-requires
     loop-less
     loop-again
     add-count
