@@ -13,7 +13,7 @@ use Rattle.pieces.specs.declared.Kind.the-variants.{Attribute}
 use Rattle.pieces.specs.declared.Cursor.{Cursor}
 use Rattle.pieces.specs.declared.Span.{Span}
 use Rattle.pieces.specs.PieceText.{lineKind}
-use Rattle.pieces.specs.Standing.{Named, SomeName, Fielded, Ahead, SomeAhead, Met, Finds}
+use Rattle.pieces.specs.Standing.{Named, SomeName, Fielded, PiecesAhead, SomePieceAhead, PieceMet, Finds}
 use Rattle.pieces.proofs.Names.{escaped-nil, escaped-some}
 use Rattle.pieces.proofs.Walk.{ahead-named, ahead-fielded, met}
 
@@ -21,7 +21,7 @@ use Rattle.pieces.proofs.Walk.{ahead-named, ahead-fielded, met}
 abbrev pub Split : Bytes → Cursor → ℕ → Type 0
 Split text c split = (to : ℕ) (name : Bytes) → Named text (c .at) to name → split ≡ to
 
-pub name-ahead : {text : Bytes} {c : Cursor} → SomeAhead text c → SomeName text (c .at)
+pub name-ahead : {text : Bytes} {c : Cursor} → SomePieceAhead text c → SomeName text (c .at)
 name-ahead a = (_, _, ahead-named (a .2))
 
 bare : length (scaleText []) ≡ 0
@@ -32,7 +32,7 @@ pub found-attribute : {text : Bytes} (c : Cursor) (s : Span) → c .field ≡ tr
     → ((to : ℕ) → Fielded text (s .split) to → s .to ≡ to) → Finds text c s
 found-attribute {text} c s f k e split to = record { met = go }
   where
-    go : (p : Piece) (rest : List Piece) → Ahead text c (p ∷ rest) → Met text c s p rest
+    go : (p : Piece) (rest : List Piece) → PiecesAhead text c (p ∷ rest) → PieceMet text c s p rest
     go blank rest a = absurd (true≢false (sym f ∙ a .field))
     go (label n) rest a = absurd (true≢false (sym f ∙ a .field))
     go (attribute b) rest a = met s a k e (split _ _ (ahead-named a)) (to _ (ahead-fielded a (split _ _ (ahead-named a))))
@@ -41,7 +41,7 @@ pub found-line : {text : Bytes} (c : Cursor) (s : Span) → c .field ≡ false �
     → Finds text c s
 found-line {text} c s f k e split to = record { met = go }
   where
-    go : (p : Piece) (rest : List Piece) → Ahead text c (p ∷ rest) → Met text c s p rest
+    go : (p : Piece) (rest : List Piece) → PiecesAhead text c (p ∷ rest) → PieceMet text c s p rest
     go blank rest a =
         let h : s .split ≡ c .at = split _ _ (ahead-named a) ∙ omega (arith, ap length escaped-nil) in
         met s a (k ∙ ap lineKind (eq-eqb (s .split) (c .at) h)) e (split _ _ (ahead-named a)) (omega (arith, to, bare))

@@ -8,7 +8,7 @@ ghost use lib.Seq.{slice};
 ghost use Rattle.layout.specs.Layout.{Bytes};
 ghost use Rattle.answer_line.specs.Line.{RoomFor, Put};
 ghost use Rattle.pieces.specs.PieceText.{lineKind};
-ghost use Rattle.pieces.specs.Standing.{endsName, endsField, Named, SomeName, Fielded, SomeAhead, Finds, Follows, Starts};
+ghost use Rattle.pieces.specs.Standing.{endsName, endsField, Named, SomeName, Fielded, SomePieceAhead, Finds, Follows, AtStart};
 ghost use Rattle.pieces.specs.Unescaped.{isSkipped, unescaped};
 
 // An empty line, a word's label, an attribute.
@@ -83,7 +83,7 @@ fn scale_end(text: &[u8], at: usize) -> usize
 
 // The cursor at the start of a text.
 pub fn start(text: &[u8]) -> Cursor
-    ensures { λ r. ⌜ Starts (now (text .entry)) r ⌝ }
+    ensures { λ r. ⌜ AtStart (now (text .entry)) r ⌝ }
 {
     Cursor {
         at: 0,
@@ -100,7 +100,7 @@ fn line_kind(empty: bool) -> Kind
 
 // The piece at the cursor.
 pub fn piece_at(text: &[u8], cursor: Cursor) -> Span
-    requires { ⌜ SomeAhead (now text) cursor ⌝ }
+    requires { ⌜ SomePieceAhead (now text) cursor ⌝ }
     ensures { λ r. ⌜ Finds (now (text .entry)) cursor r ⌝ }
 {
     let at = cursor.at;
