@@ -46,7 +46,7 @@ fn ends_field(b: u8) -> bool
     (b == 9) | (b == 10)
 }
 
-// Where the name that begins here ends.
+// Where the name that begins here ends: at a bare tab, line feed or colon, or at the end of the text.
 pub fn name_end(text: &[u8], at: usize) -> usize
     requires { ⌜ SomeName (now text) at ⌝ }
     ensures { λ r. ⌜ ((to : ℕ) (name : Bytes) → Named (now (text .entry)) at to name → r ≡ to) ⌝ }
@@ -66,7 +66,7 @@ pub fn name_end(text: &[u8], at: usize) -> usize
     i
 }
 
-// Where the field that goes on here ends.
+// Where the field that goes on here ends: at a tab, a line feed or the end of the text.
 fn scale_end(text: &[u8], at: usize) -> usize
     ensures { λ r. ⌜ ((to : ℕ) → Fielded (now (text .entry)) at to → r ≡ to) ⌝ }
 {
@@ -121,7 +121,7 @@ pub fn piece_at(text: &[u8], cursor: Cursor) -> Span
     }
 }
 
-// The cursor behind a piece that ends here.
+// The cursor behind a piece that ends here. A text that is read has at most 4,294,967,295 bytes, so one place more always fits.
 pub fn after(text: &[u8], to: usize) -> Cursor
     requires { ⌜ to ≤ 4294967295 ⌝ }
     ensures { λ r. ⌜ Follows (now (text .entry)) to r ⌝ }
