@@ -12,22 +12,18 @@ use lib.Seq.{slice, slice-cons, slice-empty}
 use Rattle.layout.specs.Layout.{Bytes, escaped}
 use Rattle.answer_line.specs.Line.{stored, RoomFor, Put}
 use Rattle.pieces.specs.Standing.{Named}
-use Rattle.pieces.specs.Unescaped.{unescapedFrom, unescaped, UnescapesBack}
+use Rattle.pieces.specs.Unescaped.{isSkipped, unescapedFrom, unescaped, UnescapesBack}
 use Rattle.pieces.proofs.Names.{escaped-special, escaped-plain, either}
 
 -- ---- one byte
 
--- the flag behind a byte
-abbrev pub flag : Bool → ℕ → Bool
-flag slashed b = eqb b 92 && not slashed
-
 bare-nil : (x : Bool) → unescapedFrom x [] ≡ []
 bare-nil x = unfold unescapedFrom in refl
 
-bare-skip : (x : Bool) (b : ℕ) (t : Bytes) → flag x b ≡ true → unescapedFrom x (b ∷ t) ≡ unescapedFrom true t
+bare-skip : (x : Bool) (b : ℕ) (t : Bytes) → isSkipped x b ≡ true → unescapedFrom x (b ∷ t) ≡ unescapedFrom true t
 bare-skip x b t h = unfold unescapedFrom in (rw h refl)
 
-bare-keep : (x : Bool) (b : ℕ) (t : Bytes) → flag x b ≡ false → unescapedFrom x (b ∷ t) ≡ b ∷ unescapedFrom false t
+bare-keep : (x : Bool) (b : ℕ) (t : Bytes) → isSkipped x b ≡ false → unescapedFrom x (b ∷ t) ≡ b ∷ unescapedFrom false t
 bare-keep x b t h = unfold unescapedFrom in (rw h refl)
 
 pub unescapes-back : UnescapesBack
@@ -64,10 +60,10 @@ next text i to h k = slice-cons i to text 0 h k ∙ ap (λ (j : ℕ). getD text 
 abbrev pub rest : Bytes → Bool → ℕ → ℕ → Bytes
 rest text x i to = unescapedFrom x (slice i to text)
 
-rest-skip : (text : Bytes) (x : Bool) (i to : ℕ) → i < to → to ≤ length text → flag x (getD text i 0) ≡ true → rest text x i to ≡ rest text true (i + 1) to
+rest-skip : (text : Bytes) (x : Bool) (i to : ℕ) → i < to → to ≤ length text → isSkipped x (getD text i 0) ≡ true → rest text x i to ≡ rest text true (i + 1) to
 rest-skip text x i to h k f = ap (unescapedFrom x) (next text i to h k) ∙ bare-skip x (getD text i 0) (slice (i + 1) to text) f
 
-rest-keep : (text : Bytes) (x : Bool) (i to : ℕ) → i < to → to ≤ length text → flag x (getD text i 0) ≡ false → rest text x i to ≡ getD text i 0 ∷ rest text false (i + 1) to
+rest-keep : (text : Bytes) (x : Bool) (i to : ℕ) → i < to → to ≤ length text → isSkipped x (getD text i 0) ≡ false → rest text x i to ≡ getD text i 0 ∷ rest text false (i + 1) to
 rest-keep text x i to h k f = ap (unescapedFrom x) (next text i to h k) ∙ bare-keep x (getD text i 0) (slice (i + 1) to text) f
 
 rest-none : (text : Bytes) (x : Bool) (i to : ℕ) → i ≤ to → to ≤ i → rest text x i to ≡ []
@@ -83,7 +79,7 @@ pub record Counting (text : Bytes) (to i count : ℕ) (x : Bool) (all : Bytes) :
 pub counting-starts : {text : Bytes} {from to : ℕ} → (from ≤ to) × (to ≤ length text) → Counting text to from 0 false (unescaped (slice from to text))
 counting-starts h = record { inside = h .0; whole = h .1; few = omega arith; same = omega arith }
 
-pub counting-skip : {text : Bytes} {to i count : ℕ} {x : Bool} {all : Bytes} → Counting text to i count x all → i < to → flag x (getD text i 0) ≡ true → Counting text to (i + 1) count true all
+pub counting-skip : {text : Bytes} {to i count : ℕ} {x : Bool} {all : Bytes} → Counting text to i count x all → i < to → isSkipped x (getD text i 0) ≡ true → Counting text to (i + 1) count true all
 counting-skip {text} {to} {i} {count} {x} g h f = record {
   inside = omega (arith, h);
   whole = g .whole;
@@ -91,7 +87,7 @@ counting-skip {text} {to} {i} {count} {x} g h f = record {
   same = ap (λ (t : Bytes). count + length t) (sym (rest-skip text x i to h (g .whole) f)) ∙ g .same;
 }
 
-pub counting-keep : {text : Bytes} {to i count : ℕ} {x : Bool} {all : Bytes} → Counting text to i count x all → i < to → flag x (getD text i 0) ≡ false → Counting text to (i + 1) (count + 1) false all
+pub counting-keep : {text : Bytes} {to i count : ℕ} {x : Bool} {all : Bytes} → Counting text to i count x all → i < to → isSkipped x (getD text i 0) ≡ false → Counting text to (i + 1) (count + 1) false all
 counting-keep {text} {to} {i} {count} {x} g h f =
     let l = ap length (rest-keep text x i to h (g .whole) f) in
     record { inside = omega (arith, h); whole = g .whole; few = omega (arith, g .few); same = omega (arith, l, g .same) }
@@ -103,7 +99,7 @@ counting-over {text} {to} {i} {count} {x} g h = let l = ap length (rest-none tex
 pub bare-shorter : (x : Bool) (t : Bytes) → length (unescapedFrom x t) ≤ length t
 bare-shorter x [] = omega (arith, ap length (bare-nil x))
 bare-shorter x (b ∷ t) =
-    either (flag x b)
+    either (isSkipped x b)
     (λ f. omega (arith, ap length (bare-skip x b t f), bare-shorter true t))
     (λ f. omega (arith, ap length (bare-keep x b t f), bare-shorter false t))
 
@@ -120,7 +116,7 @@ pub writing-starts : {text : Bytes} {from to at : ℕ} {out : Bytes} → (from �
     → Writing text to from false at at out out (unescaped (slice from to text))
 writing-starts h r = record { inside = h .0; whole = h .1; long = refl; room = r .room; place = refl; same = refl }
 
-pub writing-skip : {text : Bytes} {to i : ℕ} {x : Bool} {k at : ℕ} {out before all : Bytes} → Writing text to i x k at out before all → i < to → flag x (getD text i 0) ≡ true
+pub writing-skip : {text : Bytes} {to i : ℕ} {x : Bool} {k at : ℕ} {out before all : Bytes} → Writing text to i x k at out before all → i < to → isSkipped x (getD text i 0) ≡ true
     → Writing text to (i + 1) true k at out before all
 writing-skip {text} {to} {i} {x} {k} {at} {out} g h f =
     let e = sym (rest-skip text x i to h (g .whole) f) in
@@ -134,10 +130,10 @@ writing-skip {text} {to} {i} {x} {k} {at} {out} g h f =
     }
 
 -- where a byte is left to write there is room for it
-pub writing-room : {text : Bytes} {to i : ℕ} {x : Bool} {k at : ℕ} {out before all : Bytes} → Writing text to i x k at out before all → i < to → flag x (getD text i 0) ≡ false → k < length out
+pub writing-room : {text : Bytes} {to i : ℕ} {x : Bool} {k at : ℕ} {out before all : Bytes} → Writing text to i x k at out before all → i < to → isSkipped x (getD text i 0) ≡ false → k < length out
 writing-room {text} {to} {i} {x} g h f = let l = ap length (rest-keep text x i to h (g .whole) f) in omega (arith, l, g .place, g .room, g .long)
 
-pub writing-keep : {text : Bytes} {to i : ℕ} {x : Bool} {k at : ℕ} {out before all : Bytes} → Writing text to i x k at out before all → i < to → flag x (getD text i 0) ≡ false
+pub writing-keep : {text : Bytes} {to i : ℕ} {x : Bool} {k at : ℕ} {out before all : Bytes} → Writing text to i x k at out before all → i < to → isSkipped x (getD text i 0) ≡ false
     → Writing text to (i + 1) false (k + 1) at (set out k (getD text i 0)) before all
 writing-keep {text} {to} {i} {x} {k} {at} {out} g h f =
     let e = rest-keep text x i to h (g .whole) f in

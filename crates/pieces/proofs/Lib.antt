@@ -1,8 +1,8 @@
 pub mod Parts
 mod Names
 mod Fields
-mod Made
-mod Walk
+pub mod Made
+pub mod Walk
 mod Found
 pub mod Bare
 pub mod Spans

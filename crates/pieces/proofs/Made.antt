@@ -5,7 +5,7 @@ use mathlib.Core.List.{List, [], _∷_, _++_, map, append-nil, append-assoc}
 use Rattle.layout.specs.Layout.{Bytes, TextAttribute, Word, Line, empty, word, escaped, scaleText, attributesText, lineText, moreLines, textOf, SoundAttributes, SoundTextLine, EachSound, SoundText}
 use Rattle.text_tables.specs.Pieces.{Piece, blank, label, attribute, linePieces, piecesOf}
 use Rattle.pieces.specs.PieceText.{pieceText, parting, moreText, piecesText, SoundPieces, SameText}
-use Rattle.pieces.specs.Standing.{none, fieldFirst}
+use Rattle.pieces.specs.Standing.{noneLeft, fieldFirst}
 
 more-cons : (p : Piece) (rest : List Piece) → moreText (p ∷ rest) ≡ parting p ∷ (pieceText p ++ moreText rest)
 unfolding moreText
@@ -84,7 +84,7 @@ sound-pieces [] g = tt
 sound-pieces (l ∷ ls) g = sound-append (linePieces l) (piecesOf ls) (sound-line l (g .0)) (sound-pieces ls (g .1))
 
 -- the first piece of sound lines begins a line
-pub some-first : (ls : List Line) → SoundText ls → none (piecesOf ls) ≡ false
+pub some-first : (ls : List Line) → SoundText ls → noneLeft (piecesOf ls) ≡ false
 unfolding piecesOf
 some-first [] s = absurd s
 some-first (empty ∷ ls) s = refl

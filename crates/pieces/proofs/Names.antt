@@ -110,7 +110,7 @@ escaped-some b n =
 -- ---- the loop
 
 -- a name goes on at i, and this is left of the text behind it
-record Ahead (text : Bytes) (i : ℕ) (name rest : Bytes) : Type 0 where
+record NameLeft (text : Bytes) (i : ℕ) (name rest : Bytes) : Type 0 where
   clean : Clean name
   bytes : drop i text ≡ escaped name ++ rest
   ends : nameEnds rest ≡ true
@@ -118,7 +118,7 @@ record Ahead (text : Bytes) (i : ℕ) (name rest : Bytes) : Type 0 where
 -- a name that began at `at` and ends at `to` goes on at i
 pub record Going (text : Bytes) (i to : ℕ) : Type 0 where
   more : Bytes
-  left : Ahead text i more (drop to text)
+  left : NameLeft text i more (drop to text)
   same : i + length (escaped more) ≡ to
 
 abbrev pub Walked : Bytes → ℕ → ℕ → Type 0

@@ -3,44 +3,49 @@ use mathlib.Core.Path.{_≡_, refl, sym, ap, subst, _∙_}
 use mathlib.Core.Bool.{Bool, true, false, true≢false, false≢true}
 use mathlib.Core.List.{List, [], _∷_}
 use Prim.Native.Nat.{ℕ, _+_, _≤_, _<_}
+use native.Mathlib.Omega.{arith}
 use lib.ListN.{length}
 use borrow.Author.Tests.{lt-ltb, le-ltb}
 use Rattle.layout.specs.Layout.{Bytes, WellFormed}
 use Rattle.text_tables.specs.Pieces.{Piece, piecesOf, afterEach}
 use Rattle.pieces.specs.declared.Cursor.{Cursor}
 use Rattle.pieces.specs.declared.Span.{Span}
-use Rattle.pieces.specs.Standing.{Stands, none, Ahead, SomeAhead, Met, Finds, Follows, Starts}
+use Rattle.pieces.specs.Standing.{Stands, noneLeft, PiecesAhead, SomePieceAhead, PieceMet, Finds, Follows, AtStart}
 use Rattle.pieces.specs.Passing.{Passing, Passed}
 
 -- pieces are ahead exactly while the cursor stands within the text
-pub some-ahead : {text : Bytes} {c : Cursor} {rest : List Piece} → Ahead text c rest → c .at ≤ length text → (p : Piece) × (more : List Piece) × (rest ≡ p ∷ more)
+pub some-ahead : {text : Bytes} {c : Cursor} {rest : List Piece} → PiecesAhead text c rest → c .at ≤ length text → (p : Piece) × (more : List Piece) × (rest ≡ p ∷ more)
 some-ahead {text} {c} {rest} a h = go rest (sym (le-ltb (length text) (c .at) h) ∙ a .over)
   where
-    go : (rest : List Piece) → false ≡ none rest → (p : Piece) × (more : List Piece) × (rest ≡ p ∷ more)
+    go : (rest : List Piece) → false ≡ noneLeft rest → (p : Piece) × (more : List Piece) × (rest ≡ p ∷ more)
     go [] e = absurd (false≢true e)
     go (p ∷ more) e = (p, more, refl)
 
-pub none-ahead : {text : Bytes} {c : Cursor} {rest : List Piece} → Ahead text c rest → length text < c .at → rest ≡ []
+pub none-ahead : {text : Bytes} {c : Cursor} {rest : List Piece} → PiecesAhead text c rest → length text < c .at → rest ≡ []
 none-ahead {text} {c} {rest} a h = go rest (sym (lt-ltb (length text) (c .at) h) ∙ a .over)
   where
-    go : (rest : List Piece) → true ≡ none rest → rest ≡ []
+    go : (rest : List Piece) → true ≡ noneLeft rest → rest ≡ []
     go [] e = refl
     go (p ∷ more) e = absurd (true≢false e)
 
+-- the next cursor stands further on
+pub further-on : {text : Bytes} {c next : Cursor} {span : Span} {p : Piece} {rest : List Piece} → PieceMet text c span p rest → Follows text (span .to) next → c .at < next .at
+further-on m f = omega (arith, m .from, m .stands .name .low, m .stands .low, f .on)
+
 module _ {S : Type 0} {step : S → Piece → S} {begin : S} {text : Bytes} where
-  pub passed-starts : {c : Cursor} → Starts text c → Passed step begin text c begin
+  pub passed-starts : {c : Cursor} → AtStart text c → Passed step begin text c begin
   passed-starts s h = record { rest = piecesOf (h .lines); ahead = s .ahead h; same = refl }
 
   -- what `piece_at` requires
-  pub passed-some : {c : Cursor} {state : S} → Passed step begin text c state → WellFormed text → c .at ≤ length text → SomeAhead text c
+  pub passed-some : {c : Cursor} {state : S} → Passed step begin text c state → WellFormed text → c .at ≤ length text → SomePieceAhead text c
   passed-some w h k =
       let a = w h in
       let s = some-ahead (a .ahead) k in
-      (s .0, s .1, subst (Ahead text _) (s .2) (a .ahead))
+      (s .0, s .1, subst (PiecesAhead text _) (s .2) (a .ahead))
 
   -- the piece that was found, for what further calls require
   pub passed-met : {c : Cursor} {state : S} {span : Span} → Passed step begin text c state → WellFormed text → c .at ≤ length text → Finds text c span
-      → (p : Piece) × (rest : List Piece) × Met text c span p rest
+      → (p : Piece) × (rest : List Piece) × PieceMet text c span p rest
   passed-met w h k f = let s = passed-some w h k in (s .0, s .1, f .met (s .0) (s .1) (s .2))
 
   -- one piece more, whichever it is
@@ -49,7 +54,7 @@ module _ {S : Type 0} {step : S → Piece → S} {begin : S} {text : Bytes} wher
   passed-on {c} {next} {state} {later} {span} w k f n one h =
       let a = w h in
       let s = some-ahead (a .ahead) k in
-      let m = f .met (s .0) (s .1) (subst (Ahead text c) (s .2) (a .ahead)) in
+      let m = f .met (s .0) (s .1) (subst (PiecesAhead text c) (s .2) (a .ahead)) in
       record {
         rest = s .1;
         ahead = n .ahead (s .1) (m .behind);

@@ -15,7 +15,7 @@ use Rattle.pieces.specs.declared.Kind.the-variants.{Blank, Label, Attrib
 use Rattle.pieces.specs.declared.Cursor.{Cursor}
 use Rattle.pieces.specs.declared.Span.{Span}
 use Rattle.pieces.specs.PieceText.{kindOf, nameIn, keptIn, isField, pieceText, parting, moreText, piecesText, SoundPiece, SoundPieces}
-use Rattle.pieces.specs.Standing.{nameEnds, fieldEnds, Named, SomeName, Fielded, Stands, Behind, none, Ahead, SomeAhead, Met, Finds, Follows, Starts}
+use Rattle.pieces.specs.Standing.{nameEnds, fieldEnds, Named, SomeName, Fielded, Stands, Behind, noneLeft, PiecesAhead, SomePieceAhead, PieceMet, Finds, Follows, AtStart}
 use Rattle.pieces.proofs.Parts.{here, part-of, drop-past, fits}
 use Rattle.pieces.proofs.Names.{first, further}
 use Rattle.pieces.proofs.Made.{same-text, sound-pieces, some-first, line-first}
@@ -81,30 +81,34 @@ ends-name (b ∷ s) rest = refl
 
 -- ---- the piece ahead
 
-split-text : {text : Bytes} {c : Cursor} {p : Piece} {rest : List Piece} → Ahead text c (p ∷ rest) → drop (c .at) text ≡ escaped (nameIn p) ++ (scaleText (keptIn p) ++ moreText rest)
+split-text : {text : Bytes} {c : Cursor} {p : Piece} {rest : List Piece} → PiecesAhead text c (p ∷ rest) → drop (c .at) text ≡ escaped (nameIn p) ++ (scaleText (keptIn p) ++ moreText rest)
 split-text {text} {c} {p} {rest} a = a .bytes ∙ made ∙ append-assoc (escaped (nameIn p)) (scaleText (keptIn p)) (moreText rest)
   where
     made : piecesText (p ∷ rest) ≡ (escaped (nameIn p) ++ scaleText (keptIn p)) ++ moreText rest
     made = unfold piecesText in refl
 
 -- where pieces are ahead the cursor stands within the text
-pub ahead-inside : {text : Bytes} {c : Cursor} {p : Piece} {rest : List Piece} → Ahead text c (p ∷ rest) → c .at ≤ length text
+pub ahead-inside : {text : Bytes} {c : Cursor} {p : Piece} {rest : List Piece} → PiecesAhead text c (p ∷ rest) → c .at ≤ length text
 ahead-inside a = ltb-false _ _ (a .over)
 
-pub ahead-named : {text : Bytes} {c : Cursor} {p : Piece} {rest : List Piece} → Ahead text c (p ∷ rest) → Named text (c .at) (c .at + length (escaped (nameIn p))) (nameIn p)
-ahead-named {text} {c} {p} {rest} a =
-    let n = escaped (nameIn p) in
-    let to = c .at + length n in
-    let r = scaleText (keptIn p) ++ moreText rest in
+-- a name and what ends it, from a place on
+pub named-from : (text : Bytes) (at : ℕ) (name rest : Bytes) → at ≤ length text → Clean name → drop at text ≡ escaped name ++ rest → nameEnds rest ≡ true
+    → Named text at (at + length (escaped name)) name
+named-from text at name rest h g e k =
+    let n = escaped name in
     record {
-      clean = clean-name p (a .sound .0);
+      clean = g;
       low = omega arith;
-      inside = fits text (c .at) n r (ahead-inside a) (split-text a);
-      bytes = part-of text (c .at) to n r (split-text a) refl;
-      ends = ap nameEnds (drop-past text (c .at) to n r (split-text a) refl) ∙ ends-name (keptIn p) rest;
+      inside = fits text at n rest h e;
+      bytes = part-of text at (at + length n) n rest e refl;
+      ends = ap nameEnds (drop-past text at (at + length n) n rest e refl) ∙ k;
     }
 
-pub ahead-fielded : {text : Bytes} {c : Cursor} {p : Piece} {rest : List Piece} {split : ℕ} → Ahead text c (p ∷ rest) → split ≡ c .at + length (escaped (nameIn p))
+pub ahead-named : {text : Bytes} {c : Cursor} {p : Piece} {rest : List Piece} → PiecesAhead text c (p ∷ rest) → Named text (c .at) (c .at + length (escaped (nameIn p))) (nameIn p)
+ahead-named {text} {c} {p} {rest} a =
+    named-from text (c .at) (nameIn p) (scaleText (keptIn p) ++ moreText rest) (ahead-inside a) (clean-name p (a .sound .0)) (split-text a) (ends-name (keptIn p) rest)
+
+pub ahead-fielded : {text : Bytes} {c : Cursor} {p : Piece} {rest : List Piece} {split : ℕ} → PiecesAhead text c (p ∷ rest) → split ≡ c .at + length (escaped (nameIn p))
     → Fielded text split (split + length (scaleText (keptIn p)))
 ahead-fielded {text} {c} {p} {rest} {split} a h =
     let n = escaped (nameIn p) in
@@ -118,8 +122,8 @@ ahead-fielded {text} {c} {p} {rest} {split} a h =
       ends = ap fieldEnds (drop-past text split (split + length y) y (moreText rest) d refl) ∙ ends-field rest;
     }
 
-pub met : {text : Bytes} {c : Cursor} {p : Piece} {rest : List Piece} (s : Span) → Ahead text c (p ∷ rest) → s .kind ≡ kindOf p → s .from ≡ c .at
-    → s .split ≡ c .at + length (escaped (nameIn p)) → s .to ≡ s .split + length (scaleText (keptIn p)) → Met text c s p rest
+pub met : {text : Bytes} {c : Cursor} {p : Piece} {rest : List Piece} (s : Span) → PiecesAhead text c (p ∷ rest) → s .kind ≡ kindOf p → s .from ≡ c .at
+    → s .split ≡ c .at + length (escaped (nameIn p)) → s .to ≡ s .split + length (scaleText (keptIn p)) → PieceMet text c s p rest
 met {text} {c} {p} {rest} s a k f h t =
     let n = escaped (nameIn p) in
     let y = scaleText (keptIn p) in
@@ -162,7 +166,7 @@ followed text to c h f = record { on = h; ahead = go }
     tab (label n) = refl
     tab (attribute a) = refl
 
-    go : (rest : List Piece) → Behind text to rest → Ahead text c rest
+    go : (rest : List Piece) → Behind text to rest → PiecesAhead text c rest
     go [] b = record {
       inside = omega (arith, h, b .inside);
       over = lt-ltb (length text) (c .at) (omega (arith, h, over b));
@@ -194,14 +198,14 @@ followed-past text to c past h f = followed text to c h (f ∙ ap (λ (x : ℕ).
 
 -- ---- the start
 
-pub started : (text : Bytes) → Starts text (record { at = 0; field = false })
+pub started : (text : Bytes) → AtStart text (record { at = 0; field = false })
 started text = record { ahead = go }
   where
     each : (ls : List Line) → SoundText ls → EachSound ls
     each [] s = tt
     each (l ∷ ls) s = s
 
-    go : (h : WellFormed text) → Ahead text (record { at = 0; field = false }) (piecesOf (h .lines))
+    go : (h : WellFormed text) → PiecesAhead text (record { at = 0; field = false }) (piecesOf (h .lines))
     go h = record {
       inside = omega arith;
       over = le-ltb (length text) 0 (omega arith) ∙ sym (some-first (h .lines) (h .sound));

@@ -13,6 +13,11 @@ kindOf blank = Blank
 kindOf (label n) = Label
 kindOf (attribute a) = Attribute
 
+-- the kind of a line's first piece: an empty line has no name
+abbrev pub lineKind : Bool → Kind
+lineKind true = Blank
+lineKind false = Label
+
 -- a piece's name, empty for an empty line; its kept text, empty where there is none
 abbrev pub nameIn : Piece → Bytes
 nameIn blank = []

@@ -64,39 +64,42 @@ pub record Behind (text : Bytes) (to : ℕ) (rest : List Piece) : Type 0 where
   pub bytes : drop to text ≡ moreText rest
   pub sound : SoundPieces rest
 
-abbrev pub none : List Piece → Bool
-none [] = true
-none (p ∷ rest) = false
+abbrev pub noneLeft : List Piece → Bool
+noneLeft [] = true
+noneLeft (p ∷ rest) = false
 
 abbrev pub fieldFirst : List Piece → Bool
 fieldFirst [] = false
 fieldFirst (p ∷ rest) = isField p
 
 -- from the cursor on the text holds exactly these pieces; behind the last it stands past the text's end
-pub record Ahead (text : Bytes) (c : Cursor) (rest : List Piece) : Type 0 where
+pub record PiecesAhead (text : Bytes) (c : Cursor) (rest : List Piece) : Type 0 where
   pub inside : c .at ≤ length text + 1
-  pub over : ltb (length text) (c .at) ≡ none rest
+  pub over : ltb (length text) (c .at) ≡ noneLeft rest
   pub field : c .field ≡ fieldFirst rest
   pub bytes : drop (c .at) text ≡ piecesText rest
   pub sound : SoundPieces rest
 
-abbrev pub SomeAhead : Bytes → Cursor → Type 0
-SomeAhead text c = (p : Piece) × (rest : List Piece) × Ahead text c (p ∷ rest)
+abbrev pub SomePieceAhead : Bytes → Cursor → Type 0
+SomePieceAhead text c = (p : Piece) × (rest : List Piece) × PiecesAhead text c (p ∷ rest)
 
 -- ---- what is promised
 
 -- the piece at the cursor, and what comes behind it
-pub record Met (text : Bytes) (c : Cursor) (s : Span) (p : Piece) (rest : List Piece) : Type 0 where
+pub record PieceMet (text : Bytes) (c : Cursor) (s : Span) (p : Piece) (rest : List Piece) : Type 0 where
   pub from : s .from ≡ c .at
   pub stands : Stands text s p
   pub behind : Behind text (s .to) rest
 
+-- what `piece_at` answers: whichever pieces are ahead, the first of them
 pub record Finds (text : Bytes) (c : Cursor) (s : Span) : Type 0 where
-  pub met : (p : Piece) (rest : List Piece) → Ahead text c (p ∷ rest) → Met text c s p rest
+  pub met : (p : Piece) (rest : List Piece) → PiecesAhead text c (p ∷ rest) → PieceMet text c s p rest
 
+-- what `after` answers: a cursor further on, with all pieces ahead that come behind the place
 pub record Follows (text : Bytes) (to : ℕ) (c : Cursor) : Type 0 where
   pub on : c .at ≡ to + 1
-  pub ahead : (rest : List Piece) → Behind text to rest → Ahead text c rest
+  pub ahead : (rest : List Piece) → Behind text to rest → PiecesAhead text c rest
 
-pub record Starts (text : Bytes) (c : Cursor) : Type 0 where
-  pub ahead : (h : WellFormed text) → Ahead text c (piecesOf (h .lines))
+-- what `start` answers: all pieces of the lines that make the text are ahead
+pub record AtStart (text : Bytes) (c : Cursor) : Type 0 where
+  pub ahead : (h : WellFormed text) → PiecesAhead text c (piecesOf (h .lines))

@@ -7,8 +7,9 @@ ghost use lib.ListN.{length};
 ghost use lib.Seq.{slice};
 ghost use Rattle.layout.specs.Layout.{Bytes};
 ghost use Rattle.answer_line.specs.Line.{RoomFor, Put};
-ghost use Rattle.pieces.specs.Standing.{Named, SomeName, Fielded, SomeAhead, Finds, Follows, Starts};
-ghost use Rattle.pieces.specs.Unescaped.{unescaped};
+ghost use Rattle.pieces.specs.PieceText.{lineKind};
+ghost use Rattle.pieces.specs.Standing.{endsName, endsField, Named, SomeName, Fielded, SomePieceAhead, Finds, Follows, AtStart};
+ghost use Rattle.pieces.specs.Unescaped.{isSkipped, unescaped};
 
 // An empty line, a word's label, an attribute.
 pub enum Kind {
@@ -31,7 +32,21 @@ pub struct Span {
     pub to: usize,
 }
 
-// Where the name that begins here ends.
+// A bare byte that ends a name.
+fn ends_name(b: u8) -> bool
+    ensures { λ r. ⌜ r ≡ endsName b ⌝ }
+{
+    (b == 9) | (b == 10) | (b == 58)
+}
+
+// A byte that ends a field.
+fn ends_field(b: u8) -> bool
+    ensures { λ r. ⌜ r ≡ endsField b ⌝ }
+{
+    (b == 9) | (b == 10)
+}
+
+// Where the name that begins here ends: at a bare tab, line feed or colon, or at the end of the text.
 pub fn name_end(text: &[u8], at: usize) -> usize
     requires { ⌜ SomeName (now text) at ⌝ }
     ensures { λ r. ⌜ ((to : ℕ) (name : Bytes) → Named (now (text .entry)) at to name → r ≡ to) ⌝ }
@@ -42,7 +57,7 @@ pub fn name_end(text: &[u8], at: usize) -> usize
         if b == 92 {
             i += 2;
         } else {
-            if (b == 9) | (b == 10) | (b == 58) {
+            if ends_name(b) {
                 return i;
             }
             i += 1;
@@ -51,14 +66,14 @@ pub fn name_end(text: &[u8], at: usize) -> usize
     i
 }
 
-// Where the field that goes on here ends.
+// Where the field that goes on here ends: at a tab, a line feed or the end of the text.
 fn scale_end(text: &[u8], at: usize) -> usize
     ensures { λ r. ⌜ ((to : ℕ) → Fielded (now (text .entry)) at to → r ≡ to) ⌝ }
 {
     let mut i = at;
     while i < text.len() {
         let b = text[i];
-        if (b == 9) | (b == 10) {
+        if ends_field(b) {
             return i;
         }
         i += 1;
@@ -68,7 +83,7 @@ fn scale_end(text: &[u8], at: usize) -> usize
 
 // The cursor at the start of a text.
 pub fn start(text: &[u8]) -> Cursor
-    ensures { λ r. ⌜ Starts (now (text .entry)) r ⌝ }
+    ensures { λ r. ⌜ AtStart (now (text .entry)) r ⌝ }
 {
     Cursor {
         at: 0,
@@ -76,9 +91,16 @@ pub fn start(text: &[u8]) -> Cursor
     }
 }
 
+// What a line begins with: nothing, or a label.
+fn line_kind(empty: bool) -> Kind
+    ensures { λ r. ⌜ r ≡ lineKind empty ⌝ }
+{
+    if empty { Kind::Blank } else { Kind::Label }
+}
+
 // The piece at the cursor.
 pub fn piece_at(text: &[u8], cursor: Cursor) -> Span
-    requires { ⌜ SomeAhead (now text) cursor ⌝ }
+    requires { ⌜ SomePieceAhead (now text) cursor ⌝ }
     ensures { λ r. ⌜ Finds (now (text .entry)) cursor r ⌝ }
 {
     let at = cursor.at;
@@ -91,37 +113,38 @@ pub fn piece_at(text: &[u8], cursor: Cursor) -> Span
             to: scale_end(text, split),
         };
     }
-    if split == at {
-        return Span {
-            kind: Kind::Blank,
-            from: at,
-            split: split,
-            to: split,
-        };
-    }
     Span {
-        kind: Kind::Label,
+        kind: line_kind(split == at),
         from: at,
         split: split,
         to: split,
     }
 }
 
-// The cursor behind a piece that ends here.
+// The cursor behind a piece that ends here. A text that is read has at most 4,294,967,295 bytes, so one place more always fits.
 pub fn after(text: &[u8], to: usize) -> Cursor
     requires { ⌜ to ≤ 4294967295 ⌝ }
     ensures { λ r. ⌜ Follows (now (text .entry)) to r ⌝ }
 {
+    let at = to + 1;
     if to < text.len() {
+        let b = text[to];
         return Cursor {
-            at: to + 1,
-            field: text[to] == 9,
+            at: at,
+            field: b == 9,
         };
     }
     Cursor {
-        at: to + 1,
+        at: at,
         field: false,
     }
+}
+
+// Whether a byte of an escaped name goes: a backslash that stands behind none.
+fn skips(b: u8, slashed: bool) -> bool
+    ensures { λ r. ⌜ r ≡ isSkipped slashed b ⌝ }
+{
+    (b == 92) & !slashed
 }
 
 // How many bytes the name between two places has without its backslashes.
@@ -135,7 +158,7 @@ pub fn unescaped_length(text: &[u8], from: usize, to: usize) -> usize
     while i < to {
         let b = text[i];
         i += 1;
-        if (b == 92) & !slashed {
+        if skips(b, slashed) {
             slashed = true;
         } else {
             slashed = false;
@@ -157,7 +180,7 @@ pub fn unescape(text: &[u8], from: usize, to: usize, out: &mut [u8], at: usize) 
     while i < to {
         let b = text[i];
         i += 1;
-        if (b == 92) & !slashed {
+        if skips(b, slashed) {
             slashed = true;
         } else {
             slashed = false;

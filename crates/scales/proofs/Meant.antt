@@ -6,7 +6,7 @@ use Prim.Native.Nat.{ℕ, zero, suc, _+_, _^_, _≤_, _<_}
 use native.Mathlib.Omega.{arith}
 use lib.Dec.{eqb, leb}
 use lib.ListN.{length}
-use lib.Ieee.{Float, binary64, round}
+use lib.Ieee.{Float, binary64, round, ofBits, ofInt}
 use borrow.Author.Tests.{le-leb, ne-eqb}
 use Rattle.layout.specs.Layout.{Bytes, Digits, Part, none, point as pointed, partText, fraction, minusText, Scale}
 use Rattle.scales.specs.Value.{digitsWorth, digitsIn, behindPoint, valueOf, scaleValue, ValueMeant}
@@ -81,3 +81,8 @@ by-sign false (b ∷ ds) part g some h = unsigned (λ e. omega (arith, g .0, e))
 
 pub value-meant : ValueMeant
 value-meant text h = subst (λ (t : Bytes). valueOf t ≡ scaleValue h) (h .made) (by-sign (h .minus) (h .whole) (h .part) (h .wholeDigits) (h .some) (bare (h .whole) (h .part) (h .wholeDigits) (h .partDigits)))
+
+-- "Without a scale the value is 1"
+pub no-scale-value : ofBits binary64 4607182418800017408 ≡ valueOf []
+unfolding valueOf ofBits ofInt round
+no-scale-value = refl

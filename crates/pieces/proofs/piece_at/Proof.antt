@@ -1,43 +1,31 @@
 -- `pieces::piece_at` meets its contract. Assumes nothing.
 use mathlib.Core.Path.{refl}
-use Rattle.pieces.proofs.Found.{name-ahead, found-attribute, found-blank, found-label}
 use borrow.Author.Needs.{needs}
+use Rattle.pieces.proofs.Found.{name-ahead, found-attribute, found-line}
 use Rattle.pieces.proofs.piece_at.Statement.{statement}
 use Rattle.pieces.proofs.piece_at.Tie as tie
-use Rattle.pieces.proofs.piece_at.Reads as reads
-use Rattle.pieces.proofs.piece_at.Lts as lts
-use Rattle.pieces.proofs.name_end.Reads as name-end-reads
-use Rattle.pieces.proofs.scale_end.Reads as scale-end-reads
 
--- src/lib.rt:84:9
 name-end-requires : tie.Need-name-end-requires
 name-end-requires c κs = let s : tie.Start = search in name-ahead (s .pre)
 
--- src/lib.rt:90:17
 scale-end-requires : tie.Need-scale-end-requires
 scale-end-requires c κs = search needs
 
--- src/lib.rt:86:9
 returns : tie.Need-returns
 returns c =
     let n : tie.After-name-end = search in
     let t : tie.Then1 = search in
     found-attribute _ _ (t .if1 .taken) refl refl (n .name-end .ensures) (c .scale-end .ensures)
 
--- src/lib.rt:94:9
+line-kind-requires : tie.Need-line-kind-requires
+line-kind-requires c κs = search needs
+
 returns-2 : tie.Need-returns-2
 returns-2 c =
     let n : tie.After-name-end = search in
     let t : tie.Else1 = search in
-    found-blank _ _ (t .if1 .left) refl refl (n .name-end .ensures) refl (c .if2 .taken)
-
--- src/lib.rt:79:1
-returns-3 : tie.Need-returns-3
-returns-3 c =
-    let n : tie.After-name-end = search in
-    let t : tie.Else1 = search in
-    found-label _ _ (t .if1 .left) refl refl (n .name-end .ensures) refl (c .if2 .left)
+    found-line _ _ (t .if1 .left) (c .line-kind .ensures) refl (n .name-end .ensures) refl
 
 pub piece-at-spec : {M : Type 1} → statement M
 piece-at-spec =
-    tie.close (tie.spec name-end-requires scale-end-requires returns returns-2 returns-3)
+    tie.close (tie.spec name-end-requires scale-end-requires returns line-kind-requires returns-2)

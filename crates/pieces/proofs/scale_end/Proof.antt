@@ -1,4 +1,5 @@
 -- `pieces::scale_end` meets its contract. The invariant: a field that went on at the start goes on here. Assumes nothing.
+use mathlib.Core.Path.{sym, _∙_}
 use Prim.Native.Nat.{_-_}
 use native.Mathlib.Omega.{arith}
 use borrow.Author.Needs.{needs}
@@ -6,8 +7,6 @@ use lib.ListN.{length}
 use Rattle.pieces.proofs.Fields.{Run, run-starts, run-on, run-ends, run-over}
 use Rattle.pieces.proofs.scale_end.Statement.{statement}
 use Rattle.pieces.proofs.scale_end.Tie as tie
-use Rattle.pieces.proofs.scale_end.Reads as reads
-use Rattle.pieces.proofs.scale_end.Lts as lts
 
 abbrev Inv-loop : tie.InvT-loop
 Inv-loop text at i₀ i = Run text at i
@@ -15,37 +14,33 @@ Inv-loop text at i₀ i = Run text at i
 abbrev μ-loop : tie.MeasureT-loop
 μ-loop text at i₀ i = length text - i
 
--- src/lib.rt:58:5
 loop-holds : tie.Need-loop-holds Inv-loop μ-loop
 loop-holds c = run-starts _ _
 
--- src/lib.rt:59:17
 shared-slice-read-b : tie.Need-shared-slice-read-b Inv-loop μ-loop
 shared-slice-read-b c = search needs
 
--- src/lib.rt:61:13
+ends-field-requires : tie.Need-ends-field-requires Inv-loop μ-loop
+ends-field-requires c κs = search needs
+
 returns : tie.Need-returns Inv-loop μ-loop
 returns c =
     let l : tie.At-loop Inv-loop μ-loop = search in
     let t : tie.In-loop Inv-loop μ-loop = search in
-    run-ends _ _ _ (l .loop .inv) (t .loop-test .taken) (c .if1 .taken)
+    run-ends _ _ _ (l .loop .inv) (t .loop-test .taken) (sym (c .before .ends-field .ensures) ∙ c .if1 .taken)
 
--- src/lib.rt:63:9
 add-i : tie.Need-add-i Inv-loop μ-loop
 add-i c = search needs
 
--- src/lib.rt:58:5
 loop-less : tie.Need-loop-less Inv-loop μ-loop
 loop-less c = omega arith
 
--- src/lib.rt:58:5
 loop-again : tie.Need-loop-again Inv-loop μ-loop
 loop-again c =
     let l : tie.At-loop Inv-loop μ-loop = search in
     let t : tie.In-loop Inv-loop μ-loop = search in
-    run-on _ _ _ (l .loop .inv) (t .loop-test .taken) (c .if1 .left)
+    run-on _ _ _ (l .loop .inv) (t .loop-test .taken) (sym (c .before .ends-field .ensures) ∙ c .if1 .left)
 
--- src/lib.rt:54:1
 returns-2 : tie.Need-returns-2 Inv-loop μ-loop
 returns-2 c =
     let l : tie.At-loop Inv-loop μ-loop = search in
@@ -59,6 +54,7 @@ scale-end-spec =
     μ-loop
     loop-holds
     shared-slice-read-b
+    ends-field-requires
     returns
     add-i
     loop-less

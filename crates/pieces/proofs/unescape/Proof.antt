@@ -1,4 +1,5 @@
 -- `pieces::unescape` meets its contract. Assumes nothing.
+use mathlib.Core.Path.{sym, _∙_}
 use Prim.Native.Nat.{_-_}
 use native.Mathlib.Omega.{arith}
 use borrow.Author.Needs.{needs}
@@ -7,8 +8,6 @@ use Rattle.pieces.specs.Unescaped.{unescaped}
 use Rattle.pieces.proofs.Bare.{Writing, writing-starts, writing-skip, writing-room, writing-keep, writing-over}
 use Rattle.pieces.proofs.unescape.Statement.{statement}
 use Rattle.pieces.proofs.unescape.Tie as tie
-use Rattle.pieces.proofs.unescape.Reads as reads
-use Rattle.pieces.proofs.unescape.Lts as lts
 
 abbrev Inv-loop : tie.InvT-loop
 Inv-loop text from to out₀ at i₀ k₀ slashed₀ out i k slashed = Writing text to i slashed k at out out₀ (unescaped (slice from to text))
@@ -16,63 +15,64 @@ Inv-loop text from to out₀ at i₀ k₀ slashed₀ out i k slashed = Writing t
 abbrev μ-loop : tie.MeasureT-loop
 μ-loop text from to out₀ at i₀ k₀ slashed₀ out i k slashed = to - i
 
--- src/lib.rt:157:5
 loop-holds : tie.Need-loop-holds Inv-loop μ-loop
 loop-holds c =
     let s : tie.Start Inv-loop μ-loop = search in
     writing-starts (s .pre .0) (s .pre .1)
 
--- src/lib.rt:158:17
 shared-slice-read-b : tie.Need-shared-slice-read-b Inv-loop μ-loop
 shared-slice-read-b c = search needs
 
--- src/lib.rt:159:9
 add-i : tie.Need-add-i Inv-loop μ-loop
 add-i c = search needs
 
--- src/lib.rt:157:5
+skips-requires : tie.Need-skips-requires Inv-loop μ-loop
+skips-requires c κs = search needs
+
 loop-less : tie.Need-loop-less Inv-loop μ-loop
 loop-less c = omega arith
 
--- src/lib.rt:157:5
 loop-again : tie.Need-loop-again Inv-loop μ-loop
 loop-again c =
     let l : tie.At-loop Inv-loop μ-loop = search in
     let t : tie.In-loop Inv-loop μ-loop = search in
-    writing-skip (l .loop .inv) (t .loop-test .taken) (c .if1 .taken)
+    let k : tie.After-skips Inv-loop μ-loop = search in
+    writing-skip (l .loop .inv) (t .loop-test .taken) (sym (k .skips .ensures) ∙ c .if1 .taken)
 
--- src/lib.rt:164:13
 slice-write-out : tie.Need-slice-write-out Inv-loop μ-loop
 slice-write-out c =
     let l : tie.At-loop Inv-loop μ-loop = search in
     let t : tie.In-loop Inv-loop μ-loop = search in
-    writing-room (l .loop .inv) (t .loop-test .taken) (c .if1 .left)
+    let k : tie.After-skips Inv-loop μ-loop = search in
+    let e : tie.Else1 Inv-loop μ-loop = search in
+    writing-room (l .loop .inv) (t .loop-test .taken) (sym (k .skips .ensures) ∙ e .if1 .left)
 
--- src/lib.rt:165:13
 add-k : tie.Need-add-k Inv-loop μ-loop
 add-k c =
+    let s : tie.Start Inv-loop μ-loop = search in
     let l : tie.At-loop Inv-loop μ-loop = search in
     let t : tie.In-loop Inv-loop μ-loop = search in
-    omega (arith, writing-room (l .loop .inv) (t .loop-test .taken) (c .if1 .left))
+    let k : tie.After-skips Inv-loop μ-loop = search in
+    let e : tie.Else1 Inv-loop μ-loop = search in
+    let r = writing-room (l .loop .inv) (t .loop-test .taken) (sym (k .skips .ensures) ∙ e .if1 .left) in
+    omega (arith, r, l .loop .inv .long, s .good .1 .1 .1 .0 .0)
 
--- src/lib.rt:157:5
 loop-less-2 : tie.Need-loop-less-2 Inv-loop μ-loop
 loop-less-2 c = omega arith
 
--- src/lib.rt:157:5
 loop-again-2 : tie.Need-loop-again-2 Inv-loop μ-loop
 loop-again-2 c =
     let l : tie.At-loop Inv-loop μ-loop = search in
     let t : tie.In-loop Inv-loop μ-loop = search in
-    writing-keep (l .loop .inv) (t .loop-test .taken) (c .if1 .left)
+    let k : tie.After-skips Inv-loop μ-loop = search in
+    let e : tie.Else1 Inv-loop μ-loop = search in
+    writing-keep (l .loop .inv) (t .loop-test .taken) (sym (k .skips .ensures) ∙ e .if1 .left)
 
--- src/lib.rt:149:1
 same-length : tie.Need-same-length Inv-loop μ-loop
 same-length c =
     let l : tie.At-loop Inv-loop μ-loop = search in
     l .loop .inv .long
 
--- src/lib.rt:149:1
 returns : tie.Need-returns Inv-loop μ-loop
 returns c =
     let l : tie.At-loop Inv-loop μ-loop = search in
@@ -87,6 +87,7 @@ unescape-spec =
     loop-holds
     shared-slice-read-b
     add-i
+    skips-requires
     loop-less
     loop-again
     slice-write-out

@@ -1,4 +1,5 @@
 -- `pieces::unescaped_length` meets its contract. Assumes nothing.
+use mathlib.Core.Path.{sym, _∙_}
 use Prim.Native.Nat.{_-_}
 use native.Mathlib.Omega.{arith}
 use borrow.Author.Needs.{needs}
@@ -7,8 +8,6 @@ use Rattle.pieces.specs.Unescaped.{unescaped}
 use Rattle.pieces.proofs.Bare.{Counting, counting-starts, counting-skip, counting-keep, counting-over}
 use Rattle.pieces.proofs.unescaped_length.Statement.{statement}
 use Rattle.pieces.proofs.unescaped_length.Tie as tie
-use Rattle.pieces.proofs.unescaped_length.Reads as reads
-use Rattle.pieces.proofs.unescaped_length.Lts as lts
 
 abbrev Inv-loop : tie.InvT-loop
 Inv-loop text from to i₀ count₀ slashed₀ i count slashed = Counting text to i count slashed (unescaped (slice from to text))
@@ -16,47 +15,44 @@ Inv-loop text from to i₀ count₀ slashed₀ i count slashed = Counting text t
 abbrev μ-loop : tie.MeasureT-loop
 μ-loop text from to i₀ count₀ slashed₀ i count slashed = to - i
 
--- src/lib.rt:135:5
 loop-holds : tie.Need-loop-holds Inv-loop μ-loop
 loop-holds c =
     let s : tie.Start Inv-loop μ-loop = search in
     counting-starts (s .pre)
 
--- src/lib.rt:136:17
 shared-slice-read-b : tie.Need-shared-slice-read-b Inv-loop μ-loop
 shared-slice-read-b c = search needs
 
--- src/lib.rt:137:9
 add-i : tie.Need-add-i Inv-loop μ-loop
 add-i c = search needs
 
--- src/lib.rt:135:5
+skips-requires : tie.Need-skips-requires Inv-loop μ-loop
+skips-requires c κs = search needs
+
 loop-less : tie.Need-loop-less Inv-loop μ-loop
 loop-less c = omega arith
 
--- src/lib.rt:135:5
 loop-again : tie.Need-loop-again Inv-loop μ-loop
 loop-again c =
     let l : tie.At-loop Inv-loop μ-loop = search in
     let t : tie.In-loop Inv-loop μ-loop = search in
-    counting-skip (l .loop .inv) (t .loop-test .taken) (c .if1 .taken)
+    let k : tie.After-skips Inv-loop μ-loop = search in
+    counting-skip (l .loop .inv) (t .loop-test .taken) (sym (k .skips .ensures) ∙ c .if1 .taken)
 
--- src/lib.rt:142:13
 add-count : tie.Need-add-count Inv-loop μ-loop
 add-count c = search needs
 
--- src/lib.rt:135:5
 loop-less-2 : tie.Need-loop-less-2 Inv-loop μ-loop
 loop-less-2 c = omega arith
 
--- src/lib.rt:135:5
 loop-again-2 : tie.Need-loop-again-2 Inv-loop μ-loop
 loop-again-2 c =
     let l : tie.At-loop Inv-loop μ-loop = search in
     let t : tie.In-loop Inv-loop μ-loop = search in
-    counting-keep (l .loop .inv) (t .loop-test .taken) (c .if1 .left)
+    let k : tie.After-skips Inv-loop μ-loop = search in
+    let e : tie.Else1 Inv-loop μ-loop = search in
+    counting-keep (l .loop .inv) (t .loop-test .taken) (sym (k .skips .ensures) ∙ e .if1 .left)
 
--- src/lib.rt:128:1
 returns : tie.Need-returns Inv-loop μ-loop
 returns c =
     let l : tie.At-loop Inv-loop μ-loop = search in
@@ -71,6 +67,7 @@ unescaped-length-spec =
     loop-holds
     shared-slice-read-b
     add-i
+    skips-requires
     loop-less
     loop-again
     add-count
