@@ -24,7 +24,7 @@
  *    extract_features                2,048
  *    viterbi_decode                 12,288    (8,136 were used)
  *    label_line                     49,152    (46,496)
- *    the three trainers             53,248    (49,216)
+ *    the three trainers             53,248    (51,592)
  */
 #ifndef BODKINBLOOM_H
 #define BODKINBLOOM_H

@@ -4,6 +4,7 @@ ghost use Prim.Native.Nat.{_≤_, _<_};
 ghost use lib.ListN.{length};
 ghost use Rattle.decode_sheet.specs.Front.{longestSheet};
 ghost use Rattle.answer_file.specs.EveryFile.{PrintedOfEvery};
+use answer_line::PATH_ROOM;
 use libc::STDOUT_FILENO;
 
 // The bytes of a file, as many as the buffer holds, which is more than the longest sheet: how many there are, or none where
@@ -29,7 +30,7 @@ fn read_bytes(fd: i32, bytes: &mut [u8]) -> usize
 
 // The line of the whole file, from the n bytes of it that were read into a buffer longer than any sheet: the rest of a
 // longer file would change nothing.
-fn answer_front(bytes: &[u8], n: usize, line: &mut [u8; 406]) -> usize
+fn answer_front(bytes: &[u8], n: usize, line: &mut [u8; PATH_ROOM]) -> usize
     requires { ⌜ n ≤ length (now bytes) ⌝ }
     requires { ⌜ longestSheet < length (now bytes) ⌝ }
     ensures { λ r. ⌜ PrintedOfEvery (now (bytes .entry)) n (now (line .entry)) r (now (line .exit)) ⌝ }
@@ -44,7 +45,7 @@ pub fn answer_file(fd: i32) -> usize
 {
     let mut bytes = [0u8; 40969];
     let n = read_bytes(fd, &mut bytes);
-    let mut line = [0u8; 406];
+    let mut line = [0u8; PATH_ROOM];
     let size = answer_front(&bytes, n, &mut line);
     io::write_all(STDOUT_FILENO, &line[..size]);
     n

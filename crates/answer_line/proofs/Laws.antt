@@ -8,7 +8,7 @@ use native.Mathlib.Omega.{arith}
 use borrow.Author.Tests.{lt-ltb, le-ltb}
 use lib.ListN.{length, getD, set, drop, length-set, length-append, drop-of-length-le}
 use lib.Seq.{sets, sets-eq, set-comm, drop-cons}
-use Rattle.answer_line.specs.Digits.{digit, digits, placesWithin, places, decimal}
+use Rattle.answer_line.specs.Digits.{digit, digits, placesWithin, decimalPlaces, decimal}
 use Rattle.answer_line.specs.Line.{comma, furtherLabels, joinedLabels, stored, Put, RoomFor, Written}
 
 -- ---- stored bytes
@@ -60,6 +60,13 @@ pub put-length : {p l k : List ℕ} {at end : ℕ} → Put p l at end k → leng
 put-length {p} {l} {k} {at} a = ap length (a .line) ∙ length-stored l at p
 
 -- the room of a part, and what it leaves to the next
+-- a part by another name
+pub put-as : {p q l k : List ℕ} {at end : ℕ} → p ≡ q → Put p l at end k → Put q l at end k
+put-as e a = rw e at a
+
+pub room-as : {p q l : List ℕ} {at : ℕ} → p ≡ q → RoomFor p l at → RoomFor q l at
+room-as e h = rw e at h
+
 pub room-first : {l : List ℕ} {at : ℕ} (p q : List ℕ) → RoomFor (p ++ q) l at → RoomFor p l at
 room-first p q h = let r = rw (length-append p q) at (h .room) in record { room = omega arith }
 
@@ -101,9 +108,9 @@ unfolding digits
 length-digits base zero n = refl
 length-digits base (suc k) n = rw (length-append, length-digits base k (n / base)) (omega arith)
 
-pub length-decimal : (n : ℕ) → length (decimal n) ≡ places n
+pub length-decimal : (n : ℕ) → length (decimal n) ≡ decimalPlaces n
 unfolding decimal
-length-decimal n = length-digits 10 (places n) n
+length-decimal n = length-digits 10 (decimalPlaces n) n
 
 -- the last of k digits is stored first, where the others still have to come before it
 digit-back : (base j n : ℕ) (l : List ℕ) (at : ℕ) → stored (set l (at + j) (digit (n % base))) at (digits base j (n / base)) ≡ stored l at (digits base (suc j) n)

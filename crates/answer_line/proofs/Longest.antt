@@ -4,8 +4,8 @@ use Prim.Native.Nat.{ℕ, zero, suc, _-_, _*_, _/_, _<_, _≤_}
 use native.Mathlib.Omega.{arith}
 use lib.ListN.{length, getD, length-append}
 use lib.Ieee.{Float, binary64, toBits}
-use Rattle.answer_line.specs.Digits.{placesWithin, places, decimal}
-use Rattle.answer_line.specs.Line.{space, lineFeed, sumDigits, furtherLabels, joinedLabels, pathLine, refusedLine}
+use Rattle.answer_line.specs.Digits.{placesWithin, decimalPlaces, decimal}
+use Rattle.answer_line.specs.Line.{space, lineFeed, sumDigits, furtherLabels, joinedLabels, pathLine, refusedLine, pathRoom}
 use Rattle.answer_line.specs.Claims.{Longest}
 use Rattle.answer_line.proofs.Laws.{length-digits, length-decimal}
 use Rattle.answer_line.proofs.ReadBack.{by-ten, few, many}
@@ -16,11 +16,11 @@ most zero n = omega arith
 most (suc u) n = by-ten n (λ l. rw (few u n l) (omega arith)) (λ l. rw (many u n l) (omega (arith, most u (n / 10))))
 
 decimal-most : (n : ℕ) → length (decimal n) ≤ 20
-unfolding places
+unfolding decimalPlaces
 decimal-most n = rw (length-decimal n) (most 20 n)
 
 two-digits : (n : ℕ) → n < 100 → length (decimal n) ≤ 2
-unfolding places
+unfolding decimalPlaces
 two-digits n h = rw (length-decimal n) (by-ten n (λ l. rw (few 19 n l) (omega arith)) (λ l. let b : n / 10 < 10 = omega arith in rw (many 19 n l, few 18 (n / 10) b) (omega arith)))
 
 -- labels of at most two digits
@@ -46,7 +46,7 @@ module _ where
   joined (label ∷ labels) h =
       omega (arith, length-append (decimal label) (furtherLabels labels), two-digits label (head label labels h), further labels (tail label labels h))
 
-path-most : (x : Float) (labels : List ℕ) → length labels ≤ 128 → Small labels → length (pathLine x labels) ≤ 406
+path-most : (x : Float) (labels : List ℕ) → length labels ≤ 128 → Small labels → length (pathLine x labels) ≤ pathRoom
 unfolding pathLine
 path-most x labels n h =
     let j = joinedLabels labels in

@@ -8,7 +8,7 @@ use lib.Dec.{ltb}
 use lib.ListN.{length, getD, drop, length-append}
 use lib.Ieee.{Float, binary64, toBits, ofBits}
 use lib.Ieee.Bits.{ofBits-toBits, toBits-lt}
-use Rattle.answer_line.specs.Digits.{digit, digits, places, decimal, read}
+use Rattle.answer_line.specs.Digits.{digit, digits, decimalPlaces, decimal, readDigits}
 use Rattle.answer_line.specs.Line.{space, comma, lineFeed, sumDigits, furtherLabels, joinedLabels, pathLine, refusedLine}
 use Rattle.answer_line.specs.Claims.{Sayable, OneSaying}
 use Rattle.answer_line.proofs.ReadBack.{read-digits, read-back}
@@ -54,11 +54,11 @@ without-digits c base (suc k) n h =
 
 without-decimal : (c n : ℕ) → c < 48 → Without c (decimal n)
 unfolding decimal
-without-decimal c n h = without-digits c 10 (places n) n h
+without-decimal c n h = without-digits c 10 (decimalPlaces n) n h
 
 -- the number that digits say
 same-number : (n m : ℕ) → n < 2 ^ 64 → m < 2 ^ 64 → decimal n ≡ decimal m → n ≡ m
-same-number n m p q e = sym (read-back .number n p) ∙ ap (read 10) e ∙ read-back .number m q
+same-number n m p q e = sym (read-back .number n p) ∙ ap (readDigits 10) e ∙ read-back .number m q
 
 -- ---- labels
 
@@ -118,8 +118,8 @@ without-joined (label ∷ labels) =
 
 same-sum : (x y : Float) (a b : List ℕ) → Sayable x a → Sayable y b → sumDigits x ≡ sumDigits y → x ≡ y
 same-sum x y a b p q e =
-    let back : (z : Float) (l : List ℕ) → Sayable z l → read 16 (sumDigits z) ≡ toBits binary64 z = λ z l s. read-digits 16 (omega arith) (omega arith) 16 (toBits binary64 z) (toBits-lt binary64 z (s .binary)) in
-    let bits : toBits binary64 x ≡ toBits binary64 y = sym (back x a p) ∙ ap (read 16) e ∙ back y b q in
+    let back : (z : Float) (l : List ℕ) → Sayable z l → readDigits 16 (sumDigits z) ≡ toBits binary64 z = λ z l s. read-digits 16 (omega arith) (omega arith) 16 (toBits binary64 z) (toBits-lt binary64 z (s .binary)) in
+    let bits : toBits binary64 x ≡ toBits binary64 y = sym (back x a p) ∙ ap (readDigits 16) e ∙ back y b q in
     sym (ofBits-toBits binary64 x (p .binary)) ∙ ap (ofBits binary64) bits ∙ ofBits-toBits binary64 y (q .binary)
 
 one-path : (x y : Float) (a b : List ℕ) → Sayable x a → Sayable y b → pathLine x a ≡ pathLine y b → (x ≡ y) × (a ≡ b)

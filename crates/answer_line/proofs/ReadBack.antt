@@ -12,7 +12,7 @@ use lib.ListN.{getD, take, drop, List·getD-append}
 use lib.Seq.{take-at}
 use lib.Ieee.{Float, binary64, fits, toBits, ofBits}
 use lib.Ieee.Bits.{ofBits-toBits, toBits-lt}
-use Rattle.answer_line.specs.Digits.{digit, digits, placesWithin, places, decimal, worth, readOn, read}
+use Rattle.answer_line.specs.Digits.{digit, digits, placesWithin, decimalPlaces, decimal, worth, readOn, readDigits}
 use Rattle.answer_line.specs.Line.{sumDigits, pathLine}
 use Rattle.answer_line.specs.Claims.{ReadBack}
 use Rattle.answer_line.proofs.Laws.{length-digits}
@@ -39,7 +39,7 @@ read-last base v [] c = refl
 read-last base v (a ∷ text) c = read-last base (v * base + worth a) text c
 
 -- k digits of a number that has no more read back as the number
-pub read-digits : (base : ℕ) → 0 < base → base ≤ 16 → (k n : ℕ) → n < base ^ k → read base (digits base k n) ≡ n
+pub read-digits : (base : ℕ) → 0 < base → base ≤ 16 → (k n : ℕ) → n < base ^ k → readDigits base (digits base k n) ≡ n
 unfolding digits readOn
 read-digits base p h zero n b = omega (arith, pow-zero base)
 read-digits base p h (suc k) n b =
@@ -96,12 +96,12 @@ leads (suc u) n p h =
     let b : n / 10 < 10 ^ u = omega arith in
     rw (many u n l, add-one) (longer (placesWithin u (n / 10)) n (places-some u (n / 10) (omega arith) b) (leads u (n / 10) (omega arith) b)))
 
-decimal-back : (n : ℕ) → n < 2 ^ 64 → read 10 (decimal n) ≡ n
-unfolding decimal places
+decimal-back : (n : ℕ) → n < 2 ^ 64 → readDigits 10 (decimal n) ≡ n
+unfolding decimal decimalPlaces
 decimal-back n h = read-digits 10 (omega arith) (omega arith) (placesWithin 20 n) n (places-hold 20 n (omega arith))
 
 decimal-short : (n : ℕ) → n < 2 ^ 64 → 9 < n → getD (decimal n) 0 0 ≡ 48 → ⊥
-unfolding decimal places
+unfolding decimal decimalPlaces
 decimal-short n h l = leads 20 n (omega arith) (omega arith)
 
 -- ---- the sum
@@ -110,7 +110,7 @@ sum-place : (x : Float) (labels : List ℕ) → take 16 (drop 5 (pathLine x labe
 unfolding pathLine
 sum-place x labels = take-at (sumDigits x) _ 16 (length-digits 16 16 (toBits binary64 x))
 
-bits-back : (x : Float) (labels : List ℕ) → T (fits binary64 x) → read 16 (take 16 (drop 5 (pathLine x labels))) ≡ toBits binary64 x
+bits-back : (x : Float) (labels : List ℕ) → T (fits binary64 x) → readDigits 16 (take 16 (drop 5 (pathLine x labels))) ≡ toBits binary64 x
 bits-back x labels f = rw (sum-place x labels) (read-digits 16 (omega arith) (omega arith) 16 (toBits binary64 x) (toBits-lt binary64 x f))
 
 pub read-back : ReadBack

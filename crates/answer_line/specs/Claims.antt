@@ -5,15 +5,15 @@ use mathlib.Core.List.{List}
 use lib.Dec.{T}
 use lib.ListN.{length, take, drop, getD}
 use lib.Ieee.{Float, binary64, fits, toBits, ofBits}
-use Rattle.answer_line.specs.Digits.{decimal, read}
-use Rattle.answer_line.specs.Line.{pathLine, refusedLine}
+use Rattle.answer_line.specs.Digits.{decimal, readDigits}
+use Rattle.answer_line.specs.Line.{pathLine, refusedLine, pathRoom}
 
 pub record ReadBack : Type 0 where
   -- the 16 digits after `PATH` and a space are the sum's bits, and so the sum
-  pub bits : (x : Float) (labels : List ℕ) → T (fits binary64 x) → read 16 (take 16 (drop 5 (pathLine x labels))) ≡ toBits binary64 x
-  pub sum : (x : Float) (labels : List ℕ) → T (fits binary64 x) → ofBits binary64 (read 16 (take 16 (drop 5 (pathLine x labels)))) ≡ x
+  pub bits : (x : Float) (labels : List ℕ) → T (fits binary64 x) → readDigits 16 (take 16 (drop 5 (pathLine x labels))) ≡ toBits binary64 x
+  pub sum : (x : Float) (labels : List ℕ) → T (fits binary64 x) → ofBits binary64 (readDigits 16 (take 16 (drop 5 (pathLine x labels)))) ≡ x
   -- a label, a number or a place of 64 bits
-  pub number : (n : ℕ) → n < 2 ^ 64 → read 10 (decimal n) ≡ n
+  pub number : (n : ℕ) → n < 2 ^ 64 → readDigits 10 (decimal n) ≡ n
   -- no zero stands in front of another digit
   pub shortest : (n : ℕ) → n < 2 ^ 64 → 9 < n → getD (decimal n) 0 0 ≡ 48 → ⊥
 
@@ -31,6 +31,6 @@ pub record OneSaying : Type 0 where
 
 pub record Longest : Type 0 where
   -- with 128 labels of two digits: 4 + 1 + 16 + 1 + (256 + 127) + 1
-  pub path : (x : Float) (labels : List ℕ) → length labels ≤ 128 → ((i : ℕ) → i < length labels → getD labels i 0 < 100) → length (pathLine x labels) ≤ 406
+  pub path : (x : Float) (labels : List ℕ) → length labels ≤ 128 → ((i : ℕ) → i < length labels → getD labels i 0 < 100) → length (pathLine x labels) ≤ pathRoom
   -- with two numbers of 20 digits: 7 + 1 + 20 + 1 + 20 + 1
   pub refused : (number place : ℕ) → length (refusedLine number place) ≤ 50

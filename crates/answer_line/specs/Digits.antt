@@ -19,12 +19,12 @@ placesWithin zero n = 0
 placesWithin (suc most) n = cond (ltb n 10) 1 (placesWithin most (n / 10) + 1)
 
 -- no number of 64 bits has more than 20
-unfoldable pub places : ℕ → ℕ
-places n = placesWithin 20 n
+unfoldable pub decimalPlaces : ℕ → ℕ
+decimalPlaces n = placesWithin 20 n
 
 -- a number of 64 bits in decimal, with no zeros in front
 unfoldable pub decimal : ℕ → List ℕ
-decimal n = digits 10 (places n) n
+decimal n = digits 10 (decimalPlaces n) n
 
 -- ---- reading back
 
@@ -38,5 +38,5 @@ readOn base value [] = value
 readOn base value (character ∷ rest) = readOn base (value * base + worth character) rest
 
 -- the number that digits stand for
-abbrev pub read : ℕ → List ℕ → ℕ
-read base text = readOn base 0 text
+abbrev pub readDigits : ℕ → List ℕ → ℕ
+readDigits base text = readOn base 0 text

@@ -54,6 +54,10 @@ unfoldable pub stored : List ℕ → ℕ → List ℕ → List ℕ
 stored line at [] = line
 stored line at (byte ∷ part) = stored (set line at byte) (at + 1) part
 
+-- room for the longest line of a path, `Longest` in specs/Claims
+abbrev pub pathRoom : ℕ
+pathRoom = 406
+
 -- there is room for a part of a line from a place on
 pub record RoomFor (part line : List ℕ) (at : ℕ) : Type 0 where
   pub room : at + length part ≤ length line

@@ -6,7 +6,7 @@ ghost use Prim.Native.Nat.{_+_, _≤_, _<_};
 ghost use lib.Dec.{T};
 ghost use lib.ListN.{length};
 ghost use lib.Ieee.{isNan};
-ghost use Rattle.answer_line.specs.Digits.{digit as Digits·digit, digits, places as Digits·places, decimal};
+ghost use Rattle.answer_line.specs.Digits.{digit as Digits·digit, digits, decimalPlaces, decimal};
 ghost use Rattle.answer_line.specs.Line.{joinedLabels, pathLine, refusedLine, Written, RoomFor, Put};
 
 // Room for every line of a path of at most 128 labels below 100.
@@ -28,7 +28,7 @@ fn digit(d: u64) -> u8
 
 // How many decimal digits a number has.
 fn places(n: u64) -> usize
-    ensures { λ r. ⌜ r ≡ Digits·places n ⌝ }
+    ensures { λ r. ⌜ r ≡ decimalPlaces n ⌝ }
 {
     let mut k = 1usize;
     let mut rest = n;

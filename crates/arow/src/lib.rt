@@ -90,7 +90,11 @@ pub fn update(
     covariance: &mut [f64],
 ) -> Outcome
     requires { ⌜ Held features (length (now truly)) (length (now predicted)) (length (now weights)) (length (now covariance)) ⌝ }
-    ensures { λ r. ⌜ ((variance : Float) (words : ℕ) (counter : Float) → Updated (arow variance gamma) features (record { words = words; wrong = wrong; truly = now (truly .entry); predicted = now (predicted .entry); trueScore = wanted; predictedScore = reached; weight = weight; counter = counter }) (record { weights = now (weights .entry); beside = now (covariance .entry) }) (record { weights = now (weights .exit); beside = now (covariance .exit) }) r) ⌝ }
+    ensures { λ r. ⌜ ((variance : Float) (words : ℕ) (counter : Float) →
+        Updated (arow variance gamma) features
+        (record { words = words; wrong = wrong; truly = now (truly .entry); predicted = now (predicted .entry); trueScore = wanted; predictedScore = reached; weight = weight; counter = counter })
+        (record { weights = now (weights .entry); beside = now (covariance .entry) })
+        (record { weights = now (weights .exit); beside = now (covariance .exit) }) r) ⌝ }
 {
     let cost = cost_of(wrong, reached, wanted);
     let alpha = cost / spread_of(features, weight, gamma, truly, predicted, covariance);

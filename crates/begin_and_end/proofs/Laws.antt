@@ -1,6 +1,6 @@
 -- The end of a training: what a run comes to, by the tests that the code makes. Assumes nothing.
 use mathlib.Core.Path.{_≡_, refl, sym, ap, _∙_}
-use mathlib.Core.Bool.{Bool, true, false, cond, true≢false}
+use mathlib.Core.Bool.{Bool, true, false, true≢false}
 use mathlib.Core.List.{List, [], _∷_}
 use Prim.Native.Nat.{ℕ, _+_}
 use denote.Enum.Declared.{tagOf}
@@ -18,11 +18,12 @@ use Rattle.training.specs.declared.Training.the-variants.{Accepted, Refused as 
 use Rattle.training.proofs.Visit.{the-type}
 use Rattle.lines.specs.Data.{Data}
 use Rattle.fronts.specs.Finite.{allFinite}
-use Rattle.training.specs.Rules.{Rule, Learned, averagedBy}
+use Rattle.training.specs.Rules.{Rule, averagedBy}
 use Rattle.training.specs.Epochs.{Settings, Run, Result, isRefused, refusedWith, averaged, finished}
 use Rattle.begin_and_end.specs.declared.Ran.{Ran}
 use Rattle.begin_and_end.specs.Ending.{Finished, AveragedAs}
 
+-- ---- the end
 -- a visit that is one of the two other variants was not refused
 pub not-refused : (v : Visit) → OneOf (0 ∷ 1 ∷ []) (tagOf the-type v) → isRefused v ≡ false
 not-refused Unchanged k = refl

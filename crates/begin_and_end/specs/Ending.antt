@@ -7,6 +7,7 @@ use lib.ListN.{replicate}
 use lib.Ieee.{Float}
 use Rattle.binary64.specs.Numbers.{nought}
 use Rattle.fronts.specs.Finite.{allFinite}
+use Rattle.training.specs.Counter.{mostVisits}
 use Rattle.training.specs.Rules.{Rule, Learned, besideAtFirst, averagedBy}
 use Rattle.training.specs.Epochs.{Run, isRefused, upTo}
 use Rattle.begin_and_end.specs.declared.Ran.{Ran}
@@ -34,4 +35,4 @@ pub record Finished (made : Ran) (weights beside : List Float) (meant : Run) : T
   pub progress : made .progress ≡ meant .state .progress
   pub epochs : isRefused (meant .state .progress .visit) ≡ false → made .epochs ≡ meant .epochs
   pub learned : isRefused (meant .state .progress .visit) ≡ false → _≡_ {A = Learned} (record { weights = weights; beside = beside }) (meant .state .learned)
-  pub visits : made .progress .visits ≤ 16384000
+  pub visits : made .progress .visits ≤ mostVisits

@@ -9,6 +9,8 @@ ghost use Rattle.shuffle.specs.Shuffle.{Deal, shuffled};
 ghost use Rattle.lines.specs.Passes.{through};
 ghost use Rattle.lines.specs.Tables.{Model};
 ghost use Rattle.lines.specs.Data.{Data};
+ghost use Rattle.refusals.specs.Bounds.{theInstances, most};
+ghost use Rattle.training.specs.Counter.{mostVisits};
 ghost use Rattle.training.specs.Rules.{Learned, besideAtFirst, averagedAt, averagedBy};
 ghost use Rattle.training.specs.Epochs.{Settings, Run, Result, finished};
 ghost use Rattle.parameters.specs.Trainers.{ruleOf};
@@ -45,7 +47,7 @@ pub fn begin(
     weights: &mut [f64],
     beside: &mut [f64],
 )
-    requires { ⌜ (instances ≤ 16384) × (length (now order) ≡ instances) × (length (now weights) ≡ features) × (length (now beside) ≡ features) ⌝ }
+    requires { ⌜ (instances ≤ most theInstances) × (length (now order) ≡ instances) × (length (now weights) ≡ features) × (length (now beside) ≡ features) ⌝ }
     ensures { λ _. ⌜ Begun (ruleOf trainer) features instances (now (order .exit)) (now (weights .exit)) (now (beside .exit)) ⌝ }
 {
     training_tables::count_up(order, instances as u32);
@@ -55,7 +57,7 @@ pub fn begin(
 
 // An epoch begins: the order of the epoch before is shuffled. The answer is the generator's state to go on with.
 pub fn deal(state: u64, n: usize, order: &mut [u32]) -> u64
-    requires { ⌜ (0 < n) × (n ≤ 16384) × (n ≤ length (now order)) ⌝ }
+    requires { ⌜ (0 < n) × (n ≤ most theInstances) × (n ≤ length (now order)) ⌝ }
     ensures { λ r. ⌜ _≡_ {A = Deal} (record { state = r; order = now (order .exit) }) (shuffled n (record { state = state; order = now (order .entry) })) ⌝ }
 {
     shuffle::shuffle(state, n, order)
@@ -102,8 +104,13 @@ pub fn conclude(
     beside: &[f64],
     weights: &mut [f64],
 ) -> Training
-    requires { ⌜ (length (now weights) ≡ features) × (length (now beside) ≡ features) × (ran .progress .visits ≤ 16384000) ⌝ }
-    ensures { λ r. ⌜ ((set : Settings) (m : Model) (d : Data) (meant : Run) → m .features .count ≡ features → Finished ran (now (weights .entry)) (now (beside .entry)) meant → _≡_ {A = Result} (record { answer = r; weights = now (weights .exit) }) (finished (ruleOf trainer) set m d (meant .state .progress .visit) meant)) ⌝ }
+    requires { ⌜ (length (now weights) ≡ features) × (length (now beside) ≡ features) × (ran .progress .visits ≤ mostVisits) ⌝ }
+    ensures { λ r.
+        let made : Result = record { answer = r; weights = now (weights .exit) } in
+        ⌜ ((set : Settings) (m : Model) (d : Data) (meant : Run) →
+        m .features .count ≡ features →
+        Finished ran (now (weights .entry)) (now (beside .entry)) meant →
+        made ≡ finished (ruleOf trainer) set m d (meant .state .progress .visit) meant) ⌝ }
 {
     let progress = ran.progress;
     let visit = progress.visit;

@@ -5,7 +5,7 @@ use native.Mathlib.Omega.{arith}
 use lib.Dec.{T}
 use lib.Ieee.{Float, nan, inf, fin, binary64, add, le, isNan}
 use lib.Ieee.Scale.{finite}
-use Rattle.binary64.specs.Order.{number}
+use Rattle.binary64.specs.Order.{isNumber}
 use Rattle.binary64.proofs.Order.{le-refl, le-trans}
 use Rattle.binary64.proofs.Sums.{add-number, add-mono}
 use Rattle.best_path.specs.Scores.{Scores, AllFinite, labelAt, extended, sumThrough}
@@ -13,7 +13,7 @@ use Rattle.best_path.specs.Decoded.{highest, best, back}
 use Rattle.best_path.proofs.Largest.{largest-none-above, largest-none-after}
 use Rattle.best_path.proofs.Paths.{back-within}
 
-finite-number : (x : Float) → T (finite x) → T (number x)
+finite-number : (x : Float) → T (finite x) → T (isNumber x)
 unfolding isNan
 finite-number nan h = h
 finite-number (inf s) h = tt
@@ -29,7 +29,7 @@ module _ (s : Scores) (words : ℕ) (some : 0 < s .labels) (fine : AllFinite s w
   Below path count = (t : ℕ) → t < count → labelAt path t < s .labels
 
   -- ---- one word more makes a number of a number, and keeps the order
-  extended-number : (v : Float) (k t l : ℕ) → t < words → k < s .labels → l < s .labels → T (number v) → T (number (extended s v k t l))
+  extended-number : (v : Float) (k t l : ℕ) → t < words → k < s .labels → l < s .labels → T (isNumber v) → T (isNumber (extended s v k t l))
   unfolding extended
   extended-number v k t l a b c h =
       add-number binary64 (add binary64 v (s .transition k l)) (s .state t l) (add-number binary64 v (s .transition k l) h (fine .transitions k l b c)) (fine .states t l a c)
@@ -39,7 +39,7 @@ module _ (s : Scores) (words : ℕ) (some : 0 < s .labels) (fine : AllFinite s w
   extended-mono v w k t l a b c h =
       add-mono binary64 (add binary64 v (s .transition k l)) (add binary64 w (s .transition k l)) (s .state t l) (fine .states t l a c) (add-mono binary64 v w (s .transition k l) (fine .transitions k l b c) h)
 
-  pub best-number : (t l : ℕ) → t < words → l < s .labels → T (number (best s t l))
+  pub best-number : (t l : ℕ) → t < words → l < s .labels → T (isNumber (best s t l))
   unfolding best back
   best-number zero l a b = finite-number (s .state 0 l) (fine .states 0 l a b)
   best-number (suc t) l a b =

@@ -8,7 +8,7 @@ use native.Mathlib.Nat as N
 use native.Mathlib.Omega.{arith}
 use lib.Dec.{T, T-not}
 use lib.Ieee.{Float, le}
-use Rattle.binary64.specs.Order.{number}
+use Rattle.binary64.specs.Order.{isNumber}
 use Rattle.binary64.proofs.Order.{le-refl, le-trans, le-total}
 use Rattle.best_path.specs.Decoded.{lastLargest}
 
@@ -42,16 +42,16 @@ largest-none-after g (suc n) k h t = elim (newest-taken g n) [
 
 -- nothing is above it, where g has numbers only
 abbrev pub Numbers : (ℕ → Float) → ℕ → Type 0
-Numbers g n = (k : ℕ) → k ≤ n → T (number (g k))
+Numbers g n = (k : ℕ) → k ≤ n → T (isNumber (g k))
 
-other-way : (x y : Float) → T (number x) → T (number y) → T (not (le x y)) → T (le y x)
+other-way : (x y : Float) → T (isNumber x) → T (isNumber y) → T (not (le x y)) → T (le y x)
 other-way x y p q h = elim (le-total x y p q) [ inl k ↦ absurd (T-not (le x y) h k) | inr k ↦ k ]
 
 pub largest-none-above : (g : ℕ → Float) (n : ℕ) → Numbers g n → (k : ℕ) → k ≤ n → T (le (g k) (g (lastLargest g n)))
 largest-none-above g zero num k h = let e : k ≡ 0 = omega arith in rw e (unfold lastLargest in le-refl (g 0) (num 0 zero-le))
 largest-none-above g (suc n) num k h =
     let a = lastLargest g n in
-    let new : T (number (g (suc n))) = num (suc n) (N.le-refl (suc n)) in
+    let new : T (isNumber (g (suc n))) = num (suc n) (N.le-refl (suc n)) in
     let fewer : Numbers g n = λ i l. num i (N.le-trans l (N.le-suc n)) in
     elim (newest-taken g n) [
       | inl w ↦ rw (w .0) (elim (newest k n h) [ inl e ↦ rw e (le-refl (g (suc n)) new) | inr l ↦ le-trans (g k) (g a) (g (suc n)) (largest-none-above g n fewer k l) (w .1) ])

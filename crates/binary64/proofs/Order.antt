@@ -9,18 +9,18 @@ use lib.IntN.{ℤ, pos}
 use lib.Dec.{T, T-not}
 use lib.Ieee.{Float, nan, inf, fin, up, down, below, level, lt, le, eq, isNan}
 use lib.Ieee.Fits.{down-pos}
-use Rattle.binary64.specs.Order.{number, Ordered}
+use Rattle.binary64.specs.Order.{isNumber, Ordered}
 use Rattle.binary64.proofs.Signed.{over, under, Cross, below→, →below, test→, →test, level→, →level, fin-le→, →fin-le, le-or-le, cross-trans, or-r, or-split, iff-eq}
 
 -- ---- the infinities, and NaN
 
-pub le-number-l : (x y : Float) → T (le x y) → T (number x)
+pub le-number-l : (x y : Float) → T (le x y) → T (isNumber x)
 unfolding le isNan
 le-number-l nan y h = h
 le-number-l (inf s) y h = tt
 le-number-l (fin s m e) y h = tt
 
-pub le-number-r : (x y : Float) → T (le x y) → T (number y)
+pub le-number-r : (x y : Float) → T (le x y) → T (isNumber y)
 unfolding le isNan
 le-number-r nan nan h = h
 le-number-r (inf s) nan h = h
@@ -28,14 +28,14 @@ le-number-r (fin s m e) nan h = h
 le-number-r x (inf s) h = tt
 le-number-r x (fin s m e) h = tt
 
-pub bottom : (y : Float) → T (number y) → T (le (inf true) y)
+pub bottom : (y : Float) → T (isNumber y) → T (le (inf true) y)
 unfolding le isNan
 bottom nan h = h
 bottom (inf true) h = tt
 bottom (inf false) h = tt
 bottom (fin t n d) h = tt
 
-pub top : (x : Float) → T (number x) → T (le x (inf false))
+pub top : (x : Float) → T (isNumber x) → T (le x (inf false))
 unfolding le isNan
 top nan h = h
 top (inf true) h = tt
@@ -50,7 +50,7 @@ only-top (inf false) h = refl
 only-top (fin t n d) h = absurd h
 
 -- ---- `le` is a total preorder on the numbers
-pub le-refl : (x : Float) → T (number x) → T (le x x)
+pub le-refl : (x : Float) → T (isNumber x) → T (le x x)
 unfolding isNan
 le-refl nan h = absurd h
 le-refl (inf true) h = unfold le in tt
@@ -71,7 +71,7 @@ le-trans (fin s m e) (fin t n d) (inf false) h k = tt
 le-trans (fin s m e) (fin t n d) (fin u l g) h k =
     →fin-le s m e u l g (cross-trans (over s (m * up e)) (under s (m * up e)) (down e) (over t (n * up d)) (under t (n * up d)) (down d) (over u (l * up g)) (under u (l * up g)) (down g) (down-pos d) (fin-le→ s m e t n d h) (fin-le→ t n d u l g k))
 
-pub le-total : (x y : Float) → T (number x) → T (number y) → T (le x y) ⊎ T (le y x)
+pub le-total : (x y : Float) → T (isNumber x) → T (isNumber y) → T (le x y) ⊎ T (le y x)
 unfolding isNan
 le-total nan y p q = absurd p
 le-total (inf true) y p q = inl (bottom y q)
@@ -95,7 +95,7 @@ flip-test s a t b = iff-eq (below s a t b) (below t b s a || level t b s a) (λ 
     other : (T (below t b s a || level t b s a) → ⊥) → over s a + under t b < over t b + under s a
     other k = lt-of-not-le (λ h. k (→test t b s a h))
 
-pub lt-is : (x y : Float) → T (number x) → T (number y) → lt x y ≡ not (le y x)
+pub lt-is : (x y : Float) → T (isNumber x) → T (isNumber y) → lt x y ≡ not (le y x)
 unfolding lt le isNan
 lt-is nan y p q = absurd p
 lt-is (inf s) nan p q = absurd q
@@ -138,7 +138,7 @@ eq-of-le-le x y h k = unfold le in go (or-split (lt x y) (eq x y) h)
     go (inl u) = absurd (T-not (le y x) (subst T (lt-is x y (le-number-l x y h) (le-number-r x y h)) u) k)
     go (inr u) = u
 
-pub eq-refl : (x : Float) → T (number x) → T (eq x x)
+pub eq-refl : (x : Float) → T (isNumber x) → T (eq x x)
 eq-refl x p = eq-of-le-le x x (le-refl x p) (le-refl x p)
 
 pub eq-trans : (x y z : Float) → T (eq x y) → T (eq y z) → T (eq x z)

@@ -13,7 +13,7 @@ use lib.Ieee.Fits.{up-pos, down-pos, core, round-is}
 use lib.Ieee.Exact.{HasValue, round-exact}
 use lib.Ieee.Order.{round-mono}
 use lib.Ieee.Scale.{finite}
-use Rattle.binary64.specs.Order.{number, SumsKeepOrder}
+use Rattle.binary64.specs.Order.{isNumber, SumsKeepOrder}
 use Rattle.binary64.proofs.Signed.{over, under, Cross, →fin-le, fin-le→, over-mul, under-mul}
 use Rattle.binary64.proofs.Order.{bottom, top, le-number-r}
 
@@ -78,7 +78,7 @@ units-has f s q k = cond-has s (ltb (q * 2 ^ k) (2 ^ (low f + suc (emax f)))) (o
 round-has : (f : Format) (s : Bool) (a b : ℕ) → HasSign s (round f s a b)
 round-has f s a b = subst (λ (x : Float). HasSign s x) (sym (round-is f s a b)) (units-has f s _ _)
 
-has-number : (s : Bool) (x : Float) → HasSign s x → T (number x)
+has-number : (s : Bool) (x : Float) → HasSign s x → T (isNumber x)
 unfolding isNan
 has-number s nan h = absurd h
 has-number s (inf t) h = tt
@@ -171,7 +171,7 @@ sum-cross P N p Q M q R K r h =
     let x : (P * q + M * p) * (r * r) ≤ (Q * p + N * q) * (r * r) = mul-le-mul-right (r * r) h in
     omega arith
 
-pub add-number : (f : Format) (x z : Float) → T (number x) → T (finite z) → T (number (add f x z))
+pub add-number : (f : Format) (x z : Float) → T (isNumber x) → T (finite z) → T (isNumber (add f x z))
 add-number f nan z p q = absurd (unfold isNan in p)
 add-number f (inf s) nan p q = absurd q
 add-number f (inf s) (inf t) p q = absurd q

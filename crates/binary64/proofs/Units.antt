@@ -11,7 +11,7 @@ use lib.Ieee.{Float, nan, inf, fin, binary64, fits, lt, up, down}
 use lib.Ieee.Digits.{back}
 use lib.Ieee.Fits.{and-l, and-r}
 use lib.Ieee.Positive.{num, den}
-use Rattle.binary64.specs.Units.{plain, one, Units}
+use Rattle.binary64.specs.Units.{plain, unitsInOne, Units}
 
 -- binary64 holds a plain value
 pub held : (x : Float) → T (plain x) → T (fits binary64 x)
@@ -39,11 +39,11 @@ placed m l (negsuc a) h =
     )
 
 pub taken : (x : Float) → T (plain x) → Taken x
-unfolding fits one
+unfolding fits unitsInOne
 taken nan t = absurd t
 taken (inf s) t = absurd t
 taken (fin true m e) t = absurd t
-taken (fin false zero e) t = (0, 0, lit< tt, ap (λ (x : ℕ). x * one) (zero-mul (up e)) ∙ sym (zero-mul (down e)))
+taken (fin false zero e) t = (0, 0, lit< tt, ap (λ (x : ℕ). x * unitsInOne) (zero-mul (up e)) ∙ sym (zero-mul (down e)))
 taken (fin false (suc m) e) t =
     let A = eqb (suc m % 2) 1 in
     let B = ltb (suc m) (2 ^ 53) in
@@ -64,15 +64,15 @@ order (fin false m e) (fin true n d) p q = absurd q
 order (fin false m e) (fin false n d) p q = refl
 
 -- ---- from units to fractions
-pub one-pos : 0 < one
-unfolding one
+pub one-pos : 0 < unitsInOne
+unfolding unitsInOne
 one-pos = pow-pos 1074
 
 -- x and y over the one denominator den x * den y, in units
-pub first : (x y : Float) (u : ℕ) → Units x u → num x * den y * one ≡ u * (den x * den y)
-first x y u p = mul-right-comm (num x) (den y) one ∙ ap (λ (z : ℕ). z * den y) p ∙ mul-assoc u (den x) (den y)
+pub first : (x y : Float) (u : ℕ) → Units x u → num x * den y * unitsInOne ≡ u * (den x * den y)
+first x y u p = mul-right-comm (num x) (den y) unitsInOne ∙ ap (λ (z : ℕ). z * den y) p ∙ mul-assoc u (den x) (den y)
 
-pub second : (x y : Float) (v : ℕ) → Units y v → num y * den x * one ≡ v * (den x * den y)
+pub second : (x y : Float) (v : ℕ) → Units y v → num y * den x * unitsInOne ≡ v * (den x * den y)
 second x y v q = first y x v q ∙ ap (λ (z : ℕ). v * z) (mul-comm (den y) (den x))
 
 pub lt-units : (x y : Float) (u v : ℕ) → T (plain x) → T (plain y) → Units x u → Units y v → T (lt x y) → u < v

@@ -12,9 +12,9 @@ plain (inf s) = false
 plain (fin s m e) = not s && fits binary64 (fin s m e)
 
 -- how many units 1 is
-unfoldable pub one : ℕ
-one = 2 ^ low binary64
+unfoldable pub unitsInOne : ℕ
+unitsInOne = 2 ^ low binary64
 
 -- x, the fraction num x / den x, is u units
 abbrev pub Units : Float → ℕ → Type 0
-Units x u = num x * one ≡ u * den x
+Units x u = num x * unitsInOne ≡ u * den x

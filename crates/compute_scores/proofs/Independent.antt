@@ -9,7 +9,7 @@ use Rattle.refusals.specs.Said.{accepted, saidOf}
 use Rattle.refusals.proofs.Said.{done-said}
 use Rattle.same_scores.proofs.Same.{only-named-matters}
 use Rattle.compute_scores.specs.Promise.{Given, Buffers, Outcome, stateEntries, transitionEntries, statesOfLine, transitionsOfLine, checkedOf, finishedOf, answerTo, statesAfter, transitionsAfter, Promised}
-use Rattle.compute_scores.specs.Independent.{inputOf, SameScores}
+use Rattle.compute_scores.specs.Independent.{scoringInputOf, SameScores}
 
 -- the fronts of a line that is scored hold its scores
 module _ (given : Given) (before : Buffers) (outcome : Outcome) (kept : Promised given before outcome) (scored : saidOf (outcome .answer) ≡ accepted tt) where
@@ -27,7 +27,7 @@ module _ (given : Given) (before : Buffers) (outcome : Outcome) (kept : Promised
 
 pub same-scores : SameScores
 same-scores a b agree before other x y p q xs ys =
-    let s = only-named-matters (inputOf a) (inputOf b) agree in
+    let s = only-named-matters (scoringInputOf a) (scoringInputOf b) agree in
     record {
       transitions = front-transitions a before x p xs ∙ s .same-transitions ∙ sym (front-transitions b other y q ys);
       states = front-states a before x p xs ∙ s .same-states ∙ sym (front-states b other y q ys);

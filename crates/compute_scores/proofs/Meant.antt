@@ -1,5 +1,5 @@
 -- What scoring a line answers means what `ScoringMeans` says. Assumes nothing.
-use mathlib.Core.Path.{_≡_, sym, _∙_}
+use mathlib.Core.Path.{sym, _∙_}
 use Rattle.refusals.specs.declared.Checked.{Checked}
 use Rattle.refusals.specs.Refusals.{numbered, orNext}
 use Rattle.line_check.proofs.Meant.{scoring-means}

@@ -2,12 +2,12 @@
 use mathlib.Core.Path.{_≡_}
 use lib.ListN.{take}
 use Rattle.refusals.specs.Said.{accepted, saidOf}
-use Rattle.same_scores.specs.Named.{Input}
+use Rattle.same_scores.specs.Named.{ScoringInput}
 use Rattle.same_scores.specs.Agree.{Agree}
 use Rattle.compute_scores.specs.Promise.{Given, Buffers, Outcome, stateEntries, transitionEntries, Promised}
 
-abbrev pub inputOf : Given → Input
-inputOf given = record {
+abbrev pub scoringInputOf : Given → ScoringInput
+scoringInputOf given = record {
   model = given .model;
   weights = given .weights;
   table = given .line;
@@ -16,13 +16,13 @@ inputOf given = record {
 }
 
 -- the needed fronts hold the same
-pub record SameFronts (a b : Given) (x y : Outcome) : Type 0 where
+pub record SameScoreFronts (a b : Given) (x y : Outcome) : Type 0 where
   pub transitions : take (transitionEntries a) (x .transitions) ≡ take (transitionEntries b) (y .transitions)
   pub states : take (stateEntries a) (x .states) ≡ take (stateEntries b) (y .states)
 
 abbrev pub SameScores : Type 0
 SameScores =
-    (a b : Given) → Agree (inputOf a) (inputOf b) →
+    (a b : Given) → Agree (scoringInputOf a) (scoringInputOf b) →
     (before other : Buffers) (x y : Outcome) → Promised a before x → Promised b other y →
     saidOf (x .answer) ≡ accepted tt → saidOf (y .answer) ≡ accepted tt →
-    SameFronts a b x y
+    SameScoreFronts a b x y

@@ -1,3 +1,4 @@
 pub mod Promise
 pub mod Meaning
 pub mod Independent
+pub mod Entry

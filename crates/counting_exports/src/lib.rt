@@ -1,5 +1,6 @@
 // The feature counts of a line, for programs in C and Rust: one call of the crate counting, and its answer as numbers.
-ghost use Rattle.feature_gen.specs.Lent.{modelOf};
+ghost use Rattle.lines.specs.Entry.{lineWas};
+ghost use Rattle.feature_gen.specs.Lent.{modelWas};
 ghost use Rattle.counting_exports.specs.Counts.{Counted};
 use answers::checks::Refused;
 use feature_gen::Counts;
@@ -24,7 +25,11 @@ pub extern "C" fn bodkinbloom_extract_features(
     path: &[u32],
     feature_counts: &mut [f64],
 ) -> Refused
-    ensures { λ r. ⌜ Counted (record { model = modelOf labels counts (now (kinds .entry)) (now (destinations .entry)) (now (sources .entry)) (now («attribute_starts» .entry)) (now («attribute_entries» .entry)) (now («label_starts» .entry)) (now («label_entries» .entry)); words = words; line = record { starts = now («word_starts» .entry); size = attributes; ids = now (ids .entry); values = now (values .entry) }; path = now (path .entry) }) (now («feature_counts» .entry)) (record { answer = r; counts = now («feature_counts» .exit) }) ⌝ }
+    ensures { λ r.
+        let m = modelWas labels counts kinds destinations sources «attribute_starts» «attribute_entries» «label_starts» «label_entries» in
+        let line = lineWas attributes «word_starts» ids values in
+        ⌜ Counted (record { model = m; words = words; line = line; path = now (path .entry) })
+        (now («feature_counts» .entry)) (record { answer = r; counts = now («feature_counts» .exit) }) ⌝ }
 {
     let answer = extract_features::extract_features(
         labels,

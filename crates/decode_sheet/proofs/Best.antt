@@ -15,7 +15,7 @@ use Rattle.sheet.specs.File.{Sheet, encoded, SoundSheet}
 use Rattle.sheet.proofs.Files.{labels-back, words-back, transitions-back, states-back, right-file, right-files}
 use Rattle.answer_line.specs.Line.{pathLine}
 use Rattle.answer_line.proofs.OneSaying.{one-saying}
-use Rattle.decode_sheet.specs.Answer.{pathLineOf, lineChecked}
+use Rattle.decode_sheet.specs.Answer.{pathLineOf, bufferChecked}
 use Rattle.decode_sheet.specs.Promise.{Given, Outcome, said, answerTo, lineAfter, Promised}
 use Rattle.decode_sheet.specs.Program.{printedLine}
 use Rattle.decode_sheet.specs.Meaning.{SaysPath}
@@ -66,7 +66,7 @@ answered-line : (given : Given) (before : List ℕ) (outcome : Outcome) → Prom
 unfolding answerTo lineAfter
 answered-line given before outcome p size h =
     let text = pathLineOf (given .bytes) in
-    let w = path-by text (lineChecked (given .bytes) (length before)) size (sym h ∙ p .answers) in
+    let w = path-by text (bufferChecked (given .bytes) (length before)) size (sym h ∙ p .answers) in
     rw (w .1, p .fills-line, w .0) (take-at text (drop (length text) before) (length text) refl)
 
 pub answered-paths-are-best : AnsweredPathsAreBest

@@ -18,7 +18,8 @@ use Rattle.sheet.specs.Rows.{headRows}
 use Rattle.sheet.specs.RowsMeaning.{InBounds, RightLength}
 use Rattle.sheet.proofs.Rows.{headChecked, head-refused, sizes-refused}
 use Rattle.sheet.proofs.RowsMeant.{in-bounds, file-means}
-use Rattle.decode_sheet.specs.Answer.{lineShort, lineChecked, pathLineOf}
+use Rattle.answer_line.specs.Line.{pathRoom}
+use Rattle.decode_sheet.specs.Answer.{lineShort, bufferChecked, pathLineOf}
 use Rattle.decode_sheet.specs.Program.{lineSaid, printedLine}
 use Rattle.decode_sheet.specs.Front.{longestSheet, FrontDecides}
 use Rattle.decode_sheet.proofs.Rows.{line-means}
@@ -51,11 +52,11 @@ too-long file h b e =
     omega arith
 
 -- a longer file: the rows of the head, then 10
-pub long-file : (file : List ℕ) (room : ℕ) → 406 ≤ room → longestSheet < length file → lineChecked file room ≡ orNext (headChecked file) (refusedAt 10 0)
+pub long-file : (file : List ℕ) (room : ℕ) → pathRoom ≤ room → longestSheet < length file → bufferChecked file room ≡ orNext (headChecked file) (refusedAt 10 0)
 unfolding headChecked orNext
 long-file file room l h = go (headChecked file) refl
   where
-    go : (c : Checked) → headChecked file ≡ c → lineChecked file room ≡ orNext (headChecked file) (refusedAt 10 0)
+    go : (c : Checked) → headChecked file ≡ c → bufferChecked file room ≡ orNext (headChecked file) (refusedAt 10 0)
     go Accepted e =
         let b = in-bounds file .0 (all-accepted Accepted (headRows file) e .1) in
         rw e (file-means file (line-means room) .ten .1 (inr ((b, l), too-long file h b)))
@@ -71,10 +72,10 @@ pub front-decides : FrontDecides
 unfolding printedLine
 front-decides n l file = go (ltb n (length file)) refl
   where
-    go : (b : Bool) → ltb n (length file) ≡ b → lineSaid (lineChecked (take n file) 406) (pathLineOf (take n file)) ≡ lineSaid (lineChecked file 406) (pathLineOf file)
+    go : (b : Bool) → ltb n (length file) ≡ b → lineSaid (bufferChecked (take n file) pathRoom) (pathLineOf (take n file)) ≡ lineSaid (bufferChecked file pathRoom) (pathLineOf file)
     go true e =
         let h = ltb-true n (length file) e in
         let s = length-take-le n file (omega arith) in
-        rw (long-file (take n file) 406 (omega arith) (omega arith), long-file file 406 (omega arith) (omega arith), head-same n file (omega arith) (omega arith))
+        rw (long-file (take n file) pathRoom (omega arith) (omega arith), long-file file pathRoom (omega arith) (omega arith), head-same n file (omega arith) (omega arith))
         (said-refused (headChecked file) (pathLineOf (take n file)) (pathLineOf file))
     go false e = rw (take-all n file (ltb-false n (length file) e))

@@ -8,6 +8,8 @@ use lib.Seq.{take-at, length-take-le}
 use lib.Ieee.{Float}
 use Rattle.refusals.specs.declared.Refusal.{Refusal}
 use Rattle.refusals.specs.declared.Checked.the-variants.{Accepted, Refused}
+use Rattle.best_path.specs.Scores.{tabled}
+use Rattle.best_path.specs.Decoded.{decodedPath, decodedSum}
 use Rattle.score_tables.specs.Sound.{SoundScores}
 use Rattle.sheet.specs.declared.Reading.{Reading}
 use Rattle.sheet.specs.Fields.{labelsIn, wordsIn, transitionsIn, statesIn}
@@ -17,15 +19,16 @@ use Rattle.sheet.proofs.Meant.{refused-by}
 use Rattle.sheet.proofs.Rows.{accepts}
 use Rattle.sheet.proofs.RowsMeant.{file-means}
 use Rattle.answer_line.specs.Line as line
+use Rattle.answer_line.specs.Line.{pathRoom}
 use Rattle.decode_sheet.specs.declared.Written.{Written}
-use Rattle.decode_sheet.specs.Answer.{pathLineOf, lineChecked}
+use Rattle.decode_sheet.specs.Answer.{pathLineOf, bufferChecked}
 use Rattle.decode_sheet.specs.Promise.{answerTo, lineAfter, Promised}
 use Rattle.decode_sheet.proofs.Rows.{Lends, rows, line-means, read-by, transitions-size, states-size, sound-in}
 
 -- the room that is lent of the transitions: none where the line is too short, else all
 pub record Chosen (before : List ℕ) (transitions states : List Float) (room : ℕ) : Type 0 where
-  pub none : length before < 406 → room ≡ 0
-  pub all : 406 ≤ length before → room ≡ length transitions
+  pub none : length before < pathRoom → room ≡ 0
+  pub all : pathRoom ≤ length before → room ≡ length transitions
   pub inside : room ≤ length transitions
   pub long-transitions : 1024 ≤ length transitions
   pub long-states : 4096 ≤ length states
@@ -35,22 +38,22 @@ lent transitions states room = record { transitions = take room transitions; sta
 
 -- the promise, by the two answers
 module _ (bytes before : List ℕ) where
-  pub promised-refused : (why : Refusal) → lineChecked bytes (length before) ≡ Refused why → Promised (record { bytes = bytes }) before (record { answer = Written.Refused why; line = before })
+  pub promised-refused : (why : Refusal) → bufferChecked bytes (length before) ≡ Refused why → Promised (record { bytes = bytes }) before (record { answer = Written.Refused why; line = before })
   unfolding answerTo lineAfter
   promised-refused why h = record { answers = rw h; fills-line = rw h }
 
-  pub promised-path : (size : ℕ) (after : List ℕ) → lineChecked bytes (length before) ≡ Accepted → line.Written (pathLineOf bytes) before size after → Promised (record { bytes = bytes }) before (record { answer = Written.Path size; line = after })
+  pub promised-path : (size : ℕ) (after : List ℕ) → bufferChecked bytes (length before) ≡ Accepted → line.Written (pathLineOf bytes) before size after → Promised (record { bytes = bytes }) before (record { answer = Written.Path size; line = after })
   unfolding answerTo lineAfter
   promised-path size after h w = record { answers = rw (h, w .counted); fills-line = rw h (w .written) }
 
   -- a line that is accepted has its room
-  roomy : lineChecked bytes (length before) ≡ Accepted → 406 ≤ length before
+  roomy : bufferChecked bytes (length before) ≡ Accepted → pathRoom ≤ length before
   roomy h = file-means bytes (line-means (length before)) .accepted .0 h .1
 
 -- what a file that is read gives to the decoder
 pub record Tables (bytes before : List ℕ) (transitions states : List Float) (room labels words : ℕ) (o : reader.Outcome) : Type 0 where
-  pub accepted : lineChecked bytes (length before) ≡ Accepted
-  pub line-long : 406 ≤ length before
+  pub accepted : bufferChecked bytes (length before) ≡ Accepted
+  pub line-long : pathRoom ≤ length before
   pub labels-are : labels ≡ labelsIn bytes
   pub words-are : words ≡ wordsIn bytes
   pub sound : SoundScores (labelsIn bytes) (wordsIn bytes) (transitionsIn bytes) (statesIn bytes)
@@ -58,6 +61,10 @@ pub record Tables (bytes before : List ℕ) (transitions states : List Float) (r
   pub states-front : take (wordsIn bytes * labelsIn bytes) (o .states) ≡ statesIn bytes
   pub transitions-long : labelsIn bytes * labelsIn bytes ≤ length (o .transitions ++ drop room transitions)
   pub states-long : wordsIn bytes * labelsIn bytes ≤ length (o .states)
+
+-- a product, its factors by other names
+pub counted-as : {n x y a b : ℕ} → n ≡ x * y → x ≡ a → y ≡ b → n ≡ a * b
+counted-as e f g = e ∙ rw (f, g)
 
 -- the front of a table that was filled
 front : (table rest more : List Float) (n : ℕ) → length table ≡ n → (take n ((table ++ rest) ++ more) ≡ table) × (n ≤ length ((table ++ rest) ++ more))
@@ -74,7 +81,7 @@ module _ (bytes before : List ℕ) (transitions states : List Float) (room : ℕ
         states = chosen .long-states;
       }
 
-  checked : sheetChecked (record { bytes = bytes }) (lent transitions states room) ≡ lineChecked bytes (length before)
+  checked : sheetChecked (record { bytes = bytes }) (lent transitions states room) ≡ bufferChecked bytes (length before)
   checked = rows bytes (length before) (lent transitions states room) lends
 
   pub read-refused : (o : reader.Outcome) → reader.Promised (record { bytes = bytes }) (lent transitions states room) o → (why : Refusal) → o .answer ≡ Reading.Refused why → Promised (record { bytes = bytes }) before (record { answer = Written.Refused why; line = before })
@@ -103,3 +110,15 @@ module _ (bytes before : List ℕ) (transitions states : List Float) (room : ℕ
         transitions-long = rw t (f .1);
         states-long = rw (s, ← append-nil (statesIn bytes ++ drop (length (statesIn bytes)) states)) (g .1);
       }
+
+-- the fronts of the tables that were read, by how many entries they have
+module _ {bytes before : List ℕ} {transitions states : List Float} {room labels words : ℕ} {o : reader.Outcome} (t : Tables bytes before transitions states room labels words o) {size count : ℕ} (size-is : size ≡ labelsIn bytes * labelsIn bytes) (count-is : count ≡ wordsIn bytes * labelsIn bytes) where
+  pub fronts-sound : SoundScores labels words (take size (o .transitions ++ drop room transitions)) (take count (o .states))
+  fronts-sound = rw (size-is, count-is, t .transitions-front, t .states-front, t .labels-are, t .words-are) (t .sound)
+
+  pub promised-line : {n : ℕ} {after : List ℕ} →
+      (let s = tabled labels (take size (o .transitions ++ drop room transitions)) (take count (o .states)) in line.Written (line.pathLine (decodedSum s words) (decodedPath s words)) before n after) →
+      Promised (record { bytes = bytes }) before (record { answer = Written.Path n; line = after })
+  unfolding pathLineOf
+  promised-line w =
+      promised-path bytes before _ _ (t .accepted) (rw (size-is, count-is, t .transitions-front, t .states-front, t .labels-are, t .words-are) at w)

@@ -2,7 +2,7 @@
 use mathlib.Core.Path.{_≡_}
 use mathlib.Core.Bool.{not}
 use mathlib.Core.List.{List, _++_}
-use Prim.Native.Nat.{ℕ, _-_, _≤_}
+use Prim.Native.Nat.{ℕ, _-_, _≤_, _<_}
 use native.Mathlib.Omega.{arith}
 use lib.Dec.{T}
 use lib.ListN.{length, take}
@@ -13,7 +13,7 @@ use Rattle.best_path.specs.Decoded.{lastLabel, decodedPath, decodedSum}
 use Rattle.best_path.proofs.Paths.{decoded-length, decoded-allowed, last-label-within}
 use Rattle.best_path.proofs.Best.{best-number}
 use Rattle.score_tables.specs.Sound.{SoundScores}
-use Rattle.answer_line.specs.Line.{pathLine, RoomFor}
+use Rattle.answer_line.specs.Line.{pathLine, Written, RoomFor, pathRoom}
 use Rattle.answer_line.proofs.Longest.{longest}
 
 module _ {labels words : ℕ} {transitions states : List Float} (sound : SoundScores labels words transitions states) where
@@ -32,12 +32,20 @@ module _ {labels words : ℕ} {transitions states : List Float} (sound : SoundSc
   path-length = decoded-length scores words (sound .sized .words-in .low)
 
   -- the path at the front of its buffer
-  pub path-front : (rest : List ℕ) → take words (decodedPath scores words ++ rest) ≡ decodedPath scores words
-  path-front rest = take-at (decodedPath scores words) rest words path-length
+  pub path-read : (rest : List ℕ) {after : List ℕ} → after ≡ decodedPath scores words ++ rest → take words after ≡ decodedPath scores words
+  path-read rest e = rw e (take-at (decodedPath scores words) rest words path-length)
 
-  pub line-room : (x : Float) (line : List ℕ) → 406 ≤ length line → RoomFor (pathLine x (decodedPath scores words)) line 0
+  pub line-room : (x : Float) (line : List ℕ) → pathRoom ≤ length line → RoomFor (pathLine x (decodedPath scores words)) line 0
   line-room x line h =
       let a = decoded-allowed scores (sound .sized .labels-in .low) words (sound .sized .words-in .low) in
       let high = sound .sized .labels-in .high in
       let l = longest .path x (decodedPath scores words) (rw path-length (sound .sized .words-in .high)) (λ i b. let p = a .labels i (rw path-length at b) in omega arith) in
       record { room = omega arith }
+
+  -- what is written of it, by the path and the sum at hand
+  module _ {path : List ℕ} {sum : Float} (path-is : path ≡ decodedPath scores words) (sum-is : sum ≡ decodedSum scores words) where
+    pub line-needs : (line : List ℕ) → pathRoom ≤ length line → T (not (isNan sum)) × ((0 < length path) × RoomFor (pathLine sum path) line 0)
+    line-needs line h = rw (path-is, sum-is) (sum-number, (rw path-length (sound .sized .words-in .low), line-room _ line h))
+
+    pub line-written : {before after : List ℕ} {n : ℕ} → Written (pathLine sum path) before n after → Written (pathLine (decodedSum scores words) (decodedPath scores words)) before n after
+    line-written w = rw (path-is, sum-is) at w

@@ -11,10 +11,10 @@ use Rattle.refusals.specs.declared.Checked.the-variants.{Accepted, Refused}
 use Rattle.refusals.specs.Refusals.{refusedAt, orNext}
 use Rattle.sheet.specs.File.{Sheet, encoded, Finite64, SoundSheet}
 use Rattle.sheet.proofs.Files.{long}
-use Rattle.answer_line.specs.Line.{pathLine}
+use Rattle.answer_line.specs.Line.{pathLine, pathRoom}
 use Rattle.answer_line.proofs.OneSaying.{one-saying}
 use Rattle.sheet.proofs.Rows.{headChecked}
-use Rattle.decode_sheet.specs.Answer.{pathLineOf, lineChecked}
+use Rattle.decode_sheet.specs.Answer.{pathLineOf, bufferChecked}
 use Rattle.decode_sheet.specs.Program.{lineSaid, printedLine}
 use Rattle.decode_sheet.specs.Front.{longestSheet, LessDoesNot}
 use Rattle.decode_sheet.proofs.Prints.{prints-the-path}
@@ -57,7 +57,7 @@ longer-apart : (s : Sheet) → SoundSheet s → (file : List ℕ) → longestShe
 unfolding printedLine
 longer-apart s sound file h e =
     refused-apart (headChecked file) _ _ (pathLineOf file)
-    (sym (prints-the-path s sound) ∙ e ∙ ap (λ (c : Checked). lineSaid c (pathLineOf file)) (long-file file 406 (omega arith) h))
+    (sym (prints-the-path s sound) ∙ e ∙ ap (λ (c : Checked). lineSaid c (pathLineOf file)) (long-file file pathRoom (omega arith) h))
 
 pub less-does-not : LessDoesNot
 less-does-not = (

@@ -27,7 +27,8 @@ use Rattle.refusals.specs.Said.{Said, accepted, refused}
 use Rattle.refusals.proofs.Said.{same-parts}
 use Rattle.answer_line.specs.Claims.{Sayable}
 use Rattle.answer_line.proofs.OneSaying.{one-saying}
-use Rattle.decode_sheet.specs.Answer.{scoresIn, pathLineOf, lineShort, lineChecked}
+use Rattle.answer_line.specs.Line.{pathRoom}
+use Rattle.decode_sheet.specs.Answer.{scoresIn, pathLineOf, lineShort, bufferChecked}
 use Rattle.decode_sheet.specs.Promise.{answerBy, answerTo}
 use Rattle.decode_sheet.specs.Program.{lineSaid, printedLine, Printed}
 use Rattle.decode_sheet.specs.Meaning.{AnsweringMeans, SaysRefused, SaysPath, PrintingMeans}
@@ -50,7 +51,7 @@ pub answering-means : AnsweringMeans
 unfolding answerTo
 answering-means given before outcome p =
     let bytes = given .bytes in
-    let c = lineChecked bytes (length before) in
+    let c = bufferChecked bytes (length before) in
     said-so (file-means bytes (line-means (length before)))
     (refused-said (pathLineOf bytes) _ c (p .answers))
     (path-said (pathLineOf bytes) _ c (p .answers))
@@ -85,14 +86,14 @@ sayable bytes b =
 -- ---- what is printed
 
 -- the program lends room for the longest line
-pub always : Row (lineShort 406) 2 (Unit {0})
+pub always : Row (lineShort pathRoom) 2 (Unit {0})
 always = row 2 _ (λ h. tt) (λ u. refl)
 
-abbrev pub rows-mean : (bytes : List ℕ) → Meaning (λ number place. lineChecked bytes 406 ≡ refusedAt number place) (lineChecked bytes 406 ≡ Accepted) bytes (Unit {0})
+abbrev pub rows-mean : (bytes : List ℕ) → Meaning (λ number place. bufferChecked bytes pathRoom ≡ refusedAt number place) (bufferChecked bytes pathRoom ≡ Accepted) bytes (Unit {0})
 rows-mean bytes = file-means bytes always
 
 -- a refusal's number and place are of 64 bits
-known : (bytes : List ℕ) (number place : ℕ) → lineChecked bytes 406 ≡ refusedAt number place → (number < 2 ^ 64) × (place < 2 ^ 64)
+known : (bytes : List ℕ) (number place : ℕ) → bufferChecked bytes pathRoom ≡ refusedAt number place → (number < 2 ^ 64) × (place < 2 ^ 64)
 known bytes number place h = elim (rows-mean bytes .only number place h) [ inl e ↦ of-six e | inr z ↦ (few (z .1), rw (z .0) (omega arith)) ]
   where
     few : OneOf (10 ∷ 1 ∷ 4 ∷ 2 ∷ []) number → number < 2 ^ 64
@@ -113,33 +114,33 @@ known bytes number place h = elim (rows-mean bytes .only number place h) [ inl e
 
 module _ (bytes line : List ℕ) (printed : line ≡ printedLine bytes) where
   -- the line, by what the rows give
-  by-rows : (c : Checked) → lineChecked bytes 406 ≡ c → line ≡ lineSaid c (pathLineOf bytes)
+  by-rows : (c : Checked) → bufferChecked bytes pathRoom ≡ c → line ≡ lineSaid c (pathLineOf bytes)
   unfolding printedLine
   by-rows c e = printed ∙ ap (λ (c : Checked). lineSaid c (pathLineOf bytes)) e
 
-  refused-printed : (number place : ℕ) → SaysRefused line number place ↔ lineChecked bytes 406 ≡ refusedAt number place
+  refused-printed : (number place : ℕ) → SaysRefused line number place ↔ bufferChecked bytes pathRoom ≡ refusedAt number place
   unfolding pathLineOf
-  refused-printed number place = (λ h. to h (lineChecked bytes 406) refl, from)
+  refused-printed number place = (λ h. to h (bufferChecked bytes pathRoom) refl, from)
     where
-      to : SaysRefused line number place → (c : Checked) → lineChecked bytes 406 ≡ c → lineChecked bytes 406 ≡ refusedAt number place
+      to : SaysRefused line number place → (c : Checked) → bufferChecked bytes pathRoom ≡ c → bufferChecked bytes pathRoom ≡ refusedAt number place
       to h Accepted e = absurd (one-saying .either _ _ number place (sym (by-rows _ e) ∙ h .says))
       to h (Refused why) e =
           let k = known bytes (why .number) (why .place) e in
           let s = one-saying .refused (why .number) (why .place) number place (k .0) (k .1) (h .number-in) (h .place-in) (sym (by-rows _ e) ∙ h .says) in
           e ∙ ap Refused (same-parts why (numbered number place) (s .0) (s .1))
 
-      from : lineChecked bytes 406 ≡ refusedAt number place → SaysRefused line number place
+      from : bufferChecked bytes pathRoom ≡ refusedAt number place → SaysRefused line number place
       from h = let k = known bytes number place h in record { number-in = k .0; place-in = k .1; says = by-rows _ h }
 
-  path-printed : ((sum : Float) × (labels : List ℕ) × SaysPath line sum labels) ↔ lineChecked bytes 406 ≡ Accepted
+  path-printed : ((sum : Float) × (labels : List ℕ) × SaysPath line sum labels) ↔ bufferChecked bytes pathRoom ≡ Accepted
   unfolding pathLineOf
-  path-printed = (λ w. to (w .2) (lineChecked bytes 406) refl, from)
+  path-printed = (λ w. to (w .2) (bufferChecked bytes pathRoom) refl, from)
     where
-      to : {sum : Float} {labels : List ℕ} → SaysPath line sum labels → (c : Checked) → lineChecked bytes 406 ≡ c → lineChecked bytes 406 ≡ Accepted
+      to : {sum : Float} {labels : List ℕ} → SaysPath line sum labels → (c : Checked) → bufferChecked bytes pathRoom ≡ c → bufferChecked bytes pathRoom ≡ Accepted
       to h Accepted e = e
       to h (Refused why) e = absurd (one-saying .either _ _ (why .number) (why .place) (sym (h .says) ∙ by-rows _ e))
 
-      from : lineChecked bytes 406 ≡ Accepted → (sum : Float) × (labels : List ℕ) × SaysPath line sum labels
+      from : bufferChecked bytes pathRoom ≡ Accepted → (sum : Float) × (labels : List ℕ) × SaysPath line sum labels
       from h = (_, _, record { sayable = sayable bytes (rows-mean bytes .accepted .0 h .0 .in-bounds); says = by-rows _ h })
 
 -- what was written of the line

@@ -8,17 +8,17 @@ use Rattle.refusals.specs.declared.Refusal.{Refusal}
 use Rattle.refusals.specs.declared.Checked.{Checked}
 use Rattle.refusals.specs.declared.Checked.the-variants.{Accepted, Refused}
 use Rattle.answer_line.specs.Line as line
-use Rattle.answer_line.specs.Line.{refusedLine, RoomFor}
+use Rattle.answer_line.specs.Line.{refusedLine, RoomFor, pathRoom}
 use Rattle.answer_line.proofs.Longest.{longest}
 use Rattle.refusals.specs.Said.{accepted, refused}
 use Rattle.refusals.proofs.Said.{same-refusal}
 use Rattle.decode_sheet.specs.declared.Written.{Written}
-use Rattle.decode_sheet.specs.Answer.{pathLineOf, lineChecked}
+use Rattle.decode_sheet.specs.Answer.{pathLineOf, bufferChecked}
 use Rattle.decode_sheet.specs.Promise.{Outcome, answerBy, answerTo, lineAfter, Promised}
 use Rattle.decode_sheet.specs.Program.{printedLine, Printed}
 
 -- the room of a refusal's line
-pub refused-room : (number place : ℕ) (l : List ℕ) → length l ≡ 406 → RoomFor (refusedLine number place) l 0
+pub refused-room : (number place : ℕ) (l : List ℕ) → length l ≡ pathRoom → RoomFor (refusedLine number place) l 0
 refused-room number place l e = record { room = omega (arith, longest .refused number place) }
 
 -- what the answer says of the rows
@@ -30,19 +30,19 @@ pub refused-by : (text : List ℕ) (c : Checked) (why : Refusal) → refused why
 refused-by text Accepted why h = let z : _≡_ {A = ℕ} 0 1 = cc in absurd (omega arith)
 refused-by text (Refused other) why h = ap Refused (sym (same-refusal h))
 
-module _ (bytes before : List ℕ) (o : Outcome) (long : length before ≡ 406) (promise : Promised (record { bytes = bytes }) before o) where
+module _ (bytes before : List ℕ) (o : Outcome) (long : length before ≡ pathRoom) (promise : Promised (record { bytes = bytes }) before o) where
   pub printed-path : (size : ℕ) → o .answer ≡ Written.Path size → Printed bytes before size (o .line)
   unfolding printedLine answerTo lineAfter
   printed-path size h =
-      let r = path-by (pathLineOf bytes) (lineChecked bytes (length before)) size (rw h at (promise .answers)) in
-      let a : lineChecked bytes 406 ≡ Accepted = rw long at (r .0) in
+      let r = path-by (pathLineOf bytes) (bufferChecked bytes (length before)) size (rw h at (promise .answers)) in
+      let a : bufferChecked bytes pathRoom ≡ Accepted = rw long at (r .0) in
       record { counted = rw a (r .1); written = rw a (promise .fills-line ∙ rw (r .0)) }
 
   pub printed-refused : (why : Refusal) → o .answer ≡ Written.Refused why → (size : ℕ) (after : List ℕ) → line.Written (refusedLine (why .number) (why .place)) (o .line) size after → Printed bytes before size after
   unfolding printedLine answerTo lineAfter
   printed-refused why h size after w =
-      let r = refused-by (pathLineOf bytes) (lineChecked bytes (length before)) why (rw h at (promise .answers)) in
-      let a : lineChecked bytes 406 ≡ Refused why = rw long at r in
+      let r = refused-by (pathLineOf bytes) (bufferChecked bytes (length before)) why (rw h at (promise .answers)) in
+      let a : bufferChecked bytes pathRoom ≡ Refused why = rw long at r in
       let e : o .line ≡ before = promise .fills-line ∙ rw r in
       record { counted = rw a (w .counted); written = rw a (rw e at (w .written)) }
 

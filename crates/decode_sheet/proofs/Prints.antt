@@ -5,8 +5,8 @@ use Rattle.best_path.specs.Scores.{tabled}
 use Rattle.best_path.specs.Decoded.{decodedPath, decodedSum}
 use Rattle.sheet.specs.File.{Sheet, encoded, SoundSheet}
 use Rattle.sheet.proofs.Files.{labels-back, words-back, transitions-back, states-back, right-file}
-use Rattle.answer_line.specs.Line.{pathLine}
-use Rattle.decode_sheet.specs.Answer.{pathLineOf, lineChecked}
+use Rattle.answer_line.specs.Line.{pathLine, pathRoom}
+use Rattle.decode_sheet.specs.Answer.{pathLineOf, bufferChecked}
 use Rattle.decode_sheet.specs.Program.{printedLine, PrintsThePath}
 use Rattle.decode_sheet.proofs.Meant.{rows-mean}
 
@@ -19,5 +19,5 @@ path-line-back s sound = rw (labels-back s sound, words-back s sound, transition
 pub prints-the-path : PrintsThePath
 unfolding printedLine
 prints-the-path s sound =
-    let accepted : lineChecked (encoded s) 406 ≡ Accepted = rows-mean (encoded s) .accepted .1 (right-file s sound, tt) in
+    let accepted : bufferChecked (encoded s) pathRoom ≡ Accepted = rows-mean (encoded s) .accepted .1 (right-file s sound, tt) in
     rw accepted (path-line-back s sound)

@@ -13,7 +13,7 @@ use Rattle.refusals.specs.declared.Checked.the-variants.{Accepted, Refused}
 use Rattle.refusals.specs.Refusals.{refuse}
 use Rattle.refusals.specs.Tables.{short}
 use Rattle.refusals.proofs.Laws.{passes}
-use Rattle.score_tables.specs.Rows.{two}
+use Rattle.score_tables.specs.Rows.{scoresShort}
 use Rattle.score_tables.specs.Sound.{LabelsIn, WordsIn, SoundScores}
 use Rattle.score_tables.proofs.Laws.{all-finite}
 use Rattle.score_tables.specs.Meaning.{Row}
@@ -25,34 +25,35 @@ use Rattle.sheet.specs.Promise.{LabelsAndWords, read, answerBy}
 use Rattle.sheet.proofs.Bytes.{length-numbers}
 use Rattle.sheet.proofs.Rows.{Accepts}
 use Rattle.sheet.proofs.RowsMeant.{same-file}
-use Rattle.decode_sheet.specs.Answer.{lineShort, lineChecked}
+use Rattle.answer_line.specs.Line.{pathRoom}
+use Rattle.decode_sheet.specs.Answer.{lineShort, bufferChecked}
 
 -- the room of the tables that are lent: none for a line that is too short
 pub record Lends (room : ℕ) (before : Lent) : Type 0 where
-  pub none : room < 406 → length (before .transitions) ≡ 0
-  pub enough : 406 ≤ room → 1024 ≤ length (before .transitions)
+  pub none : room < pathRoom → length (before .transitions) ≡ 0
+  pub enough : pathRoom ≤ room → 1024 ≤ length (before .transitions)
   pub states : 4096 ≤ length (before .states)
 
 module _ (bytes : List ℕ) (room : ℕ) (before : Lent) (lends : Lends room before) where
-  two-row : LabelsIn (labelsIn bytes) → WordsIn (wordsIn bytes) → two (labelsIn bytes) (wordsIn bytes) (before .transitions) (before .states) ≡ refuse 2 0 (short room 406)
-  two-row l w = go (ltb room 406) refl
+  two-row : LabelsIn (labelsIn bytes) → WordsIn (wordsIn bytes) → scoresShort (labelsIn bytes) (wordsIn bytes) (before .transitions) (before .states) ≡ refuse 2 0 (short room pathRoom)
+  two-row l w = go (ltb room pathRoom) refl
     where
-      go : (b : Bool) → ltb room 406 ≡ b → two (labelsIn bytes) (wordsIn bytes) (before .transitions) (before .states) ≡ refuse 2 0 (short room 406)
+      go : (b : Bool) → ltb room pathRoom ≡ b → scoresShort (labelsIn bytes) (wordsIn bytes) (before .transitions) (before .states) ≡ refuse 2 0 (short room pathRoom)
       go true e =
-          let h : length (before .transitions) < labelsIn bytes * labelsIn bytes = omega (arith, lends .none (ltb-true room 406 e), mul-le-mul (l .low) (l .low)) in
+          let h : length (before .transitions) < labelsIn bytes * labelsIn bytes = omega (arith, lends .none (ltb-true room pathRoom e), mul-le-mul (l .low) (l .low)) in
           rw (lt-ltb _ _ h, e)
       go false e =
-          let h : labelsIn bytes * labelsIn bytes ≤ length (before .transitions) = omega (arith, lends .enough (ltb-false room 406 e), mul-le-mul (l .high) (l .high)) in
+          let h : labelsIn bytes * labelsIn bytes ≤ length (before .transitions) = omega (arith, lends .enough (ltb-false room pathRoom e), mul-le-mul (l .high) (l .high)) in
           let k : wordsIn bytes * labelsIn bytes ≤ length (before .states) = omega (arith, lends .states, mul-le-mul (w .high) (l .high)) in
           rw (le-ltb _ _ h, le-ltb _ _ k, e)
 
   -- the reader's rows are the line's
-  pub rows : sheetChecked (record { bytes = bytes }) before ≡ lineChecked bytes room
+  pub rows : sheetChecked (record { bytes = bytes }) before ≡ bufferChecked bytes room
   rows = same-file bytes (tablesShort bytes before) (lineShort room) (λ b. two-row (b .labels) (b .words))
 
 -- 2 does not apply where the line has room for the longest
-pub line-means : (room : ℕ) → Row (lineShort room) 2 (406 ≤ room)
-line-means room = row 2 _ (λ h. ltb-false room 406 (passes 2 0 _ h)) (λ l. le-ltb room 406 l)
+pub line-means : (room : ℕ) → Row (lineShort room) 2 (pathRoom ≤ room)
+line-means room = row 2 _ (λ h. ltb-false room pathRoom (passes 2 0 _ h)) (λ l. le-ltb room pathRoom l)
 
 -- ---- what the reader answers
 

@@ -8,7 +8,7 @@ use Rattle.best_path.specs.Scores.{Scores, tabled}
 use Rattle.best_path.specs.Decoded.{decodedPath, decodedSum}
 use Rattle.sheet.specs.Fields.{labelsIn, wordsIn, transitionsIn, statesIn}
 use Rattle.sheet.specs.Rows.{fileChecked}
-use Rattle.answer_line.specs.Line.{pathLine}
+use Rattle.answer_line.specs.Line.{pathLine, pathRoom}
 
 -- the score tables that the bytes hold
 abbrev pub scoresIn : List ℕ → Scores
@@ -20,8 +20,8 @@ pathLineOf bytes = pathLine (decodedSum (scoresIn bytes) (wordsIn bytes)) (decod
 
 -- 2 | "a lent buffer too short": the line has no room for the longest | 0
 abbrev pub lineShort : ℕ → Checked
-lineShort room = refuse 2 0 (short room 406)
+lineShort room = refuse 2 0 (short room pathRoom)
 
 -- the rows of the file, 2 for the lent line
-abbrev pub lineChecked : List ℕ → ℕ → Checked
-lineChecked bytes room = fileChecked bytes (lineShort room)
+abbrev pub bufferChecked : List ℕ → ℕ → Checked
+bufferChecked bytes room = fileChecked bytes (lineShort room)

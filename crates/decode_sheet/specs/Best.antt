@@ -9,6 +9,7 @@ use Rattle.best_path.specs.Scores.{Scores, tabled}
 use Rattle.best_path.specs.BestPath.{BestPath}
 use Rattle.sheet.specs.File.{Sheet, encoded, SoundSheet}
 use Rattle.sheet.specs.Files.{Bytes}
+use Rattle.answer_line.specs.Line.{pathRoom}
 use Rattle.decode_sheet.specs.Promise.{Given, Outcome, said, Promised}
 use Rattle.decode_sheet.specs.Program.{Printed}
 use Rattle.decode_sheet.specs.Meaning.{SaysPath}
@@ -36,7 +37,7 @@ PrintedPathsAreBest = (bytes before : List ℕ) (size : ℕ) (after : List ℕ) 
 
 -- what `decode_sheet` answers
 pub record PathsAnswered (bytes before : List ℕ) (outcome : Outcome) : Type 0 where
-  pub every : (s : Sheet) → SoundSheet s → bytes ≡ encoded s → 406 ≤ length before → (size : ℕ) × (said (outcome .answer) ≡ accepted size) × SaysBest s (take size (outcome .line))
+  pub every : (s : Sheet) → SoundSheet s → bytes ≡ encoded s → pathRoom ≤ length before → (size : ℕ) × (said (outcome .answer) ≡ accepted size) × SaysBest s (take size (outcome .line))
   pub only : Bytes bytes → (size : ℕ) → said (outcome .answer) ≡ accepted size → (s : Sheet) × SoundSheet s × (bytes ≡ encoded s) × SaysBest s (take size (outcome .line))
 
 abbrev pub AnsweredPathsAreBest : Type 0

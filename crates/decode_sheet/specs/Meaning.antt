@@ -7,7 +7,7 @@ use lib.Ieee.{Float}
 use Rattle.refusals.specs.Refusals.{numbered}
 use Rattle.refusals.specs.Said.{accepted, refused}
 use Rattle.sheet.specs.RowsMeaning.{Meaning}
-use Rattle.answer_line.specs.Line.{pathLine, refusedLine}
+use Rattle.answer_line.specs.Line.{pathLine, refusedLine, pathRoom}
 use Rattle.answer_line.specs.Claims.{Sayable}
 use Rattle.decode_sheet.specs.Promise.{Given, Outcome, said, Promised}
 use Rattle.decode_sheet.specs.Program.{Printed}
@@ -16,7 +16,7 @@ use Rattle.decode_sheet.specs.Program.{Printed}
 abbrev pub AnsweringMeans : Type 0
 AnsweringMeans =
     (given : Given) (before : List ℕ) (outcome : Outcome) → Promised given before outcome →
-    Meaning (λ number place. said (outcome .answer) ≡ refused (numbered number place)) ((size : ℕ) × (said (outcome .answer) ≡ accepted size)) (given .bytes) (406 ≤ length before)
+    Meaning (λ number place. said (outcome .answer) ≡ refused (numbered number place)) ((size : ℕ) × (said (outcome .answer) ≡ accepted size)) (given .bytes) (pathRoom ≤ length before)
 
 -- "`REFUSED`, number, place": a line that says this refusal
 pub record SaysRefused (line : List ℕ) (number place : ℕ) : Type 0 where

@@ -8,8 +8,8 @@ use Rattle.refusals.specs.declared.Checked.the-variants.{Accepted, Refused}
 use Rattle.best_path.specs.Scores.{tabled}
 use Rattle.best_path.specs.Decoded.{decodedPath, decodedSum}
 use Rattle.sheet.specs.File.{Sheet, encoded, SoundSheet}
-use Rattle.answer_line.specs.Line.{pathLine, refusedLine}
-use Rattle.decode_sheet.specs.Answer.{pathLineOf, lineChecked}
+use Rattle.answer_line.specs.Line.{pathLine, refusedLine, pathRoom}
+use Rattle.decode_sheet.specs.Answer.{pathLineOf, bufferChecked}
 
 -- "prints one line: `PATH` ..; or `REFUSED` .."
 abbrev pub lineSaid : Checked → List ℕ → List ℕ
@@ -18,7 +18,7 @@ lineSaid (Refused why) line = refusedLine (why .number) (why .place)
 
 -- the program lends room for the longest line
 unfoldable pub printedLine : List ℕ → List ℕ
-printedLine bytes = lineSaid (lineChecked bytes 406) (pathLineOf bytes)
+printedLine bytes = lineSaid (bufferChecked bytes pathRoom) (pathLineOf bytes)
 
 -- the file of every sound sheet is answered by the line of its decoded path and sum. The proof is in proofs/Prints
 abbrev pub PrintsThePath : Type 0

@@ -8,7 +8,7 @@ use Rattle.refusals.specs.declared.Checked.the-variants.{Accepted, Refused}
 use Rattle.refusals.specs.Said.{Said, accepted, refused, orRefused}
 use Rattle.decode_sheet.specs.declared.Written.{Written}
 use Rattle.decode_sheet.specs.declared.Written.the-variants.{Path, Refused as WrittenRefused}
-use Rattle.decode_sheet.specs.Answer.{pathLineOf, lineChecked}
+use Rattle.decode_sheet.specs.Answer.{pathLineOf, bufferChecked}
 
 -- what the call is given: the file's bytes
 pub record Given : Type 0 where
@@ -34,10 +34,10 @@ lineBy Accepted line before = line ++ drop (length line) before
 lineBy (Refused why) line before = before
 
 unfoldable pub answerTo : Given → List ℕ → Said ℕ
-answerTo given before = answerBy (lineChecked (given .bytes) (length before)) (pathLineOf (given .bytes))
+answerTo given before = answerBy (bufferChecked (given .bytes) (length before)) (pathLineOf (given .bytes))
 
 unfoldable pub lineAfter : Given → List ℕ → List ℕ
-lineAfter given before = lineBy (lineChecked (given .bytes) (length before)) (pathLineOf (given .bytes)) before
+lineAfter given before = lineBy (bufferChecked (given .bytes) (length before)) (pathLineOf (given .bytes)) before
 
 -- the promise
 pub record Promised (given : Given) (before : List ℕ) (outcome : Outcome) : Type 0 where

@@ -5,7 +5,7 @@ ghost use lib.ListN.{length};
 ghost use Rattle.best_path.specs.Scores.{tabled};
 ghost use Rattle.best_path.specs.Decoded.{decodedPath, decodedSum};
 ghost use Rattle.score_tables.specs.Sound.{SoundScores};
-ghost use Rattle.answer_line.specs.Line.{pathLine, Written as Line·Written};
+ghost use Rattle.answer_line.specs.Line.{pathLine, pathRoom, Written as Line·Written};
 ghost use Rattle.decode_sheet.specs.Promise.{Promised};
 ghost use Rattle.decode_sheet.specs.Program.{Printed};
 use answer_line::PATH_ROOM;
@@ -18,6 +18,9 @@ pub enum Written {
     Refused(Refusal),
 }
 
+// Room for the labels of a line: "Words T: 1 to 128 a line."
+const MOST_LABELLED: usize = 128;
+
 // The line of the decoded path, over tables that are accepted.
 fn write_path(
     labels: u32,
@@ -27,16 +30,16 @@ fn write_path(
     line: &mut [u8],
 ) -> usize
     requires { ⌜ SoundScores labels words (now transitions) (now states) ⌝ }
-    requires { ⌜ 406 ≤ length (now line) ⌝ }
+    requires { ⌜ pathRoom ≤ length (now line) ⌝ }
     ensures { λ r. ⌜ Line·Written (pathLine (decodedSum (tabled labels (now (transitions .entry)) (now (states .entry))) words) (decodedPath (tabled labels (now (transitions .entry)) (now (states .entry))) words)) (now (line .entry)) r (now (line .exit)) ⌝ }
 {
-    let mut path = [0u32; 128];
+    let mut path = [0u32; MOST_LABELLED];
     let n = words as usize;
     let found = viterbi::decode_tables(labels as usize, n, transitions, states, &mut path);
     answer_line::path_line(found.sum, &path[..n], line)
 }
 
-// The same from the file's bytes, by way of two tables with room for every sheet.
+// The same from the file's bytes, by way of two tables with room for every sheet: 32·32 transitions, 128·32 states.
 fn decode_with(
     bytes: &[u8],
     transitions: &mut [f64],
@@ -73,7 +76,7 @@ pub fn decode_sheet(bytes: &[u8], line: &mut [u8]) -> Written
 }
 
 // The line that the program prints.
-pub fn print_sheet(bytes: &[u8], line: &mut [u8; 406]) -> usize
+pub fn print_sheet(bytes: &[u8], line: &mut [u8; PATH_ROOM]) -> usize
     ensures { λ r. ⌜ Printed (now (bytes .entry)) (now (line .entry)) r (now (line .exit)) ⌝ }
 {
     match decode_sheet(bytes, line) {

@@ -13,5 +13,5 @@ pub record Decodes (given : Given) (before : List ℕ) (outcome : DecodedLine) :
   pub path : outcome .path ≡ pathAfter given before
 
 -- the promise of a scored path, which is lent nothing to change
-pub record Scores (given : path.Given) (answer : Scored) : Type 0 where
+pub record ScoresPath (given : path.Given) (answer : Scored) : Type 0 where
   pub answers : answer ≡ scoredNumbers (path.answerTo given)

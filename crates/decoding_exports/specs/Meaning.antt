@@ -15,7 +15,7 @@ use Rattle.sequence_score.specs.Meaning as scoring
 use Rattle.answers.specs.declared.decoding.Scored.{Scored}
 use Rattle.answers.specs.Numbers.{DecodedLine}
 use Rattle.answers.specs.Given.{Gives}
-use Rattle.decoding_exports.specs.Decoding.{Decodes, Scores}
+use Rattle.decoding_exports.specs.Decoding.{Decodes, ScoresPath}
 
 abbrev pub DecodesMean : Type 0
 DecodesMean =
@@ -32,12 +32,12 @@ EveryLineIsBest =
 
 abbrev pub ScoresMean : Type 0
 ScoresMean =
-    (given : path.Given) (answer : Scored) → Scores given answer →
+    (given : path.Given) (answer : Scored) → ScoresPath given answer →
     scoring.Meaning (Gives (answer .number) (answer .place)) (answer .number ≡ 0) given
 
 -- every sound path is scored
 abbrev pub EveryPathIsScored : Type 0
 EveryPathIsScored =
-    (given : path.Given) (answer : Scored) → Scores given answer →
+    (given : path.Given) (answer : Scored) → ScoresPath given answer →
     SoundPath (given .labels) (given .words) (given .transitions) (given .states) (given .path) (given .count) →
     (answer .number ≡ 0) × (answer .score ≡ pathScore (tabled (given .labels) (given .transitions) (given .states)) (given .path) (given .count))

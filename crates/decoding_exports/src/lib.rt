@@ -1,6 +1,6 @@
 // Decoding a line, and the score of a path, for programs in C and Rust. Each is thin: one call of a crate below, and its answer
 // as numbers.
-ghost use Rattle.decoding_exports.specs.Decoding.{Decodes, Scores};
+ghost use Rattle.decoding_exports.specs.Decoding.{Decodes, ScoresPath};
 use answers::decoding::Decoded;
 use answers::decoding::Scored;
 
@@ -29,7 +29,7 @@ pub extern "C" fn bodkinbloom_sequence_score(
     path: &[u32],
     count: u32,
 ) -> Scored
-    ensures { λ r. ⌜ Scores (record { labels = labels; words = words; transitions = now (transitions .entry); states = now (states .entry); path = now (path .entry); count = count }) r ⌝ }
+    ensures { λ r. ⌜ ScoresPath (record { labels = labels; words = words; transitions = now (transitions .entry); states = now (states .entry); path = now (path .entry); count = count }) r ⌝ }
 {
     let answer = sequence_score::sequence_score(labels, words, transitions, states, path, count);
     answers::decoding::numbers_of_score(answer)

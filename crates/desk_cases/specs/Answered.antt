@@ -27,13 +27,13 @@ use Rattle.training.specs.Rules.{Rule, pushed, squared, pulled, spread, narrowe
 use Rattle.training.specs.Visits.{refusedAs, unchanged, changedTo, finiteState, heldTo, corrected, compared, visited}
 use Rattle.training.specs.Epochs.{Settings, Result, countedFrom, opened, visitedAt, epochOver, epoch, epochUnlessOver, begun, ran, refusedWith, averaged, finished}
 use Rattle.training.specs.Epochs as E
-use Rattle.desk_cases.specs.Cases.{Question, decode, score, train, Answer, decoded, scored, trained, refused, Lead, no-lead, by, Case, cases}
+use Rattle.desk_cases.specs.Cases.{Question, decode, score, train, Answer, decoded, scored, trained, refused, CaseLead, no-lead, by, Case, cases}
 
 floats : List ℕ → List Float
 unfolding ofBits
 floats bits = map (ofBits binary64) bits
 
-leadBits : L.Lead → Lead
+leadBits : L.Lead → CaseLead
 unfolding toBits
 leadBits none = no-lead
 leadBits (ahead x) = by (toBits binary64 x)

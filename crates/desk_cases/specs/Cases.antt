@@ -5,9 +5,9 @@ use Prim.Native.Nat.{ℕ, _+_}
 use lib.Ieee.{Float, binary64, ofBits}
 use Rattle.training.specs.Rules.{Rule, perceptron, passive, arow}
 
-pub data Lead : Type 0 where
-  no-lead : Lead
-  by : ℕ → Lead
+pub data CaseLead : Type 0 where
+  no-lead : CaseLead
+  by : ℕ → CaseLead
 
 pub data Question : Type 0 where
   -- the decoded path, its sum and its lead: labels, words, transitions, states
@@ -18,7 +18,7 @@ pub data Question : Type 0 where
   train : (rule : Rule) (reference epochs : ℕ) → Question
 
 pub data Answer : Type 0 where
-  decoded : (path : List ℕ) (sum : ℕ) (lead : Lead) → Answer
+  decoded : (path : List ℕ) (sum : ℕ) (lead : CaseLead) → Answer
   scored : ℕ → Answer
   trained : (epochs visits updates : ℕ) (weights : List ℕ) → Answer
   refused : (number place : ℕ) → Answer

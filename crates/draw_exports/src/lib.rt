@@ -3,6 +3,9 @@ ghost use mathlib.Core.Path.{_≡_};
 ghost use Rattle.draw_exports.specs.Draws.{Drew, Shuffled, Shuffling};
 use answers::checks::Refused;
 
+// The bound of `theInstances`.
+pub const MOST_INSTANCES: usize = 16384;
+
 // One draw of SplitMix64: the number is the answer, and the state is advanced.
 #[no_mangle]
 pub extern "C" fn bodkinbloom_draw(state: &mut u64) -> u64
@@ -19,7 +22,7 @@ pub extern "C" fn bodkinbloom_shuffle(state: &mut u64, order: &mut [u32]) -> Ref
     ensures { λ r. ⌜ Shuffling (now (state .entry)) (now (order .entry)) (record { answer = r; state = now (state .exit); order = now (order .exit) }) ⌝ }
 {
     let n = order.len();
-    if (n < 1) | (16384 < n) {
+    if (n < 1) | (MOST_INSTANCES < n) {
         return Refused {
             number: 2,
             place: 0,

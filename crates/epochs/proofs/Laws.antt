@@ -8,6 +8,7 @@ use Rattle.shuffle.specs.Shuffle.{Deal, shuffled}
 use Rattle.lines.specs.Passes.{through}
 use Rattle.lines.proofs.Laws.{through-end}
 use Rattle.training.specs.declared.Progress.{Progress}
+use Rattle.training.specs.Counter.{mostVisits}
 use Rattle.training.specs.Visits.{TrainingState}
 use Rattle.training.specs.Epochs.{Run, epochOver, endsAfter, epoch, epochUnlessOver}
 use Rattle.training.specs.Orders.{OrderOf}
@@ -28,7 +29,7 @@ first-false false b e = refl
 
 module _ (visit : ℕ → TrainingState → TrainingState) (stop : Float → Bool) (n : ℕ) (r₀ : Run) where
   -- none of the epochs allowed ended training
-  pub all-run : (e allowed : ℕ) (s : TrainingState) (k : Deal) → e ≤ allowed → allowed ≤ e → s .progress .visits ≤ 16384000 → _≡_ {A = Run} (record { state = s; deal = k; epochs = e; over = false }) (through (epochUnlessOver visit stop n) 0 e r₀) → Finished (record { progress = s .progress; epochs = e }) (s .learned .weights) (s .learned .beside) (through (epochUnlessOver visit stop n) 0 allowed r₀)
+  pub all-run : (e allowed : ℕ) (s : TrainingState) (k : Deal) → e ≤ allowed → allowed ≤ e → s .progress .visits ≤ mostVisits → _≡_ {A = Run} (record { state = s; deal = k; epochs = e; over = false }) (through (epochUnlessOver visit stop n) 0 e r₀) → Finished (record { progress = s .progress; epochs = e }) (s .learned .weights) (s .learned .beside) (through (epochUnlessOver visit stop n) 0 allowed r₀)
   all-run e allowed s k h l v p =
       let q = p ∙ through-end (epochUnlessOver visit stop n) e allowed r₀ h l in
       record {
@@ -60,7 +61,7 @@ module _ (visit : ℕ → TrainingState → TrainingState) (stop : Float → Boo
     unfolding epoch after
     counts = refl
 
-    pub run-ended : (allowed : ℕ) → e < allowed → o ≡ true → t .progress .visits ≤ 16384000 → Finished (record { progress = t .progress; epochs = e + 1 }) (t .learned .weights) (t .learned .beside) (through (epochUnlessOver visit stop n) 0 allowed r₀)
+    pub run-ended : (allowed : ℕ) → e < allowed → o ≡ true → t .progress .visits ≤ mostVisits → Finished (record { progress = t .progress; epochs = e + 1 }) (t .learned .weights) (t .learned .beside) (through (epochUnlessOver visit stop n) 0 allowed r₀)
     unfolding after
     run-ended allowed h f v =
         let u : after ≡ through (epochUnlessOver visit stop n) 0 allowed r₀ = run-cut visit stop n (e + 1) allowed r₀ (omega arith) (over f) (run-next visit stop n e r₀ refl p refl) in

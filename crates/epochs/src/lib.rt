@@ -1,18 +1,14 @@
 // Epochs until training ends.
 ghost use mathlib.Core.Bool.{false};
-ghost use Prim.Native.Nat.{_≤_};
 ghost use Rattle.lines.specs.Passes.{through};
 ghost use Rattle.training.specs.Rules.{stops};
 ghost use Rattle.training.specs.Visits.{visited};
 ghost use Rattle.training.specs.Epochs.{Run, epochUnlessOver};
-ghost use Rattle.training.specs.Orders.{OrderOf};
-ghost use Rattle.feature_gen.specs.Sound.{SoundModel};
-ghost use Rattle.training_check.specs.Sound.{SoundData};
 ghost use Rattle.prediction.specs.Tables.{modelAt, modelWas, dataAt, dataWas};
 ghost use Rattle.parameters.specs.Trainers.{ruleOf};
-ghost use Rattle.updates.specs.Updating.{stateOf, Exact};
+ghost use Rattle.updates.specs.Updating.{stateOf};
 ghost use Rattle.begin_and_end.specs.Ending.{Finished};
-ghost use Rattle.epochs.specs.Running.{firstStep};
+ghost use Rattle.epochs.specs.Running.{firstStep, Runnable};
 use begin_and_end::Ran;
 use parameters::Trainer;
 use prediction::Sizes;
@@ -45,10 +41,9 @@ pub fn run(
     truly: &mut [f64],
     predicted: &mut [f64],
 ) -> Ran
-    requires { ⌜ SoundModel (modelAt sizes kinds destinations sources starts entries «label_starts» «label_entries») ⌝ }
-    requires { ⌜ SoundData (sizes .labels) (dataAt sizes lines begins ids values references shares) ⌝ }
-    requires { ⌜ Exact (sizes .features) (now weights) (now beside) (now truly) (now predicted) ⌝ }
-    requires { ⌜ (allowed ≤ 1000) × OrderOf (sizes .instances) (now order) ⌝ }
+    requires { let m = modelAt sizes kinds destinations sources starts entries «label_starts» «label_entries» in
+        let d = dataAt sizes lines begins ids values references shares in
+        ⌜ Runnable sizes m d allowed (now order) (now weights) (now beside) (now truly) (now predicted) ⌝ }
     ensures { λ r.
         let m = modelWas sizes kinds destinations sources starts entries «label_starts» «label_entries» in
         let d = dataWas sizes lines begins ids values references shares in

@@ -1,31 +1,25 @@
--- What the rows of a model give a call that accepts them. Assumes nothing.
-use mathlib.Core.Path.{_≡_, sym, _∙_}
-use mathlib.Core.Bool.{_||_}
+-- What the rows of a model give a call that accepts them, and the parts that they are checked in. Assumes nothing.
+use mathlib.Core.Path.{_≡_, refl, sym, _∙_, ap}
+use mathlib.Core.Bool.{Bool, _||_}
 use mathlib.Core.List.{List, [], _∷_, _++_}
-use Prim.Native.Nat.{_+_, _≤_}
+use Prim.Native.Nat.{ℕ, _+_, _≤_}
 use native.Mathlib.Omega.{arith}
 use lib.ListN.{length}
 use lib.Ieee.{Float}
 use Rattle.refusals.specs.declared.Refusal.{Refusal}
 use Rattle.refusals.specs.declared.Checked.{Checked}
 use Rattle.refusals.specs.declared.Checked.the-variants.{Accepted, Refused}
-use Rattle.refusals.specs.Refusals.{first, firstFrom}
+use Rattle.refusals.specs.Refusals.{refuse, orNext, sooner, firstFrom}
 use Rattle.refusals.specs.Tables.{short}
-use Rattle.refusals.proofs.Laws.{settled, all-accepted}
 use Rattle.score_tables.specs.Rows.{one}
-use Rattle.refusal_rows.specs.Limits.{anyBroken, two, AllWithin, Fitting}
-use Rattle.refusal_rows.specs.Tests.{checks}
-use Rattle.refusal_rows.proofs.Means.{two-means, broken-parts}
-use Rattle.lines.specs.Tables.{Features, Lists, Model}
-use Rattle.feature_gen.specs.Rows.{featureRooms, weightRooms, listRooms, tableRooms, weightedTableRooms, modelCounts, modelRooms, weightedRooms, startTests, featureTests, entryTests, idTests, weightTests, modelSized, modelChecked}
+use Rattle.refusal_rows.specs.Limits.{Limit, room, anyBroken, AllWithin}
+use Rattle.refusals.specs.Bounds.{weightTable}
+use Rattle.refusal_rows.specs.Tests.{numbersFinite, checks}
+use Rattle.refusal_rows.proofs.Means.{broken-parts, within-parts}
+use Rattle.refusal_rows.proofs.Parts.{joined, same-limits, as-rows, two-parts, part-stopped, part-within, part-answered}
+use Rattle.lines.specs.Tables.{Model}
+use Rattle.feature_gen.specs.Rows.{featureRooms, weightRooms, listRooms, modelCounts, modelRooms, weightedRooms, startTests, featureTests, entryTests, weightTests, tableLimits, tableTests, weightedLimits, weightedTests, tablesSized, tablesChecked, weightsChecked, weightedChecked, modelChecked}
 use Rattle.feature_gen.specs.Sound.{ModelSized}
-
--- rooms that are tested part by part
-pub tables-parts : (f : Features) (a b : Lists) → (anyBroken (featureRooms f) || anyBroken (listRooms a b)) ≡ anyBroken (tableRooms f a b)
-tables-parts f a b = sym (broken-parts (featureRooms f) (listRooms a b))
-
-pub weighted-parts : (f : Features) (weights : List Float) (a b : Lists) → (anyBroken (featureRooms f) || short (length weights) (f .count) || anyBroken (listRooms a b)) ≡ anyBroken (weightedTableRooms f weights a b)
-weighted-parts f weights a b = sym (broken-parts (featureRooms f ++ weightRooms f weights) (listRooms a b))
 
 -- 2 does not apply
 pub sized : (m : Model) → AllWithin (modelCounts m) → AllWithin (modelRooms m) → ModelSized m
@@ -51,29 +45,70 @@ module _ (m : Model) (weights : List Float) where
   pub room-for-weights : AllWithin (weightedRooms m weights) → AllWithin (modelRooms m) × (m .features .count ≤ length weights)
   room-for-weights w = ((w .0, (w .1 .0, (w .1 .1 .0, w .1 .1 .1 .1))), w .1 .1 .1 .0)
 
-  abbrev by-size : List Checked
-  by-size = one (m .labels) ∷ two (modelCounts m) ∷ two (weightedRooms m weights) ∷ []
+-- ---- the tables
 
-  -- a refusal by size is the call's
-  pub stopped : (why : Refusal) → modelSized m weights ≡ Refused why → Refused why ≡ modelChecked m weights
-  unfolding modelSized modelChecked
-  stopped why h = sym (settled (first by-size) (checks (startTests m) ++ checks (idTests m) ++ checks (weightTests m weights)) why h)
+module _ (m : Model) where
+  -- limits that are tested part by part
+  pub sizes-parts : refuse 2 0 (anyBroken (modelCounts m) || (anyBroken (featureRooms (m .features)) || anyBroken (listRooms (m .attributeLists) (m .labelLists)))) ≡ tablesSized m
+  unfolding tablesSized
+  sizes-parts =
+      ap (λ (b : Bool). refuse 2 0 (anyBroken (modelCounts m) || b)) (sym (broken-parts (featureRooms (m .features)) (listRooms (m .attributeLists) (m .labelLists))))
+      ∙ two-parts (modelCounts m) (modelRooms m)
 
-  -- the tests one after the other are the call's
-  pub answered : {sizes three features five r : Checked} → sizes ≡ modelSized m weights → three ≡ firstFrom sizes (checks (startTests m)) → features ≡ firstFrom three (checks (featureTests (m .labels) (m .features))) →
-      five ≡ firstFrom features (checks (entryTests m)) → r ≡ firstFrom five (checks (weightTests m weights)) → r ≡ modelChecked m weights
-  unfolding modelSized modelChecked
-  answered a b c d e = rw (e, d, c, b, a)
-
-  within : (r : Checked) → r ≡ modelSized m weights → r ≡ Accepted → Fitting (modelCounts m) (weightedRooms m weights)
-  unfolding modelSized
-  within r e h =
-      let a = all-accepted Accepted by-size (sym e ∙ h) .1 .1 in
-      (two-means (modelCounts m) .accepted .0 (a .0), two-means (weightedRooms m weights) .accepted .0 (a .1 .0))
+  -- a refusal by size is the check's
+  pub tables-stopped : {sizes : Checked} (why : Refusal) → sizes ≡ tablesSized m → sizes ≡ Refused why → Refused why ≡ tablesChecked m
+  unfolding tablesSized tablesChecked
+  tables-stopped why e h = part-stopped (tableLimits m) (tableTests m) why e h
 
   -- an answer that accepts the sizes: every table has room
-  pub roomy : (r : Checked) → r ≡ modelSized m weights → r ≡ Accepted → ModelSized m × (m .features .count ≤ length weights)
-  roomy r e h =
-      let f = within r e h in
-      let s = room-for-weights (f .1) in
-      (sized m (f .0) (s .0), s .1)
+  pub tables-sized : {sizes : Checked} → sizes ≡ tablesSized m → sizes ≡ Accepted → ModelSized m
+  unfolding tablesSized
+  tables-sized e h =
+      let w = within-parts (modelCounts m) (modelRooms m) (part-within (tableLimits m) (tableTests m) e h) in
+      sized m (w .0) (w .1)
+
+  -- the tests one after the other are the check's
+  pub tables-answered : {sizes three features r : Checked} → sizes ≡ tablesSized m → three ≡ firstFrom sizes (checks (startTests m)) →
+      features ≡ firstFrom three (checks (featureTests (m .labels) (m .features))) → r ≡ firstFrom features (checks (entryTests m)) → r ≡ tablesChecked m
+  unfolding tablesSized tablesChecked
+  tables-answered a b c d = part-answered (tableLimits m) (tableTests m) a (rw (d, c, b))
+
+-- ---- the weights
+
+module _ (features : ℕ) (weights : List Float) where
+  abbrev weight-room : List Limit
+  weight-room = room (length weights) features ∷ []
+
+  pub weights-stopped : {sizes : Checked} (why : Refusal) → sizes ≡ refuse 2 0 (short (length weights) features) → sizes ≡ Refused why → Refused why ≡ weightsChecked features weights
+  unfolding weightsChecked
+  weights-stopped why e h = part-stopped weight-room (numbersFinite weightTable weights features ∷ []) why e h
+
+  pub weights-sized : {sizes : Checked} → sizes ≡ refuse 2 0 (short (length weights) features) → sizes ≡ Accepted → features ≤ length weights
+  weights-sized e h = part-within weight-room (numbersFinite weightTable weights features ∷ []) e h .0
+
+  pub weights-answered : {sizes r : Checked} → sizes ≡ refuse 2 0 (short (length weights) features) → r ≡ firstFrom sizes (checks (numbersFinite weightTable weights features ∷ [])) → r ≡ weightsChecked features weights
+  unfolding weightsChecked
+  weights-answered e f = part-answered weight-room (numbersFinite weightTable weights features ∷ []) e f
+
+-- ---- both
+
+module _ (m : Model) (weights : List Float) where
+  pub weighted-joined : {tables own r : Checked} → tables ≡ tablesChecked m → own ≡ weightsChecked (m .features .count) weights → r ≡ sooner tables own → r ≡ weightedChecked m weights
+  unfolding tablesChecked weightsChecked weightedChecked
+  weighted-joined a b c = joined (tableLimits m) (weightRooms (m .features) weights) (tableTests m) (weightTests m weights) tt tt tt a b c
+
+  -- the weights stand behind the sources, where the call's slices have them
+  same-rooms : anyBroken (weightedLimits m weights) ≡ anyBroken (modelCounts m ++ weightedRooms m weights)
+  same-rooms =
+      same-limits (weightedLimits m weights) (modelCounts m ++ weightedRooms m weights)
+      (0 ∷ 1 ∷ 2 ∷ 3 ∷ 4 ∷ 5 ∷ 6 ∷ 7 ∷ 12 ∷ 8 ∷ 9 ∷ 10 ∷ 11 ∷ [])
+      (0 ∷ 1 ∷ 2 ∷ 3 ∷ 4 ∷ 5 ∷ 6 ∷ 7 ∷ 9 ∷ 10 ∷ 11 ∷ 12 ∷ 8 ∷ [])
+      refl refl
+
+  -- 1, then the rest
+  pub model-answered : {labels rest r : Checked} → labels ≡ one (m .labels) → rest ≡ weightedChecked m weights → r ≡ orNext labels rest → r ≡ modelChecked m weights
+  unfolding weightedChecked modelChecked orNext
+  model-answered a b c =
+      c
+      ∙ rw (a, b)
+      (as-rows (one (m .labels)) (weightedLimits m weights) (modelCounts m) (weightedRooms m weights) (weightedTests m weights) same-rooms)

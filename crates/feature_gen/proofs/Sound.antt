@@ -13,6 +13,7 @@ use Rattle.refusals.specs.Meaning.{Starts}
 use Rattle.refusals.proofs.Meant.{starts-kept, within}
 use Rattle.score_tables.specs.Sound.{LabelsIn}
 use Rattle.fronts.specs.Finite.{FiniteTo}
+use Rattle.refusals.specs.Bounds.{kindTable, sourceTable, weightTable, attributeListTable}
 use Rattle.refusal_rows.specs.Tests.{startsRise, kindsKnown, idsBelow, sourcesBelow, numbersFinite, Good, AllGood}
 use Rattle.refusal_rows.proofs.Means.{test-means}
 use Rattle.lines.specs.Tables.{Model, Transition}
@@ -22,22 +23,23 @@ use Rattle.feature_gen.specs.Sound.{ModelSized, SoundModel, Weighted}
 
 -- ---- one table
 
-pub rising : (table : List ℕ) (n entries : ℕ) → Good (startsRise table n entries) → Starts table n entries
-rising table n entries g = starts-kept table n entries .0 (test-means (startsRise table n entries) .accepted .1 g)
+-- what a good test tells, of whichever table
+pub rising : (table : List ℕ) (n entries : ℕ) → Good (startsRise attributeListTable table n entries) → Starts table n entries
+rising table n entries g = starts-kept table n entries .0 (test-means (startsRise attributeListTable table n entries) .accepted .1 g)
 
-pub below : (table : List ℕ) (n bound : ℕ) → Good (idsBelow table n bound) → (i : ℕ) → i < n → getD table i 0 < bound
+pub below : (table : List ℕ) (n bound : ℕ) → Good (idsBelow attributeListTable table n bound) → (i : ℕ) → i < n → getD table i 0 < bound
 below table n bound g i l = lt-of-not-le (g i l)
 
-pub known : (table : List ℕ) (n : ℕ) → Good (kindsKnown table n) → (i : ℕ) → i < n → getD table i 0 ≤ Transition
+pub known : (table : List ℕ) (n : ℕ) → Good (kindsKnown kindTable table n) → (i : ℕ) → i < n → getD table i 0 ≤ Transition
 known table n g i l = go (getD table i 0) (λ d. g i l d)
   where
     go : (k : ℕ) → ((k ≡ 0 → ⊥) × (k ≡ 1 → ⊥) → ⊥) → k ≤ 1
     go k h = omega (arith, lt-of-not-le (λ (w : 2 ≤ k). h (λ e. omega arith, λ e. omega arith)))
 
-pub left-from : (kinds table : List ℕ) (n labels : ℕ) → Good (sourcesBelow kinds table n labels) → (i : ℕ) → i < n → getD kinds i 0 ≡ Transition → getD table i 0 < labels
+pub left-from : (kinds table : List ℕ) (n labels : ℕ) → Good (sourcesBelow sourceTable kinds table n labels) → (i : ℕ) → i < n → getD kinds i 0 ≡ Transition → getD table i 0 < labels
 left-from kinds table n labels g i l k = lt-of-not-le (λ b. g i l (k, b))
 
-pub all-finite : (table : List Float) (n : ℕ) → Good (numbersFinite table n) → FiniteTo table n
+pub all-finite : (table : List Float) (n : ℕ) → Good (numbersFinite weightTable table n) → FiniteTo table n
 all-finite table n g i l = go (finite (getD table i nan)) (g i l)
   where
     go : (b : Bool) → (b ≡ false → ⊥) → T b
@@ -86,7 +88,7 @@ module _ (m : Model) where
         sources = left-from (f .kinds) (f .sources) (f .count) (m .labels) (ids .1 .1 .0);
       }
 
-  pub weighted : (weights : List Float) → SoundModel m → m .features .count ≤ length weights → Good (numbersFinite weights (m .features .count)) → Weighted m weights
+  pub weighted : (weights : List Float) → SoundModel m → m .features .count ≤ length weights → Good (numbersFinite weightTable weights (m .features .count)) → Weighted m weights
   weighted weights s room g = record {
     sound = s;
     transitions = record {

@@ -5,10 +5,11 @@ use lib.ListN.{length}
 use lib.Ieee.{Float}
 use Rattle.refusals.specs.declared.Checked.{Checked}
 use Rattle.refusals.specs.Refusals.{first}
-use Rattle.refusals.specs.Bounds.{theFeatures, theAttributeLists, theLabelLists, theAttributeEntries, theLabelEntries}
+use Rattle.refusals.specs.Bounds.{theFeatures, theAttributeLists, theLabelLists, theAttributeEntries, theLabelEntries, kindTable, destinationTable, sourceTable, weightTable, attributeListTable, labelListTable}
 use Rattle.score_tables.specs.Rows.{one}
 use Rattle.refusal_rows.specs.Limits.{Limit, count, room, two}
 use Rattle.refusal_rows.specs.Tests.{Test, startsRise, kindsKnown, idsBelow, sourcesBelow, numbersFinite, checks}
+use Rattle.refusal_rows.specs.Parts.{partChecked}
 use Rattle.lines.specs.Tables.{Features, Lists, Model}
 
 -- ---- 2 | "a count other than L, T and epochs outside its bound" | 0
@@ -63,23 +64,23 @@ weightedRooms m weights = weightedTableRooms (m .features) weights (m .attribute
 -- 3 | "a rule of starts is broken" | "index of the first bad start"
 abbrev pub startTests : Model → List Test
 startTests m =
-    startsRise (m .attributeLists .starts) (m .attributeLists .count) (m .attributeLists .size)
-    ∷ startsRise (m .labelLists .starts) (m .labelLists .count) (m .labelLists .size)
+    startsRise attributeListTable (m .attributeLists .starts) (m .attributeLists .count) (m .attributeLists .size)
+    ∷ startsRise labelListTable (m .labelLists .starts) (m .labelLists .count) (m .labelLists .size)
     ∷ []
 
 -- 5 | "kind not 0 or 1, destination at or above L, Transition source at or above L" | "index in its table"
 abbrev pub featureTests : ℕ → Features → List Test
 featureTests labels features =
-    kindsKnown (features .kinds) (features .count)
-    ∷ idsBelow (features .destinations) (features .count) labels
-    ∷ sourcesBelow (features .kinds) (features .sources) (features .count) labels
+    kindsKnown kindTable (features .kinds) (features .count)
+    ∷ idsBelow destinationTable (features .destinations) (features .count) labels
+    ∷ sourcesBelow sourceTable (features .kinds) (features .sources) (features .count) labels
     ∷ []
 
 -- 5 | "list id at or above F" | "index in its table"
 abbrev pub entryTests : Model → List Test
 entryTests m =
-    idsBelow (m .attributeLists .entries) (m .attributeLists .size) (m .features .count)
-    ∷ idsBelow (m .labelLists .entries) (m .labelLists .size) (m .features .count)
+    idsBelow attributeListTable (m .attributeLists .entries) (m .attributeLists .size) (m .features .count)
+    ∷ idsBelow labelListTable (m .labelLists .entries) (m .labelLists .size) (m .features .count)
     ∷ []
 
 -- 5, in order: "feature kinds, destinations, sources ..; attribute lists; label lists"
@@ -88,7 +89,7 @@ idTests m = featureTests (m .labels) (m .features) ++ entryTests m
 
 -- 6 | "a weight .. not finite" | "index in its table"
 abbrev pub weightTests : Model → List Float → List Test
-weightTests m weights = numbersFinite weights (m .features .count) ∷ []
+weightTests m weights = numbersFinite weightTable weights (m .features .count) ∷ []
 
 -- "The lowest number wins": 1, 2 of the counts, 2 of the rooms, 3, 5, 6
 unfoldable pub modelChecked : Model → List Float → Checked
@@ -101,6 +102,31 @@ modelChecked m weights =
     ++ checks (idTests m)
     ++ checks (weightTests m weights))
 
--- its first three: what can be said before any table is read
-unfoldable pub modelSized : Model → List Float → Checked
-modelSized m weights = first (one (m .labels) ∷ two (modelCounts m) ∷ two (weightedRooms m weights) ∷ [])
+-- ---- the same in the parts that are checked apart, since not every call is lent weights
+
+-- 2, 3 and 5 of the tables
+abbrev pub tableLimits : Model → List Limit
+tableLimits m = modelCounts m ++ modelRooms m
+
+abbrev pub tableTests : Model → List Test
+tableTests m = startTests m ++ idTests m
+
+unfoldable pub tablesSized : Model → Checked
+tablesSized m = two (tableLimits m)
+
+unfoldable pub tablesChecked : Model → Checked
+tablesChecked m = partChecked (tableLimits m) (tableTests m)
+
+-- 2 and 6 of a weight for each feature
+unfoldable pub weightsChecked : ℕ → List Float → Checked
+weightsChecked features weights = partChecked (room (length weights) features ∷ []) (numbersFinite weightTable weights features ∷ [])
+
+-- of both
+abbrev pub weightedLimits : Model → List Float → List Limit
+weightedLimits m weights = tableLimits m ++ weightRooms (m .features) weights
+
+abbrev pub weightedTests : Model → List Float → List Test
+weightedTests m weights = tableTests m ++ weightTests m weights
+
+unfoldable pub weightedChecked : Model → List Float → Checked
+weightedChecked m weights = partChecked (weightedLimits m weights) (weightedTests m weights)

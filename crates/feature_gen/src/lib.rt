@@ -1,14 +1,16 @@
-// Features and the model that holds them, after `feature_gen.rs`: kinds State 0 and Transition 1, and the check of a model's
-// tables. What a line or a trainer tests of the same tables is said here once.
+// Features and the model that holds them, after `feature_gen.rs`: kinds State 0 and Transition 1, and the check of a model: of
+// its tables, and of its weights apart. Every call that is lent a model takes the sooner of these checks and its own.
 ghost use mathlib.Core.Path.{_≡_};
-ghost use mathlib.Core.List.{[], _∷_, _++_};
+ghost use mathlib.Core.List.{[], _∷_};
 ghost use Prim.Native.Nat.{_<_, _≤_};
-ghost use lib.ListN.{length, take, drop};
+ghost use lib.ListN.{length};
 ghost use Rattle.refusals.specs.Refusals.{firstFrom};
 ghost use Rattle.refusal_rows.specs.Limits.{anyBroken};
+ghost use Rattle.refusals.specs.Bounds.{attributeListTable, labelListTable};
 ghost use Rattle.refusal_rows.specs.Tests.{startsRise, idsBelow, checks};
-ghost use Rattle.feature_gen.specs.Rows.{countLimits, featureRooms, listRooms, tableRooms, weightedTableRooms, featureTests, modelSized};
-ghost use Rattle.feature_gen.specs.Lent.{featuresOf, attributeListsOf, labelListsOf, modelOf};
+ghost use Rattle.feature_gen.specs.Rows.{countLimits, featureRooms, listRooms, featureTests};
+ghost use Rattle.feature_gen.specs.Rows.{tablesSized, tablesChecked, weightsChecked, weightedChecked};
+ghost use Rattle.feature_gen.specs.Lent.{featuresOf, attributeListsOf, labelListsOf, modelWas};
 ghost use Rattle.feature_gen.specs.CheckModel.{ModelChecked};
 use refusals::Checked;
 
@@ -35,7 +37,7 @@ pub struct Counts {
 }
 
 // 2: whether a count is outside its bound.
-pub fn exceeds(counts: Counts) -> bool
+fn exceeds(counts: Counts) -> bool
     ensures { λ r. ⌜ r ≡ anyBroken (countLimits (counts .features) (counts .«attribute_lists») (counts .«label_lists») (counts .«attribute_entries») (counts .«label_entries»)) ⌝ }
 {
     (MOST_FEATURES < counts.features)
@@ -69,58 +71,8 @@ fn lacks_lists(
         | (label_entries.len() < counts.label_entries as usize)
 }
 
-// 2: whether a table of a model without weights is too short.
-pub fn lacks_tables(
-    counts: Counts,
-    kinds: &[u8],
-    destinations: &[u32],
-    sources: &[u32],
-    attribute_starts: &[u32],
-    attribute_entries: &[u32],
-    label_starts: &[u32],
-    label_entries: &[u32],
-) -> bool
-    ensures { λ r. ⌜ r ≡ anyBroken (tableRooms (featuresOf counts (now (kinds .entry)) (now (destinations .entry)) (now (sources .entry))) (attributeListsOf counts (now («attribute_starts» .entry)) (now («attribute_entries» .entry))) (labelListsOf counts (now («label_starts» .entry)) (now («label_entries» .entry)))) ⌝ }
-{
-    let features = lacks_features(counts, kinds, destinations, sources);
-    features
-        | lacks_lists(
-            counts,
-            attribute_starts,
-            attribute_entries,
-            label_starts,
-            label_entries,
-        )
-}
-
-// 2: whether a table of a model, or its weights, is too short.
-pub fn lacks_weighted(
-    counts: Counts,
-    kinds: &[u8],
-    destinations: &[u32],
-    sources: &[u32],
-    weights: &[f64],
-    attribute_starts: &[u32],
-    attribute_entries: &[u32],
-    label_starts: &[u32],
-    label_entries: &[u32],
-) -> bool
-    ensures { λ r. ⌜ r ≡ anyBroken (weightedTableRooms (featuresOf counts (now (kinds .entry)) (now (destinations .entry)) (now (sources .entry))) (now (weights .entry)) (attributeListsOf counts (now («attribute_starts» .entry)) (now («attribute_entries» .entry))) (labelListsOf counts (now («label_starts» .entry)) (now («label_entries» .entry)))) ⌝ }
-{
-    let features = lacks_features(counts, kinds, destinations, sources);
-    let weighted = features | (weights.len() < counts.features as usize);
-    weighted
-        | lacks_lists(
-            counts,
-            attribute_starts,
-            attribute_entries,
-            label_starts,
-            label_entries,
-        )
-}
-
 // 3 for the lists: attribute lists, then label lists.
-pub fn check_starts(
+fn check_starts(
     answer: Checked,
     counts: Counts,
     attribute_starts: &[u32],
@@ -128,7 +80,7 @@ pub fn check_starts(
 ) -> Checked
     requires { ⌜ counts .«attribute_lists» < length (now «attribute_starts») ⌝ }
     requires { ⌜ counts .«label_lists» < length (now «label_starts») ⌝ }
-    ensures { λ r. ⌜ r ≡ firstFrom answer (checks (startsRise (now («attribute_starts» .entry)) (counts .«attribute_lists») (counts .«attribute_entries») ∷ startsRise (now («label_starts» .entry)) (counts .«label_lists») (counts .«label_entries») ∷ [])) ⌝ }
+    ensures { λ r. ⌜ r ≡ firstFrom answer (checks (startsRise attributeListTable (now («attribute_starts» .entry)) (counts .«attribute_lists») (counts .«attribute_entries») ∷ startsRise labelListTable (now («label_starts» .entry)) (counts .«label_lists») (counts .«label_entries») ∷ [])) ⌝ }
 {
     let attributes = counts.attribute_lists as usize;
     let labels = counts.label_lists as usize;
@@ -142,7 +94,7 @@ pub fn check_starts(
 }
 
 // 5 for the features: kinds, then destinations, then sources.
-pub fn check_features(
+fn check_features(
     answer: Checked,
     labels: u32,
     counts: Counts,
@@ -162,7 +114,7 @@ pub fn check_features(
 }
 
 // 5 for the lists: entries of attribute lists, then of label lists.
-pub fn check_entries(
+fn check_entries(
     answer: Checked,
     counts: Counts,
     attribute_entries: &[u32],
@@ -170,7 +122,7 @@ pub fn check_entries(
 ) -> Checked
     requires { ⌜ counts .«attribute_entries» ≤ length (now «attribute_entries») ⌝ }
     requires { ⌜ counts .«label_entries» ≤ length (now «label_entries») ⌝ }
-    ensures { λ r. ⌜ r ≡ firstFrom answer (checks (idsBelow (now («attribute_entries» .entry)) (counts .«attribute_entries») (counts .features) ∷ idsBelow (now («label_entries» .entry)) (counts .«label_entries») (counts .features) ∷ [])) ⌝ }
+    ensures { λ r. ⌜ r ≡ firstFrom answer (checks (idsBelow attributeListTable (now («attribute_entries» .entry)) (counts .«attribute_entries») (counts .features) ∷ idsBelow labelListTable (now («label_entries» .entry)) (counts .«label_entries») (counts .features) ∷ [])) ⌝ }
 {
     let attributes = counts.attribute_entries as usize;
     let labels = counts.label_entries as usize;
@@ -178,8 +130,84 @@ pub fn check_entries(
     table_checks::check_ids(a, label_entries, labels, counts.features)
 }
 
-// 1, then 2 of the counts, then 2 of the tables: what can be said before any table is read.
+// 2 of a model's tables: what can be said of them before any is read.
 fn check_sizes(
+    labels: u32,
+    counts: Counts,
+    kinds: &[u8],
+    destinations: &[u32],
+    sources: &[u32],
+    attribute_starts: &[u32],
+    attribute_entries: &[u32],
+    label_starts: &[u32],
+    label_entries: &[u32],
+) -> Checked
+    ensures { λ r.
+        let m = modelWas labels counts kinds destinations sources «attribute_starts» «attribute_entries» «label_starts» «label_entries» in
+        ⌜ r ≡ tablesSized m ⌝ }
+{
+    let outside = exceeds(counts);
+    let features = lacks_features(counts, kinds, destinations, sources);
+    let lists = lacks_lists(
+        counts,
+        attribute_starts,
+        attribute_entries,
+        label_starts,
+        label_entries,
+    );
+    refusals::refuse_if(Checked::Accepted, 2, 0, outside | (features | lists))
+}
+
+// 2, 3 and 5 of a model's tables, its weights apart.
+pub fn check_tables(
+    labels: u32,
+    counts: Counts,
+    kinds: &[u8],
+    destinations: &[u32],
+    sources: &[u32],
+    attribute_starts: &[u32],
+    attribute_entries: &[u32],
+    label_starts: &[u32],
+    label_entries: &[u32],
+) -> Checked
+    ensures { λ r.
+        let m = modelWas labels counts kinds destinations sources «attribute_starts» «attribute_entries» «label_starts» «label_entries» in
+        ⌜ r ≡ tablesChecked m ⌝ }
+{
+    let sizes = check_sizes(
+        labels,
+        counts,
+        kinds,
+        destinations,
+        sources,
+        attribute_starts,
+        attribute_entries,
+        label_starts,
+        label_entries,
+    );
+    if let Checked::Refused(why) = sizes {
+        return Checked::Refused(why);
+    }
+    let three = check_starts(sizes, counts, attribute_starts, label_starts);
+    let features = check_features(three, labels, counts, kinds, destinations, sources);
+    check_entries(features, counts, attribute_entries, label_entries)
+}
+
+// 2 and 6 of a weight for each feature.
+pub fn check_weights(weights: &[f64], features: u32) -> Checked
+    ensures { λ r. ⌜ r ≡ weightsChecked features (now (weights .entry)) ⌝ }
+{
+    let n = features as usize;
+    let short = refusals::is_short(weights.len(), n);
+    let sizes = refusals::refuse_if(Checked::Accepted, 2, 0, short);
+    if let Checked::Refused(why) = sizes {
+        return Checked::Refused(why);
+    }
+    table_checks::check_numbers(sizes, weights, n)
+}
+
+// 2, 3, 5 and 6 of a model with its weights.
+pub fn check_weighted(
     labels: u32,
     counts: Counts,
     kinds: &[u8],
@@ -191,30 +219,25 @@ fn check_sizes(
     label_starts: &[u32],
     label_entries: &[u32],
 ) -> Checked
-    ensures { λ r. ⌜ r ≡ modelSized (modelOf labels counts (now (kinds .entry)) (now (destinations .entry)) (now (sources .entry)) (now («attribute_starts» .entry)) (now («attribute_entries» .entry)) (now («label_starts» .entry)) (now («label_entries» .entry))) (now (weights .entry)) ⌝ }
+    ensures { λ r.
+        let m = modelWas labels counts kinds destinations sources «attribute_starts» «attribute_entries» «label_starts» «label_entries» in
+        ⌜ r ≡ weightedChecked m (now (weights .entry)) ⌝ }
 {
-    let one = refusals::refuse_if(
-        Checked::Accepted,
-        1,
-        0,
-        refusals::is_outside(1, score_tables::MOST_LABELS, labels),
-    );
-    let two = refusals::refuse_if(one, 2, 0, exceeds(counts));
-    let short = lacks_weighted(
+    let tables = check_tables(
+        labels,
         counts,
         kinds,
         destinations,
         sources,
-        weights,
         attribute_starts,
         attribute_entries,
         label_starts,
         label_entries,
     );
-    refusals::refuse_if(two, 2, 0, short)
+    refusals::sooner(tables, check_weights(weights, counts.features))
 }
 
-// Whether a model is one that document 01 accepts: 1, 2, 3, 5, 6.
+// Whether a model is one that document 01 accepts: 1, then 2, 3, 5 and 6.
 pub fn check_model(
     labels: u32,
     counts: Counts,
@@ -227,9 +250,12 @@ pub fn check_model(
     label_starts: &[u32],
     label_entries: &[u32],
 ) -> Checked
-    ensures { λ r. ⌜ ModelChecked (record { model = modelOf labels counts (now (kinds .entry)) (now (destinations .entry)) (now (sources .entry)) (now («attribute_starts» .entry)) (now («attribute_entries» .entry)) (now («label_starts» .entry)) (now («label_entries» .entry)); weights = now (weights .entry) }) r ⌝ }
+    ensures { λ r.
+        let m = modelWas labels counts kinds destinations sources «attribute_starts» «attribute_entries» «label_starts» «label_entries» in
+        ⌜ ModelChecked (record { model = m; weights = now (weights .entry) }) r ⌝ }
 {
-    let sizes = check_sizes(
+    let one = score_tables::check_labels(labels);
+    let model = check_weighted(
         labels,
         counts,
         kinds,
@@ -241,11 +267,5 @@ pub fn check_model(
         label_starts,
         label_entries,
     );
-    if let Checked::Refused(why) = sizes {
-        return Checked::Refused(why);
-    }
-    let three = check_starts(sizes, counts, attribute_starts, label_starts);
-    let features = check_features(three, labels, counts, kinds, destinations, sources);
-    let five = check_entries(features, counts, attribute_entries, label_entries);
-    table_checks::check_numbers(five, weights, counts.features as usize)
+    refusals::or_next(one, model)
 }

@@ -91,9 +91,9 @@ from-first words starts ids values s = rw (zero-add words) s
 -- ---- as the code goes
 
 -- states, then transitions
-pub in-order : (labels words : ℕ) (states transitions : List Float) {n m : ℕ} {these those r : Checked} → n ≡ words * labels → m ≡ labels * labels → these ≡ placedAfter 0 (finishedChecked states n) → those ≡ placedAfter n (finishedChecked transitions m) → r ≡ orNext these those → r ≡ scoresFinished labels words states transitions
+pub in-order : (labels words : ℕ) (states transitions : List Float) {these those r : Checked} → these ≡ placedAfter 0 (finishedChecked states (words * labels)) → those ≡ placedAfter (words * labels) (finishedChecked transitions (labels * labels)) → r ≡ orNext these those → r ≡ scoresFinished labels words states transitions
 unfolding scoresFinished orNext
-in-order labels words states transitions p q e f g = g ∙ rw (e, f, p, q, placed-first (finishedChecked states (words * labels)))
+in-order labels words states transitions e f g = g ∙ rw (e, f, placed-first (finishedChecked states (words * labels)))
 
 -- a front whose length was computed
 pub cleared-to : {n : ℕ} (needed : ℕ) (before : List Float) {after : List Float} → n ≡ needed → after ≡ cleared nought n before → after ≡ cleared nought needed before

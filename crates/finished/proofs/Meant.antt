@@ -1,6 +1,6 @@
 -- 8 means what `Meaning` says. Assumes nothing.
 use mathlib.Core.Path.{_≡_, refl, sym, _∙_}
-use mathlib.Core.Bool.{Bool, true, false, not}
+use mathlib.Core.Bool.{Bool, true, false, not, _&&_, false≢true}
 use mathlib.Core.List.{[], _∷_}
 use mathlib.Core.Logic.{_⊎_, inl, inr, ⊎-elim}
 use Prim.Native.Nat.{ℕ, _+_, _*_}
@@ -17,10 +17,11 @@ use Rattle.refusals.specs.Refusals.{refusedAt, orNext}
 use Rattle.refusals.specs.Tables.{notFinite}
 use Rattle.refusals.proofs.Laws.{never, both, either, number-of, place-of}
 use Rattle.refusals.proofs.Meant.{accepted-means, accepted-if, exactly}
-use Rattle.fronts.specs.Finite.{NotFinite}
+use Rattle.fronts.specs.Finite.{NotFinite, allFinite}
 use Rattle.refusal_rows.specs.Given.{OneOf}
 use Rattle.finished.specs.Rows.{finishedChecked, placedAfter, scoresFinished}
-use Rattle.finished.specs.Meaning.{CountsMean, EightAt, in-states, in-transitions, ScoresMean, EightIsLast}
+use Rattle.finished.specs.Meaning.{CountsMean, EightAt, in-states, in-transitions, ScoresMean, TestsAccept, EightIsLast}
+use Rattle.finished.proofs.Laws.{test-accepts}
 
 holds : (b : Bool) → not b ≡ false → T b
 holds b h = rw (not-false b h) tt
@@ -84,6 +85,22 @@ scores-mean labels words states transitions =
     from : (place : ℕ) → EightAt labels words states transitions place → scoresFinished labels words states transitions ≡ refusedAt 8 place
     from place (in-states f) = rw (counts-mean states (words * labels) .refused place .1 f)
     from place (in-transitions finite entry e f) = rw (counts-mean states (words * labels) .accepted .1 finite, counts-mean transitions (labels * labels) .refused entry .1 f, e)
+
+-- two tests that hold together
+pub both-true : (p q : Bool) → p && q ≡ true → (p ≡ true) × (q ≡ true)
+both-true true q e = (refl, e)
+both-true false q e = absurd (false≢true e)
+
+pub tests-accept : TestsAccept
+unfolding scoresFinished orNext
+tests-accept labels words states transitions =
+    let n = words * labels in
+    let m = labels * labels in
+    let s = test-accepts states n in
+    let t = test-accepts transitions m in (
+      λ h. let b = both (finishedChecked states n) (placedAfter n (finishedChecked transitions m)) h in rw (s .0 (b .0), t .0 (not-placed n (finishedChecked transitions m) (b .1))),
+      λ h. let b = both-true (allFinite states n) (allFinite transitions m) h in rw (s .1 (b .0), t .1 (b .1)),
+    )
 
 pub eight-is-last : EightIsLast
 unfolding orNext

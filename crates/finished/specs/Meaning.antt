@@ -1,6 +1,6 @@
 -- What 8 means in plain terms: exactly when it is given, and with which place. The proofs are in proofs/Meant.
 use mathlib.Core.Path.{_≡_}
-use mathlib.Core.Bool.{true}
+use mathlib.Core.Bool.{true, _&&_}
 use mathlib.Core.List.{List}
 use mathlib.Core.Logic.{_↔_}
 use Prim.Native.Nat.{ℕ, _+_, _*_}
@@ -26,6 +26,11 @@ CountsMean = (counts : List Float) (features : ℕ) → Eight (finishedChecked c
 -- 8 is not given exactly where the finite test of the front passes
 abbrev pub TestAccepts : Type 0
 TestAccepts = (numbers : List Float) (n : ℕ) → finishedChecked numbers n ≡ Accepted ↔ allFinite numbers n ≡ true
+
+-- of a line's scores exactly where both tests pass
+abbrev pub TestsAccept : Type 0
+TestsAccept = (labels words : ℕ) (states transitions : List Float) →
+    scoresFinished labels words states transitions ≡ Accepted ↔ allFinite states (words * labels) && allFinite transitions (labels * labels) ≡ true
 
 -- "table: t·L+l, then T·L+prev·L+next": the first state that is not finite, or, where all states are finite, the first such transition
 pub data EightAt (labels words : ℕ) (states transitions : List Float) (place : ℕ) : Type 0 where

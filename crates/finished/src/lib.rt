@@ -37,13 +37,14 @@ fn check_finished(numbers: &[f64], n: usize, others: usize) -> Checked
 }
 
 // 8 of a line's scores: states, then transitions.
-pub fn check_scores(labels: u32, words: u32, transitions: &[f64], states: &[f64]) -> Checked
+pub fn check_scores(labels: usize, words: usize, transitions: &[f64], states: &[f64]) -> Checked
     requires { ⌜ ScoresSized labels words (now transitions) (now states) ⌝ }
     ensures { λ r. ⌜ r ≡ scoresFinished labels words (now (states .entry)) (now (transitions .entry)) ⌝ }
 {
-    let n = score_tables::entries(words, labels);
+    let n = words * labels;
+    let m = labels * labels;
     let first = check_finished(states, n, 0);
-    let then = check_finished(transitions, score_tables::entries(labels, labels), n);
+    let then = check_finished(transitions, m, n);
     refusals::or_next(first, then)
 }
 
@@ -69,7 +70,7 @@ pub fn finish_scores(
     ensures { λ r. ⌜ now (transitions .exit) ≡ clearedWhere r (labels * labels) (now (transitions .entry)) ⌝ }
     ensures { λ r. ⌜ now (states .exit) ≡ clearedWhere r (words * labels) (now (states .entry)) ⌝ }
 {
-    let finished = check_scores(labels, words, transitions, states);
+    let finished = check_scores(labels as usize, words as usize, transitions, states);
     if let Checked::Refused(why) = finished {
         fronts::fill(states, score_tables::entries(words, labels), 0.0);
         fronts::fill(transitions, score_tables::entries(labels, labels), 0.0);

@@ -3,12 +3,14 @@ use mathlib.Core.Path.{_≡_, refl, sym, ap, _∙_}
 use mathlib.Core.Bool.{Bool, true, false, cond, _&&_, false≢true}
 use mathlib.Core.List.{List}
 use Prim.Native.Nat.{ℕ, _+_, _≤_}
-use native.Mathlib.Nat.{mul-le-mul}
 use native.Mathlib.Omega.{arith}
 use borrow.Author.Tests.{eq-eqb, ne-eqb}
 use lib.Dec.{eqb}
-use lib.ListN.{getD}
+use lib.ListN.{getD, length}
 use lib.Ieee.{Float}
+use Rattle.refusals.specs.declared.Checked.the-variants.{Accepted}
+use Rattle.refusals.proofs.Laws.{never}
+use Rattle.refusals.proofs.Said.{refused-said, accepted-said}
 use Rattle.lines.specs.Passes.{through}
 use Rattle.lines.proofs.Laws.{through-more}
 use Rattle.best_path.specs.Scores.{tabled}
@@ -16,9 +18,12 @@ use Rattle.best_path.specs.Decoded.{decodedPath}
 use Rattle.best_path.specs.PathScore.{pathScore}
 use Rattle.best_path.proofs.Laws.{decoded-allowed}
 use Rattle.sequence_score.specs.Sound.{Met}
-use Rattle.viterbi.specs.Answered.{Ready}
+use Rattle.viterbi.specs.declared.Decoding.{Decoding}
+use Rattle.finished.specs.Rows.{scoresFinished}
+use Rattle.finished.proofs.Meant.{tests-accept}
+use Rattle.fronts.proofs.Filled.{all-of}
 use Rattle.training.specs.Wrong.{wrongAt, wrongOf}
-use Rattle.judging.specs.Judged.{Scored, Judged, finiteScores}
+use Rattle.judging.specs.Judged.{isDecoded, Judgeable, Judged, finiteScores}
 
 module _ (p q : List ℕ) where
   pub wrong-none : 0 ≡ wrongOf p q 0
@@ -40,19 +45,25 @@ pub both : (p q : Bool) → p && q ≡ true → (p ≡ true) × (q ≡ true)
 both true q e = (refl, e)
 both false q e = absurd (false≢true e)
 
-module _ {labels words : ℕ} {transitions states : List Float} {references path : List ℕ} (s : Scored labels words transitions states references path) where
-  pub ready : Ready labels words transitions states path
-  ready = record {
-    sized = record {
-      labels-in = s .labelled;
-      words-in = s .sized;
-      room = record { long-transitions = omega (arith, s); long-states = omega (arith, s) };
-      few-transitions = mul-le-mul (s .labelled .high) (s .labelled .high);
-      few-states = mul-le-mul (s .sized .high) (s .labelled .high);
-    };
-    long-path = omega (arith, s);
-  }
+unless : (b : Bool) → (b ≡ true → ⊥) → false ≡ b
+unless false h = refl
+unless true h = absurd (h refl)
 
+module _ {labels words : ℕ} {references : List ℕ} {transitions states : List Float} {path : List ℕ} where
+  -- what 8 says of the scores is what the finite tests say
+  pub decoded-finite : (answer : Decoding) → Judgeable labels words references transitions states path answer → isDecoded answer ≡ finiteScores labels words transitions states
+  decoded-finite (Decoding.Decoded found) s = sym (tests-accept labels words states transitions .0 (accepted-said _ _ _ (sym (s .labelled .answers))))
+  decoded-finite (Decoding.Refused why) s =
+      unless _ (λ t. never (tests-accept labels words states transitions .1 t) (refused-said _ _ why .0 (sym (s .labelled .answers))))
+
+  -- the path is the decoded one
+  pub path-is : (answer : Decoding) → isDecoded answer ≡ true → Judgeable labels words references transitions states path answer → path ≡ decodedPath (tabled labels transitions states) words
+  path-is (Decoding.Refused why) t s = absurd (false≢true t)
+  path-is (Decoding.Decoded found) t s =
+      let e : scoresFinished labels words states transitions ≡ Accepted = accepted-said _ _ _ (sym (s .labelled .answers)) in
+      rw e at (s .labelled .path) ∙ all-of _ _ _ (s .long-before)
+
+module _ {labels words : ℕ} {references : List ℕ} {transitions states : List Float} {path : List ℕ} {answer : Decoding} (s : Judgeable labels words references transitions states path answer) where
   -- the reference labels meet entries of the tables, and so do those of the predicted path
   pub true-met : Met labels transitions states references words
   true-met = record {
@@ -62,15 +73,18 @@ module _ {labels words : ℕ} {transitions states : List Float} {references path
     below = s .below;
   }
 
-  pub predicted-met : (p : List ℕ) → p ≡ decodedPath (tabled labels transitions states) words → Met labels transitions states p words
-  predicted-met p e =
-      let a = decoded-allowed (tabled labels transitions states) (s .labelled .low) words (s .sized .low) in
+  pub predicted-met : path ≡ decodedPath (tabled labels transitions states) words → Met labels transitions states path words
+  predicted-met e =
+      let a = decoded-allowed (tabled labels transitions states) (s .labels-in .low) words (s .words-in .low) in
       rw e (record {
         long-path = omega (arith, a .long);
         long-states = omega (arith, s);
         long-transitions = omega (arith, s);
         below = a .labels;
       })
+
+  pub path-long : path ≡ decodedPath (tabled labels transitions states) words → words ≤ length path
+  path-long e = predicted-met e .long-path
 
 -- 8 for the scores: there is nothing else to know
 pub unscored : {labels words : ℕ} {transitions states : List Float} {references after : List ℕ} (x y : Float) → finiteScores labels words transitions states ≡ false → Judged labels words transitions states references after (record { finite = false; wrong = 0; reached = x; wanted = y })

@@ -1,6 +1,6 @@
 -- What a prediction says of an instance: 8 for its scores, the wrong labels, and where there are any the two path scores. Assumes nothing.
 use mathlib.Core.Path.{_≡_}
-use mathlib.Core.Bool.{Bool, true, _&&_}
+use mathlib.Core.Bool.{Bool, true, false, _&&_}
 use mathlib.Core.List.{List}
 use Prim.Native.Nat.{ℕ, _*_, _≤_, _<_}
 use lib.ListN.{length, getD}
@@ -11,6 +11,8 @@ use Rattle.best_path.specs.PathScore.{pathScore}
 use Rattle.score_tables.specs.Sound.{LabelsIn, WordsIn}
 use Rattle.training.specs.Wrong.{wrongOf}
 use Rattle.fronts.specs.Finite.{allFinite}
+use Rattle.viterbi.specs.declared.Decoding.{Decoding}
+use Rattle.labelling.specs.Labelled.{Labelled}
 use Rattle.judging.specs.declared.Prediction.{Prediction}
 
 -- the finished state and transition scores are finite
@@ -26,12 +28,19 @@ pub record Judged (labels words : ℕ) (transitions states : List Float) (refere
   pub reached : p .finite ≡ true → (p .wrong ≡ 0 → ⊥) → p .reached ≡ pathScore (tabled labels transitions states) (decodedPath (tabled labels transitions states) words) words
   pub wanted : p .finite ≡ true → (p .wrong ≡ 0 → ⊥) → p .wanted ≡ pathScore (tabled labels transitions states) references words
 
--- what judging relies on
-pub record Scored (labels words : ℕ) (transitions states : List Float) (references path : List ℕ) : Type 0 where
-  pub labelled : LabelsIn labels
-  pub sized : WordsIn words
-  pub long-transitions : length transitions ≡ labels * labels
-  pub long-states : length states ≡ words * labels
+-- no 8 was given
+abbrev pub isDecoded : Decoding → Bool
+isDecoded (Decoding.Decoded found) = true
+isDecoded (Decoding.Refused why) = false
+
+-- what judging relies on: an instance that was labelled by these scores, in a path no longer than its words
+pub record Judgeable (labels words : ℕ) (references : List ℕ) (transitions states : List Float) (path : List ℕ) (answer : Decoding) : Type 0 where
+  pub labels-in : LabelsIn labels
+  pub words-in : WordsIn words
   pub referenced : length references ≡ words
   pub below : (w : ℕ) → w < words → getD references w 0 < labels
-  pub long-path : length path ≡ words
+  pub long-transitions : length transitions ≡ labels * labels
+  pub long-states : length states ≡ words * labels
+  pub before : List ℕ
+  pub long-before : length before ≡ words
+  pub labelled : Labelled labels words transitions states before answer path

@@ -1,10 +1,11 @@
-// What a visit has to know of an instance whose scores are made: 8 for the scores, the predicted path beside the reference, and
-// their path scores.
+// What a visit has to know of an instance that was labelled: 8 of its scores, the predicted path beside the reference, and their
+// path scores.
 ghost use mathlib.Core.Path.{_≡_};
 ghost use Prim.Native.Nat.{_≤_};
 ghost use lib.ListN.{length};
 ghost use Rattle.training.specs.Wrong.{wrongOf};
-ghost use Rattle.judging.specs.Judged.{Judged, Scored};
+ghost use Rattle.judging.specs.Judged.{isDecoded, Judged, Judgeable};
+use viterbi::Decoding;
 
 // Whether the scores are finite, how many labels are wrong, and where some are, the scores of the predicted and the true path.
 pub struct Prediction {
@@ -30,20 +31,30 @@ fn count_wrong(path: &[u32], references: &[u32], words: usize) -> u32
     wrong
 }
 
-// 8 for the scores, then the path and the number of wrong labels, then the two path scores.
+// No 8 was given for the scores.
+fn is_decoded(answer: Decoding) -> bool
+    ensures { λ r. ⌜ r ≡ isDecoded answer ⌝ }
+{
+    match answer {
+        Decoding::Decoded(_) => true,
+        Decoding::Refused(_) => false,
+    }
+}
+
+// A labelled instance beside its reference: 8 of its scores, then the number of wrong labels, then the two path scores.
 pub fn judge(
     labels: usize,
     words: usize,
+    references: &[u32],
     transitions: &[f64],
     states: &[f64],
-    references: &[u32],
-    path: &mut [u32],
+    path: &[u32],
+    answer: Decoding,
 ) -> Prediction
-    requires { ⌜ Scored labels words (now transitions) (now states) (now references) (now path) ⌝ }
-    ensures { λ r. ⌜ Judged labels words (now (transitions .entry)) (now (states .entry)) (now (references .entry)) (now (path .exit)) r ⌝ }
+    requires { ⌜ Judgeable labels words (now references) (now transitions) (now states) (now path) answer ⌝ }
+    ensures { λ r. ⌜ Judged labels words (now (transitions .entry)) (now (states .entry)) (now (references .entry)) (now (path .entry)) r ⌝ }
 {
-    let finite = fronts::all_finite(states, words * labels)
-        & fronts::all_finite(transitions, labels * labels);
+    let finite = is_decoded(answer);
     if !finite {
         return Prediction {
             finite: false,
@@ -52,7 +63,6 @@ pub fn judge(
             wanted: 0.0,
         };
     }
-    viterbi::decode_tables(labels, words, transitions, states, path);
     let wrong = count_wrong(path, references, words);
     if wrong == 0 {
         return Prediction {

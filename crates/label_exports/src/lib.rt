@@ -1,6 +1,7 @@
 // Score, then decode: the labels of a line, for programs in C and Rust. One call of the crate label_line, and its answer as
 // numbers.
-ghost use Rattle.feature_gen.specs.Lent.{modelOf};
+ghost use Rattle.lines.specs.Entry.{lineWas};
+ghost use Rattle.feature_gen.specs.Lent.{modelWas};
 ghost use Rattle.label_exports.specs.Labels.{Labels};
 use answers::decoding::Decoded;
 use feature_gen::Counts;
@@ -25,11 +26,13 @@ pub extern "C" fn bodkinbloom_label_line(
     values: &[f64],
     path: &mut [u32],
 ) -> Decoded
-    ensures { λ r. ⌜ Labels (record { model = modelOf labels counts (now (kinds .entry)) (now (destinations .entry)) (now (sources .entry)) (now («attribute_starts» .entry)) (now («attribute_entries» .entry)) (now («label_starts» .entry)) (now («label_entries» .entry)); weights = now (weights .entry); words = words; line = record { starts = now («word_starts» .entry); size = attributes; ids = now (ids .entry); values = now (values .entry) } }) (now (path .entry)) (record { answer = r; path = now (path .exit) }) ⌝ }
+    ensures { λ r.
+        let m = modelWas labels counts kinds destinations sources «attribute_starts» «attribute_entries» «label_starts» «label_entries» in
+        let line = lineWas attributes «word_starts» ids values in
+        ⌜ Labels (record { model = m; weights = now (weights .entry); words = words; line = line }) (now (path .entry)) (record { answer = r; path = now (path .exit) }) ⌝ }
 {
     let answer = label_line::label_line(
         labels,
-        words,
         counts,
         kinds,
         destinations,
@@ -39,6 +42,7 @@ pub extern "C" fn bodkinbloom_label_line(
         attribute_entries,
         label_starts,
         label_entries,
+        words,
         attributes,
         word_starts,
         ids,

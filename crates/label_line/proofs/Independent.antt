@@ -13,9 +13,9 @@ use Rattle.best_path.proofs.Laws.{decoded-length}
 use Rattle.viterbi.specs.Promise.{decoded, said}
 use Rattle.same_scores.proofs.Same.{only-named-matters}
 use Rattle.compute_scores.specs.Promise.{Given, finishedOf}
-use Rattle.compute_scores.specs.Independent.{inputOf}
-use Rattle.label_line.specs.Promise.{Outcome, scoresOf, checkedOf, decodedOf, answerTo, pathAfter, Promised}
-use Rattle.label_line.specs.Independent.{IsLabelled, SameLabels}
+use Rattle.compute_scores.specs.Independent.{scoringInputOf}
+use Rattle.label_line.specs.Promise.{Outcome, scoresOf, checkedOf, IsLabelled, decodedOf, answerTo, pathAfter, Promised}
+use Rattle.label_line.specs.Independent.{SameLabels}
 use Rattle.label_line.proofs.Meant.{checks-mean}
 
 -- a line that is labelled has the definition's path, sum and lead
@@ -39,7 +39,7 @@ module _ (given : Given) (before : List ℕ) (outcome : Outcome) (kept : Promise
 
 pub same-labels : SameLabels
 same-labels a b agree before other x y p q xs ys =
-    let s = only-named-matters (inputOf a) (inputOf b) agree in
+    let s = only-named-matters (scoringInputOf a) (scoringInputOf b) agree in
     record {
       answers = answer-is a before x p xs ∙ ap₂ decoded (s .sum) (s .ahead) ∙ sym (answer-is b other y q ys);
       path = path-is a before x p xs ∙ s .path ∙ sym (path-is b other y q ys);

@@ -1,4 +1,3 @@
-mod Fronts
 pub mod Parted
 pub mod Unique
 pub mod Meant

@@ -3,17 +3,11 @@ use mathlib.Core.Path.{_≡_}
 use mathlib.Core.List.{List}
 use Prim.Native.Nat.{ℕ}
 use lib.ListN.{take}
-use lib.Ieee.{Float}
-use Rattle.best_path.specs.Lead.{Lead}
-use Rattle.viterbi.specs.Promise.{decoded, said}
+use Rattle.viterbi.specs.Promise.{said}
 use Rattle.same_scores.specs.Agree.{Agree}
 use Rattle.compute_scores.specs.Promise.{Given}
-use Rattle.compute_scores.specs.Independent.{inputOf}
-use Rattle.label_line.specs.Promise.{Outcome, Promised}
-
--- the answer is no refusal
-abbrev pub IsLabelled : Outcome → Type 0
-IsLabelled outcome = (sum : Float) × (lead : Lead) × (said (outcome .answer) ≡ decoded sum lead)
+use Rattle.compute_scores.specs.Independent.{scoringInputOf}
+use Rattle.label_line.specs.Promise.{Outcome, IsLabelled, Promised}
 
 pub record SameLabelling (a b : Given) (x y : Outcome) : Type 0 where
   -- the same sum and lead
@@ -22,7 +16,7 @@ pub record SameLabelling (a b : Given) (x y : Outcome) : Type 0 where
 
 abbrev pub SameLabels : Type 0
 SameLabels =
-    (a b : Given) → Agree (inputOf a) (inputOf b) →
+    (a b : Given) → Agree (scoringInputOf a) (scoringInputOf b) →
     (before other : List ℕ) (x y : Outcome) → Promised a before x → Promised b other y →
     IsLabelled x → IsLabelled y →
     SameLabelling a b x y

@@ -1,4 +1,3 @@
-pub mod Finished
 pub mod Rows
 pub mod Promise
 pub mod Meaning

@@ -3,16 +3,14 @@ use mathlib.Core.Path.{_≡_}
 use mathlib.Core.List.{List}
 use Prim.Native.Nat.{ℕ}
 use lib.ListN.{length}
-use lib.Ieee.{Float}
 use Rattle.refusals.specs.Refusals.{numbered}
 use Rattle.refusals.specs.Said.{refused}
-use Rattle.best_path.specs.Lead.{Lead}
-use Rattle.viterbi.specs.Promise.{decoded, said}
+use Rattle.viterbi.specs.Promise.{said}
 use Rattle.finished.specs.Answers as line
 use Rattle.compute_scores.specs.Promise.{Given}
 use Rattle.compute_scores.specs.Meaning.{startsOf, idsOf, numbersOf, EightIn, ScoresFinite}
 use Rattle.label_line.specs.Rows.{labelCounts, labelRooms}
-use Rattle.label_line.specs.Promise.{Outcome, Promised}
+use Rattle.label_line.specs.Promise.{Outcome, IsLabelled, Promised}
 
 -- `Refuses number place` says how a refusal is answered, `Accepts` how none is
 abbrev pub Meaning : (Refuses : ℕ → ℕ → Type 0) (Accepts : Type 0) (given : Given) (before : List ℕ) → Type 0
@@ -29,5 +27,5 @@ abbrev pub LabellingMeans : Type 0
 LabellingMeans =
     (given : Given) (before : List ℕ) (outcome : Outcome) → Promised given before outcome →
     Meaning (λ number place. said (outcome .answer) ≡ refused (numbered number place))
-    ((sum : Float) × (lead : Lead) × (said (outcome .answer) ≡ decoded sum lead))
+    (IsLabelled outcome)
     given before

@@ -1,17 +1,19 @@
 -- What labelling a line promises: document 01's answer to what the call is given, and what the lent buffer holds afterwards. Assumes nothing.
 use mathlib.Core.Path.{_≡_}
 use mathlib.Core.List.{List}
-use Prim.Native.Nat.{ℕ}
+use Prim.Native.Nat.{ℕ, _≤_}
 use lib.ListN.{length}
+use lib.Ieee.{Float}
 use Rattle.refusals.specs.declared.Checked.{Checked}
-use Rattle.refusals.specs.declared.Checked.the-variants.{Accepted}
 use Rattle.refusals.specs.Refusals.{orNext}
 use Rattle.refusals.specs.Said.{Said, orRefused}
 use Rattle.best_path.specs.Scores.{Scores, tabled}
 use Rattle.best_path.specs.Decoded.{decodedPath, decodedSum}
-use Rattle.best_path.specs.Lead.{lead}
+use Rattle.best_path.specs.Lead.{Lead, lead}
 use Rattle.viterbi.specs.declared.Decoding.{Decoding}
 use Rattle.viterbi.specs.Promise.{SumAndLead, decoded, said}
+use Rattle.feature_gen.specs.Sound.{Weighted}
+use Rattle.line_check.specs.Sound.{SoundLine}
 use Rattle.finished.specs.After.{contents}
 use Rattle.compute_scores.specs.Promise.{Given, statesOfLine, transitionsOfLine, finishedOf}
 use Rattle.label_line.specs.Rows.{labelChecked}
@@ -20,6 +22,10 @@ use Rattle.label_line.specs.Rows.{labelChecked}
 pub record Outcome : Type 0 where
   pub answer : Decoding
   pub path : List ℕ
+
+-- the answer is no refusal
+abbrev pub IsLabelled : Outcome → Type 0
+IsLabelled outcome = (sum : Float) × (lead : Lead) × (said (outcome .answer) ≡ decoded sum lead)
 
 -- the scores of the line
 abbrev pub scoresOf : Given → Scores
@@ -46,10 +52,11 @@ pub record Promised (given : Given) (before : List ℕ) (outcome : Outcome) : Ty
   pub answers : said (outcome .answer) ≡ answerTo given before
   pub path : outcome .path ≡ pathAfter given before
 
--- the part of it that is left where nothing of 1 to 6 applies
-pub record Labelled (given : Given) (before : List ℕ) (outcome : Outcome) : Type 0 where
-  pub answers : said (outcome .answer) ≡ orRefused (finishedOf given) (decodedOf given)
-  pub path : outcome .path ≡ contents Accepted (finishedOf given) 0 (given .words) before (decodedPath (scoresOf given) (given .words))
+-- what labelling relies on once nothing of 1 to 6 applies
+pub record SoundLabelling (given : Given) (before : List ℕ) : Type 0 where
+  pub model : Weighted (given .model) (given .weights)
+  pub line : SoundLine (given .words) (given .line)
+  pub long-path : given .words ≤ length before
 
 -- no two different outcomes satisfy one promise; proved in proofs/Unique
 abbrev pub OnlyOne : Type 0

@@ -1,14 +1,10 @@
 // A whole training, over result and work tables that are exactly as long as they have to be: its beginning, its epochs, its end.
 ghost use mathlib.Core.Path.{_≡_};
-ghost use Prim.Native.Nat.{_≤_};
-ghost use lib.ListN.{length};
 ghost use Rattle.training.specs.Epochs.{Result, trained};
-ghost use Rattle.feature_gen.specs.Sound.{SoundModel};
-ghost use Rattle.training_check.specs.Sound.{SoundData};
 ghost use Rattle.prediction.specs.Tables.{modelAt, modelWas, dataAt, dataWas};
 ghost use Rattle.parameters.specs.Trainers.{ruleOf};
-ghost use Rattle.updates.specs.Updating.{Exact};
 ghost use Rattle.begin_and_end.specs.Ending.{Swept};
+ghost use Rattle.learning.specs.Trainable.{Trainable};
 use parameters::Trainer;
 use prediction::Sizes;
 use training::Training;
@@ -39,10 +35,9 @@ pub fn train(
     truly: &mut [f64],
     predicted: &mut [f64],
 ) -> Training
-    requires { ⌜ SoundModel (modelAt sizes kinds destinations sources starts entries «label_starts» «label_entries») ⌝ }
-    requires { ⌜ SoundData (sizes .labels) (dataAt sizes lines begins ids values references shares) ⌝ }
-    requires { ⌜ Exact (sizes .features) (now weights) (now beside) (now truly) (now predicted) ⌝ }
-    requires { ⌜ (allowed ≤ 1000) × (length (now order) ≡ sizes .instances) ⌝ }
+    requires { let m = modelAt sizes kinds destinations sources starts entries «label_starts» «label_entries» in
+        let d = dataAt sizes lines begins ids values references shares in
+        ⌜ Trainable sizes m d allowed (now order) (now weights) (now beside) (now truly) (now predicted) ⌝ }
     ensures { λ r.
         let m = modelWas sizes kinds destinations sources starts entries «label_starts» «label_entries» in
         let d = dataWas sizes lines begins ids values references shares in

@@ -1,25 +1,27 @@
--- What the sizes give a call on a line that accepts them. Assumes nothing.
+-- What the sizes give a call on a line that accepts them, and the parts that a call is checked in. Assumes nothing.
 use mathlib.Core.Path.{_≡_, refl, sym, _∙_, ap}
 use mathlib.Core.Bool.{Bool, _||_}
 use mathlib.Core.List.{List, [], _∷_, _++_}
-use Prim.Native.Nat.{ℕ, _+_, _*_, _<_, _≤_}
+use Prim.Native.Nat.{ℕ, _+_, _≤_}
 use native.Mathlib.Omega.{arith}
 use lib.ListN.{length}
+use lib.Ieee.{Float}
 use Rattle.refusals.specs.declared.Refusal.{Refusal}
 use Rattle.refusals.specs.declared.Checked.{Checked}
 use Rattle.refusals.specs.declared.Checked.the-variants.{Accepted, Refused}
-use Rattle.refusals.specs.Refusals.{first, firstFrom, refuse}
-use Rattle.refusals.specs.Bounds.{theAttributes, most}
-use Rattle.refusals.proofs.Laws.{settled, all-accepted}
-use Rattle.score_tables.specs.Rows.{one, four}
-use Rattle.refusal_rows.specs.Limits.{Limit, count, anyBroken, two, AllWithin, Fitting}
-use Rattle.refusal_rows.specs.Tests.{checks}
-use Rattle.refusal_rows.proofs.Means.{two-means, broken-thirds, within-parts}
-use Rattle.lines.specs.Tables.{Words}
-use Rattle.feature_gen.specs.Rows.{modelCounts, modelRooms, weightedRooms, idTests, weightTests}
-use Rattle.feature_gen.specs.Sound.{ModelSized}
+use Rattle.refusals.specs.Refusals.{orNext, sooner, firstFrom, refuse}
+use Rattle.refusals.specs.Tables.{short}
+use Rattle.refusals.specs.Bounds.{theAttributes, most, attributeTable, referenceTable}
+use Rattle.score_tables.specs.Rows.{boundsChecked}
+use Rattle.refusal_rows.specs.Limits.{Limit, count, room, anyBroken, two, AllWithin, Fitting}
+use Rattle.refusal_rows.specs.Tests.{startsRise, idsBelow, checks}
+use Rattle.refusal_rows.specs.Parts.{partChecked}
+use Rattle.refusal_rows.proofs.Means.{broken-parts, within-parts}
+use Rattle.refusal_rows.proofs.Parts.{ordered, joined, same-limits, as-rows, part-stopped, part-within, part-answered}
+use Rattle.lines.specs.Tables.{Model, Words}
+use Rattle.feature_gen.specs.Rows.{modelCounts, modelRooms, weightedRooms, idTests, weightTests, tableLimits, tableTests, weightedLimits, weightedTests, tablesChecked, weightedChecked}
 use Rattle.feature_gen.proofs.Laws.{sized, room-for-weights}
-use Rattle.line_check.specs.Rows.{Scoring, Counting, lineRooms, scoreRooms, scoringCounts, scoringRooms, countRooms, countingCounts, countingRooms, lineStarts, listTests, labelTests, valueTests, sizesTested, scoringSized, scoringChecked, countingSized, countingChecked}
+use Rattle.line_check.specs.Rows.{Scoring, Counting, lineCounts, lineRooms, scoreRooms, scoringCounts, scoringRooms, countRooms, countingCounts, countingRooms, lineStarts, labelTests, valueTests, lineLimits, lineTests, lineSized, lineChecked, labelsChecked, scoringChecked, countingChecked}
 use Rattle.line_check.specs.Sound.{LineSized, ScoringFits, CountingFits}
 
 pub line-sized : (words : ℕ) (line : Words) → line .size ≤ most theAttributes → AllWithin (lineRooms words line) → LineSized words line
@@ -30,11 +32,77 @@ line-sized words line few w = record {
   values = w .1 .1 .0;
 }
 
--- sizes that are accepted are within their limits
-within : (labels words : ℕ) (counts rooms : List Limit) (r : Checked) → r ≡ sizesTested labels words (anyBroken counts) (anyBroken rooms) → r ≡ Accepted → Fitting counts rooms
-within labels words counts rooms r e h =
-    let a = all-accepted Accepted (one labels ∷ four words ∷ two counts ∷ two rooms ∷ []) (sym e ∙ h) .1 .1 .1 in
-    (two-means counts .accepted .0 (a .0), two-means rooms .accepted .0 (a .1 .0))
+-- ---- a line
+
+module _ (words : ℕ) (line : Words) where
+  pub line-stopped : {sizes : Checked} (why : Refusal) → sizes ≡ lineSized words line → sizes ≡ Refused why → Refused why ≡ lineChecked words line
+  unfolding lineSized lineChecked
+  line-stopped why e h = part-stopped (lineLimits words line) (lineTests words line) why e h
+
+  pub line-room : {sizes : Checked} → sizes ≡ lineSized words line → sizes ≡ Accepted → LineSized words line
+  unfolding lineSized
+  line-room e h =
+      let w = part-within (lineLimits words line) (lineTests words line) e h in
+      line-sized words line (w .0) (w .1)
+
+  pub line-answered : {sizes three r : Checked} → sizes ≡ lineSized words line → three ≡ firstFrom sizes (checks (startsRise attributeTable (line .starts) words (line .size) ∷ [])) →
+      r ≡ firstFrom three (checks (valueTests line)) → r ≡ lineChecked words line
+  unfolding lineSized lineChecked
+  line-answered a b c = part-answered (lineLimits words line) (lineTests words line) a (rw (c, b))
+
+-- ---- a label for each word
+
+module _ (labels words : ℕ) (path : List ℕ) where
+  abbrev path-room : List Limit
+  path-room = room (length path) words ∷ []
+
+  pub labels-stopped : {sizes : Checked} (why : Refusal) → sizes ≡ refuse 2 0 (short (length path) words) → sizes ≡ Refused why → Refused why ≡ labelsChecked labels words path
+  unfolding labelsChecked
+  labels-stopped why e h = part-stopped path-room (idsBelow referenceTable path words labels ∷ []) why e h
+
+  pub labels-room : {sizes : Checked} → sizes ≡ refuse 2 0 (short (length path) words) → sizes ≡ Accepted → words ≤ length path
+  labels-room e h = part-within path-room (idsBelow referenceTable path words labels ∷ []) e h .0
+
+  pub labels-answered : {sizes r : Checked} → sizes ≡ refuse 2 0 (short (length path) words) → r ≡ firstFrom sizes (checks (idsBelow referenceTable path words labels ∷ [])) → r ≡ labelsChecked labels words path
+  unfolding labelsChecked
+  labels-answered e f = part-answered path-room (idsBelow referenceTable path words labels ∷ []) e f
+
+-- ---- a line under a model with weights, and buffers that a call tests behind them
+
+module _ (m : Model) (weights : List Float) (words : ℕ) (line : Words) (buffers : List Limit) where
+  abbrev limits : List Limit
+  limits = weightedLimits m weights ++ lineLimits words line
+
+  abbrev rooms : List Limit
+  rooms = weightedRooms m weights ++ lineRooms words line
+
+  same-front : anyBroken limits ≡ anyBroken (lineCounts m line ++ rooms)
+  same-front =
+      same-limits limits (lineCounts m line ++ rooms)
+      (0 ∷ 1 ∷ 2 ∷ 3 ∷ 4 ∷ 13 ∷ 5 ∷ 6 ∷ 7 ∷ 12 ∷ 8 ∷ 9 ∷ 10 ∷ 11 ∷ 14 ∷ 15 ∷ 16 ∷ [])
+      (0 ∷ 1 ∷ 2 ∷ 3 ∷ 4 ∷ 6 ∷ 7 ∷ 8 ∷ 10 ∷ 11 ∷ 12 ∷ 13 ∷ 9 ∷ 5 ∷ 14 ∷ 15 ∷ 16 ∷ [])
+      refl refl
+
+  same-all : anyBroken (limits ++ buffers) ≡ anyBroken (lineCounts m line ++ (rooms ++ buffers))
+  same-all =
+      broken-parts limits buffers
+      ∙ ap (λ (b : Bool). b || anyBroken buffers) same-front
+      ∙ sym (broken-parts (lineCounts m line ++ rooms) buffers)
+
+  pub weighted-line : {bounds model own tables lent rest r : Checked} → bounds ≡ boundsChecked (m .labels) words →
+      model ≡ weightedChecked m weights → own ≡ lineChecked words line → tables ≡ sooner model own →
+      lent ≡ partChecked buffers [] → rest ≡ sooner tables lent → r ≡ orNext bounds rest →
+      r ≡ firstFrom (boundsChecked (m .labels) words) (two (lineCounts m line) ∷ two (rooms ++ buffers) ∷ checks (lineStarts m words (line .starts) (line .size)) ++ checks (idTests m) ++ checks (weightTests m weights ++ valueTests line))
+  unfolding weightedChecked lineChecked
+  weighted-line a b c d e f g =
+      let t = joined (weightedLimits m weights) (lineLimits words line) (weightedTests m weights) (lineTests words line) tt tt tt b c d in
+      let tests = ordered (weightedTests m weights ++ lineTests words line) in
+      let all = joined limits buffers tests [] tt tt tt t e f in
+      g
+      ∙ rw (a, all)
+      (as-rows (boundsChecked (m .labels) words) (limits ++ buffers) (lineCounts m line) (rooms ++ buffers) tests same-all)
+
+-- ---- the calls
 
 module _ (s : Scoring) where
   abbrev tables : List Limit
@@ -46,26 +114,11 @@ module _ (s : Scoring) where
   abbrev scores : List Limit
   scores = scoreRooms (s .model .labels) (s .words) (s .transitions) (s .states)
 
-  -- sizes that are tested part by part
-  pub scoring-sized : sizesTested (s .model .labels) (s .words) (anyBroken (scoringCounts s)) (anyBroken tables || anyBroken line || anyBroken scores) ≡ scoringSized s
-  unfolding scoringSized
-  scoring-sized = ap (sizesTested (s .model .labels) (s .words) (anyBroken (scoringCounts s))) (broken-thirds tables line scores)
-
-  -- a refusal by size is the call's
-  pub scoring-stopped : (why : Refusal) → scoringSized s ≡ Refused why → Refused why ≡ scoringChecked s
-  unfolding scoringSized scoringChecked
-  scoring-stopped why h =
-      sym
-      (settled (sizesTested (s .model .labels) (s .words) (anyBroken (scoringCounts s)) (anyBroken (scoringRooms s)))
-      (checks (lineStarts (s .model) (s .words) (s .line .starts) (s .line .size)) ++ checks (idTests (s .model)) ++ checks (weightTests (s .model) (s .weights) ++ valueTests (s .line)))
-      why
-      h)
-
-  -- the tests one after the other are the call's
-  pub scoring-answered : {sizes lists weighted r : Checked} → sizes ≡ scoringSized s → lists ≡ firstFrom sizes (checks (listTests (s .model) (s .words) (s .line .starts) (s .line .size))) →
-      weighted ≡ firstFrom lists (checks (weightTests (s .model) (s .weights))) → r ≡ firstFrom weighted (checks (valueTests (s .line))) → r ≡ scoringChecked s
-  unfolding scoringSized scoringChecked
-  scoring-answered a b c d = rw (d, c, b, a)
+  pub scoring-answered : {bounds model own both lent rest r : Checked} → bounds ≡ boundsChecked (s .model .labels) (s .words) →
+      model ≡ weightedChecked (s .model) (s .weights) → own ≡ lineChecked (s .words) (s .line) → both ≡ sooner model own →
+      lent ≡ orNext Accepted (refuse 2 0 (anyBroken scores)) → rest ≡ sooner both lent → r ≡ orNext bounds rest → r ≡ scoringChecked s
+  unfolding partChecked scoringChecked
+  scoring-answered a b c d e f g = weighted-line (s .model) (s .weights) (s .words) (s .line) scores a b c d e f g
 
   pub scoring-within : Fitting (scoringCounts s) (scoringRooms s) → ScoringFits s
   scoring-within w =
@@ -81,10 +134,6 @@ module _ (s : Scoring) where
         states = p .1 .1 .0;
       }
 
-  pub scoring-fits : (r : Checked) → r ≡ scoringSized s → r ≡ Accepted → ScoringFits s
-  unfolding scoringSized
-  scoring-fits r e h = scoring-within (within (s .model .labels) (s .words) (scoringCounts s) (scoringRooms s) r e h)
-
 module _ (c : Counting) where
   abbrev model : List Limit
   model = modelRooms (c .model)
@@ -92,23 +141,29 @@ module _ (c : Counting) where
   abbrev words : List Limit
   words = lineRooms (c .words) (c .line)
 
-  pub counting-sized : sizesTested (c .model .labels) (c .words) (anyBroken (countingCounts c)) (anyBroken model || anyBroken words || anyBroken (countRooms c)) ≡ countingSized c
-  unfolding countingSized
-  counting-sized = ap (sizesTested (c .model .labels) (c .words) (anyBroken (countingCounts c))) (broken-thirds model words (countRooms c))
+  same-counting : anyBroken (tableLimits (c .model) ++ lineLimits (c .words) (c .line) ++ countRooms c) ≡ anyBroken (countingCounts c ++ countingRooms c)
+  same-counting =
+      same-limits (tableLimits (c .model) ++ lineLimits (c .words) (c .line) ++ countRooms c) (countingCounts c ++ countingRooms c)
+      (0 ∷ 1 ∷ 2 ∷ 3 ∷ 4 ∷ 12 ∷ 5 ∷ 6 ∷ 7 ∷ 8 ∷ 9 ∷ 10 ∷ 11 ∷ 13 ∷ 14 ∷ 15 ∷ 16 ∷ 17 ∷ [])
+      (0 ∷ 1 ∷ 2 ∷ 3 ∷ 4 ∷ 6 ∷ 7 ∷ 8 ∷ 9 ∷ 10 ∷ 11 ∷ 12 ∷ 5 ∷ 13 ∷ 14 ∷ 15 ∷ 16 ∷ 17 ∷ [])
+      refl refl
 
-  pub counting-stopped : (why : Refusal) → countingSized c ≡ Refused why → Refused why ≡ countingChecked c
-  unfolding countingSized countingChecked
-  counting-stopped why h =
-      sym
-      (settled (sizesTested (c .model .labels) (c .words) (anyBroken (countingCounts c)) (anyBroken (countingRooms c)))
-      (checks (lineStarts (c .model) (c .words) (c .line .starts) (c .line .size)) ++ checks (idTests (c .model) ++ labelTests c) ++ checks (valueTests (c .line)))
-      why
-      h)
-
-  pub counting-answered : {sizes lists labelled r : Checked} → sizes ≡ countingSized c → lists ≡ firstFrom sizes (checks (listTests (c .model) (c .words) (c .line .starts) (c .line .size))) →
-      labelled ≡ firstFrom lists (checks (labelTests c)) → r ≡ firstFrom labelled (checks (valueTests (c .line))) → r ≡ countingChecked c
-  unfolding countingSized countingChecked
-  counting-answered a b d e = rw (e, d, b, a)
+  pub counting-answered : {bounds tables own both path labelled lent rest r : Checked} → bounds ≡ boundsChecked (c .model .labels) (c .words) →
+      tables ≡ tablesChecked (c .model) → own ≡ lineChecked (c .words) (c .line) → both ≡ sooner tables own →
+      path ≡ labelsChecked (c .model .labels) (c .words) (c .path) → labelled ≡ sooner both path →
+      lent ≡ orNext Accepted (refuse 2 0 (short (c .features) (c .model .features .count))) → rest ≡ sooner labelled lent → r ≡ orNext bounds rest → r ≡ countingChecked c
+  unfolding tablesChecked lineChecked labelsChecked partChecked countingChecked
+  counting-answered a b d e f g h i j =
+      let own = lineTests (c .words) (c .line) in
+      let its = room (length (c .path)) (c .words) ∷ [] in
+      let lent = room (c .features) (c .model .features .count) ∷ [] in
+      let t = joined (tableLimits (c .model)) (lineLimits (c .words) (c .line)) (tableTests (c .model)) own tt tt tt b d e in
+      let u = joined (tableLimits (c .model) ++ lineLimits (c .words) (c .line)) its (ordered (tableTests (c .model) ++ own)) (labelTests c) tt tt tt t f g in
+      let tests = ordered (ordered (tableTests (c .model) ++ own) ++ labelTests c) in
+      let all = joined (tableLimits (c .model) ++ lineLimits (c .words) (c .line) ++ its) lent tests [] tt tt tt u h i in
+      j
+      ∙ rw (a, all)
+      (as-rows (boundsChecked (c .model .labels) (c .words)) (tableLimits (c .model) ++ lineLimits (c .words) (c .line) ++ countRooms c) (countingCounts c) (countingRooms c) tests same-counting)
 
   pub counting-within : Fitting (countingCounts c) (countingRooms c) → CountingFits c
   counting-within w =
@@ -121,7 +176,3 @@ module _ (c : Counting) where
         path = p .1 .0;
         features = p .1 .1 .0;
       }
-
-  pub counting-fits : (r : Checked) → r ≡ countingSized c → r ≡ Accepted → CountingFits c
-  unfolding countingSized
-  counting-fits r e h = counting-within (within (c .model .labels) (c .words) (countingCounts c) (countingRooms c) r e h)

@@ -6,6 +6,7 @@ use Rattle.refusals.specs.Refusals.{first}
 use Rattle.score_tables.specs.Sound.{WordsIn}
 use Rattle.score_tables.proofs.Meant.{one-means, four-means}
 use Rattle.refusal_rows.specs.Limits.{Limit}
+use Rattle.refusals.specs.Bounds.{attributeTable}
 use Rattle.refusal_rows.specs.Tests.{Test, startsRise, numbersFinite, Good}
 use Rattle.refusal_rows.proofs.Means.{two-means, Numbered, good-parts}
 use Rattle.refusal_rows.proofs.Groups.{Group, single, tested, rowsOf, given-first, given-after, accepted-when, given-only}
@@ -77,7 +78,7 @@ counting-means c =
 
 -- ---- what is accepted may be relied on
 
-sound-line : (words : ℕ) (line : Words) → WordsIn words → LineSized words line → Good (startsRise (line .starts) words (line .size)) → Good (numbersFinite (line .values) (line .size)) → SoundLine words line
+sound-line : (words : ℕ) (line : Words) → WordsIn words → LineSized words line → Good (startsRise attributeTable (line .starts) words (line .size)) → Good (numbersFinite attributeTable (line .values) (line .size)) → SoundLine words line
 sound-line words line w z starts numbers = record {
   words-in = w;
   sized = z;
@@ -89,7 +90,7 @@ pub scoring-sound : ScoringSound
 scoring-sound s h =
     let a = scoring-means s .accepted .0 h in
     let f = scoring-within s (a .1 .1 .0) in
-    let t = good-parts (startTests (s .model)) (startsRise (s .line .starts) (s .words) (s .line .size) ∷ []) (a .1 .1 .1 .0) in
+    let t = good-parts (startTests (s .model)) (startsRise attributeTable (s .line .starts) (s .words) (s .line .size) ∷ []) (a .1 .1 .1 .0) in
     let n = a .1 .1 .1 .1 .1 in
     record {
       fits = f;
@@ -101,7 +102,7 @@ pub counting-sound : CountingSound
 counting-sound c h =
     let a = counting-means c .accepted .0 h in
     let f = counting-within c (a .1 .1 .0) in
-    let t = good-parts (startTests (c .model)) (startsRise (c .line .starts) (c .words) (c .line .size) ∷ []) (a .1 .1 .1 .0) in
+    let t = good-parts (startTests (c .model)) (startsRise attributeTable (c .line .starts) (c .words) (c .line .size) ∷ []) (a .1 .1 .1 .0) in
     let i = good-parts (idTests (c .model)) (labelTests c) (a .1 .1 .1 .1 .0) in
     record {
       fits = f;

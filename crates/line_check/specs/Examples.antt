@@ -1,15 +1,17 @@
 -- Decided points of a call on a single line, computed over a small model: what is accepted, and which number comes first. Assumes nothing.
 use mathlib.Core.Path.{_≡_, refl}
 use mathlib.Core.Bool.{true}
-use mathlib.Core.List.{List, [], _∷_}
+use mathlib.Core.List.{List, [], _∷_, _++_}
 use Prim.Native.Nat.{ℕ}
 use lib.Ieee.{Float, nan}
 use Rattle.refusals.specs.declared.Checked.the-variants.{Accepted}
 use Rattle.refusals.specs.Refusals.{refusedAt, refuse, orNext, lowest}
 use Rattle.refusal_rows.specs.Limits.{inOrder}
+use Rattle.refusal_rows.specs.Tests.{inTableOrder}
 use Rattle.binary64.specs.Numbers.{nought}
 use Rattle.lines.specs.Tables.{Model}
-use Rattle.line_check.specs.Rows.{Scoring, Counting, scoringCounts, countingCounts, scoringChecked, countingChecked}
+use Rattle.feature_gen.specs.Rows.{idTests, weightTests}
+use Rattle.line_check.specs.Rows.{Scoring, Counting, lineStarts, labelTests, valueTests, scoringCounts, countingCounts, scoringChecked, countingChecked}
 
 -- two labels, "attribute 0 .. listing State features to labels 0 and 1", whose sources may be anything, and three label lists with these entries
 abbrev small : List ℕ → Model
@@ -84,3 +86,13 @@ scoring-in-order s = refl
 
 counting-in-order : (c : Counting) → inOrder (countingCounts c) ≡ true
 counting-in-order c = refl
+
+-- and 3, 5 and 6 in the order of the tables
+scoring-tables : (s : Scoring) →
+    (inTableOrder (lineStarts (s .model) (s .words) (s .line .starts) (s .line .size)) ≡ true)
+    × (inTableOrder (idTests (s .model)) ≡ true)
+    × (inTableOrder (weightTests (s .model) (s .weights) ++ valueTests (s .line)) ≡ true)
+scoring-tables s = (refl, refl, refl)
+
+counting-tables : (c : Counting) → inTableOrder (idTests (c .model) ++ labelTests c) ≡ true
+counting-tables c = refl

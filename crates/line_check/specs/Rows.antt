@@ -1,15 +1,15 @@
 -- Document 01, "Numbered refusals", the rows of a call on a single line, and their order: 1, 4, 2, 3, 5, 6. Assumes nothing.
-use mathlib.Core.Bool.{Bool}
 use mathlib.Core.List.{List, [], _∷_, _++_}
 use Prim.Native.Nat.{ℕ, _+_, _*_}
 use lib.ListN.{length}
 use lib.Ieee.{Float}
 use Rattle.refusals.specs.declared.Checked.{Checked}
-use Rattle.refusals.specs.Refusals.{first, refuse}
-use Rattle.refusals.specs.Bounds.{theAttributes}
+use Rattle.refusals.specs.Refusals.{first}
+use Rattle.refusals.specs.Bounds.{theAttributes, attributeTable, referenceTable}
 use Rattle.score_tables.specs.Rows.{one, four}
-use Rattle.refusal_rows.specs.Limits.{Limit, count, room, anyBroken, two}
+use Rattle.refusal_rows.specs.Limits.{Limit, count, room, two}
 use Rattle.refusal_rows.specs.Tests.{Test, startsRise, idsBelow, numbersFinite, checks}
+use Rattle.refusal_rows.specs.Parts.{partChecked}
 use Rattle.lines.specs.Tables.{Model, Words}
 use Rattle.feature_gen.specs.Rows.{modelCounts, modelRooms, weightedRooms, startTests, idTests, weightTests}
 
@@ -81,30 +81,19 @@ countingRooms c =
 -- ---- 3 | "a rule of starts is broken" | "index of the first bad start": attribute lists, label lists, then the line's attributes
 
 abbrev pub lineStarts : Model → ℕ → List ℕ → ℕ → List Test
-lineStarts m words starts attributes = startTests m ++ startsRise starts words attributes ∷ []
-
--- 3, then the rows of 5 that every call on a line has
-abbrev pub listTests : Model → ℕ → List ℕ → ℕ → List Test
-listTests m words starts attributes = lineStarts m words starts attributes ++ idTests m
+lineStarts m words starts attributes = startTests m ++ startsRise attributeTable starts words attributes ∷ []
 
 -- ---- 5 | "label at or above L" | "index in its table", after the model's own rows
 
 abbrev pub labelTests : Counting → List Test
-labelTests c = idsBelow (c .path) (c .words) (c .model .labels) ∷ []
+labelTests c = idsBelow referenceTable (c .path) (c .words) (c .model .labels) ∷ []
 
 -- ---- 6 | "a weight, value .. not finite" | "index in its table"
 
 abbrev pub valueTests : Words → List Test
-valueTests line = numbersFinite (line .values) (line .size) ∷ []
+valueTests line = numbersFinite attributeTable (line .values) (line .size) ∷ []
 
 -- ---- the order: "a call that takes T as a number tests 4 right after 1"
-
--- 1, 4, 2 of the counts and 2 of the rooms: what can be said before any table is read
-abbrev pub sizesTested : ℕ → ℕ → Bool → Bool → Checked
-sizesTested labels words outside short = first (one labels ∷ four words ∷ refuse 2 0 outside ∷ refuse 2 0 short ∷ [])
-
-unfoldable pub scoringSized : Scoring → Checked
-scoringSized s = sizesTested (s .model .labels) (s .words) (anyBroken (scoringCounts s)) (anyBroken (scoringRooms s))
 
 unfoldable pub scoringChecked : Scoring → Checked
 scoringChecked s =
@@ -117,9 +106,6 @@ scoringChecked s =
     ++ checks (idTests (s .model))
     ++ checks (weightTests (s .model) (s .weights) ++ valueTests (s .line)))
 
-unfoldable pub countingSized : Counting → Checked
-countingSized c = sizesTested (c .model .labels) (c .words) (anyBroken (countingCounts c)) (anyBroken (countingRooms c))
-
 unfoldable pub countingChecked : Counting → Checked
 countingChecked c =
     first
@@ -130,3 +116,22 @@ countingChecked c =
     ∷ checks (lineStarts (c .model) (c .words) (c .line .starts) (c .line .size))
     ++ checks (idTests (c .model) ++ labelTests c)
     ++ checks (valueTests (c .line)))
+
+-- ---- the same in the parts that are checked apart
+
+-- 2, 3 and 6 of so many words in flat tables: those of a line, or those of all lines of a trainer
+abbrev pub lineLimits : ℕ → Words → List Limit
+lineLimits words line = count theAttributes (line .size) ∷ lineRooms words line
+
+abbrev pub lineTests : ℕ → Words → List Test
+lineTests words line = startsRise attributeTable (line .starts) words (line .size) ∷ valueTests line
+
+unfoldable pub lineSized : ℕ → Words → Checked
+lineSized words line = two (lineLimits words line)
+
+unfoldable pub lineChecked : ℕ → Words → Checked
+lineChecked words line = partChecked (lineLimits words line) (lineTests words line)
+
+-- 2 and 5 of a label for each of so many words
+unfoldable pub labelsChecked : ℕ → ℕ → List ℕ → Checked
+labelsChecked labels words path = partChecked (room (length path) words ∷ []) (idsBelow referenceTable path words labels ∷ [])

@@ -1,28 +1,55 @@
-// The checks of a call on a single line under a model: document 01's refusals 1, 4, 2, 3, 5 and 6, in this order. Two calls
-// make them: one that scores the line, lent weights, and one that counts features under labels, lent none.
+// The checks of a call on a single line under a model: document 01's refusals 1 and 4, then the sooner of the model's check,
+// the line's, and that of what else is lent. A trainer's words and labels are checked by the same functions.
 ghost use mathlib.Core.Path.{_≡_};
-ghost use Prim.Native.Nat.{_<_, _*_};
-ghost use lib.ListN.{length};
-ghost use Rattle.refusals.specs.Refusals.{refuse, first, firstFrom};
-ghost use Rattle.score_tables.specs.Rows.{one, four};
 ghost use Rattle.refusal_rows.specs.Limits.{anyBroken};
-ghost use Rattle.refusal_rows.specs.Tests.{checks};
-ghost use Rattle.feature_gen.specs.Lent.{modelOf};
-ghost use Rattle.feature_gen.specs.Sound.{ModelSized};
-ghost use Rattle.line_check.specs.Rows.{Scoring, Counting, lineRooms, scoreRooms, sizesTested, listTests};
-ghost use Rattle.line_check.specs.Rows.{scoringSized, scoringChecked, countingSized, countingChecked};
+ghost use Rattle.feature_gen.specs.Lent.{modelWas};
+ghost use Rattle.lines.specs.Entry.{lineWas};
+ghost use Rattle.line_check.specs.Rows.{scoreRooms, lineSized, lineChecked, labelsChecked, scoringChecked, countingChecked};
 use feature_gen::Counts;
 use refusals::Checked;
 
 pub const MOST_ATTRIBUTES: u32 = 4194304;
 
-// 2: whether a table of a line is too short.
-pub fn lacks_line(words: u32, attributes: u32, begins: &[u32], ids: &[u32], values: &[f64]) -> bool
-    ensures { λ r. ⌜ r ≡ anyBroken (lineRooms words (record { starts = now (begins .entry); size = attributes; ids = now (ids .entry); values = now (values .entry) })) ⌝ }
+// 2 of a line: what can be said of it before any table is read.
+fn check_sizes(words: u32, attributes: u32, begins: &[u32], ids: &[u32], values: &[f64]) -> Checked
+    ensures { λ r. ⌜ r ≡ lineSized words (lineWas attributes begins ids values) ⌝ }
 {
-    (begins.len() < words as usize + 1)
+    let broken = (MOST_ATTRIBUTES < attributes)
+        | (begins.len() < words as usize + 1)
         | (ids.len() < attributes as usize)
-        | (values.len() < attributes as usize)
+        | (values.len() < attributes as usize);
+    refusals::refuse_if(Checked::Accepted, 2, 0, broken)
+}
+
+// 2, 3 and 6 of so many words in flat tables: those of a line, or of all lines of a trainer.
+pub fn check_line(
+    words: u32,
+    attributes: u32,
+    begins: &[u32],
+    ids: &[u32],
+    values: &[f64],
+) -> Checked
+    ensures { λ r. ⌜ r ≡ lineChecked words (lineWas attributes begins ids values) ⌝ }
+{
+    let sizes = check_sizes(words, attributes, begins, ids, values);
+    if let Checked::Refused(why) = sizes {
+        return Checked::Refused(why);
+    }
+    let three = table_checks::check_starts(sizes, begins, words as usize, attributes);
+    table_checks::check_numbers(three, values, attributes as usize)
+}
+
+// 2 and 5 of a label for each of so many words.
+pub fn check_labels(labels: u32, words: u32, path: &[u32]) -> Checked
+    ensures { λ r. ⌜ r ≡ labelsChecked labels words (now (path .entry)) ⌝ }
+{
+    let n = words as usize;
+    let short = refusals::is_short(path.len(), n);
+    let sizes = refusals::refuse_if(Checked::Accepted, 2, 0, short);
+    if let Checked::Refused(why) = sizes {
+        return Checked::Refused(why);
+    }
+    table_checks::check_ids(sizes, path, n, labels)
 }
 
 // 2: whether a buffer for the scores is too short.
@@ -31,81 +58,6 @@ fn lacks_scores(labels: u32, words: u32, transitions: usize, states: usize) -> b
 {
     (transitions < score_tables::entries(labels, labels))
         | (states < score_tables::entries(words, labels))
-}
-
-// 1 and 4; 2 where a count that a call looks at is outside its bound, then where what it is lent is too short.
-fn check_sizes(labels: u32, words: u32, outside: bool, short: bool) -> Checked
-    ensures { λ r. ⌜ r ≡ sizesTested labels words outside short ⌝ }
-{
-    let bounds = score_tables::check_bounds(labels, words);
-    let two = refusals::refuse_if(Checked::Accepted, 2, 0, outside);
-    let counts = refusals::or_next(bounds, two);
-    refusals::refuse_if(counts, 2, 0, short)
-}
-
-// 3 and 5 for the model's tables, with the line's starts between.
-fn check_lists(
-    answer: Checked,
-    labels: u32,
-    counts: Counts,
-    kinds: &[u8],
-    destinations: &[u32],
-    sources: &[u32],
-    attribute_starts: &[u32],
-    attribute_entries: &[u32],
-    label_starts: &[u32],
-    label_entries: &[u32],
-    words: u32,
-    attributes: u32,
-    begins: &[u32],
-) -> Checked
-    requires { ⌜ ModelSized (modelOf labels counts (now kinds) (now destinations) (now sources) (now «attribute_starts») (now «attribute_entries») (now «label_starts») (now «label_entries»)) ⌝ }
-    requires { ⌜ words < length (now begins) ⌝ }
-    ensures { λ r. ⌜ r ≡ firstFrom answer (checks (listTests (modelOf labels counts (now (kinds .entry)) (now (destinations .entry)) (now (sources .entry)) (now («attribute_starts» .entry)) (now («attribute_entries» .entry)) (now («label_starts» .entry)) (now («label_entries» .entry))) words (now (begins .entry)) attributes)) ⌝ }
-{
-    let lists = feature_gen::check_starts(answer, counts, attribute_starts, label_starts);
-    let three = table_checks::check_starts(lists, begins, words as usize, attributes);
-    let features = feature_gen::check_features(three, labels, counts, kinds, destinations, sources);
-    feature_gen::check_entries(features, counts, attribute_entries, label_entries)
-}
-
-// 1, 4 and 2 of a line to be scored: what can be said before any table is read.
-pub fn scoring_sizes(
-    labels: u32,
-    counts: Counts,
-    kinds: &[u8],
-    destinations: &[u32],
-    sources: &[u32],
-    weights: &[f64],
-    attribute_starts: &[u32],
-    attribute_entries: &[u32],
-    label_starts: &[u32],
-    label_entries: &[u32],
-    words: u32,
-    attributes: u32,
-    begins: &[u32],
-    ids: &[u32],
-    values: &[f64],
-    transitions: usize,
-    states: usize,
-) -> Checked
-    ensures { λ r. ⌜ r ≡ scoringSized (record { model = modelOf labels counts (now (kinds .entry)) (now (destinations .entry)) (now (sources .entry)) (now («attribute_starts» .entry)) (now («attribute_entries» .entry)) (now («label_starts» .entry)) (now («label_entries» .entry)); weights = now (weights .entry); words = words; line = record { starts = now (begins .entry); size = attributes; ids = now (ids .entry); values = now (values .entry) }; transitions = transitions; states = states }) ⌝ }
-{
-    let outside = feature_gen::exceeds(counts) | (MOST_ATTRIBUTES < attributes);
-    let model = feature_gen::lacks_weighted(
-        counts,
-        kinds,
-        destinations,
-        sources,
-        weights,
-        attribute_starts,
-        attribute_entries,
-        label_starts,
-        label_entries,
-    );
-    let line = lacks_line(words, attributes, begins, ids, values);
-    let scores = lacks_scores(labels, words, transitions, states);
-    check_sizes(labels, words, outside, model | line | scores)
 }
 
 // Whether a line can be scored under a model into buffers of these lengths.
@@ -128,9 +80,13 @@ pub fn check_scoring(
     transitions: usize,
     states: usize,
 ) -> Checked
-    ensures { λ r. ⌜ r ≡ scoringChecked (record { model = modelOf labels counts (now (kinds .entry)) (now (destinations .entry)) (now (sources .entry)) (now («attribute_starts» .entry)) (now («attribute_entries» .entry)) (now («label_starts» .entry)) (now («label_entries» .entry)); weights = now (weights .entry); words = words; line = record { starts = now (begins .entry); size = attributes; ids = now (ids .entry); values = now (values .entry) }; transitions = transitions; states = states }) ⌝ }
+    ensures { λ r.
+        let m = modelWas labels counts kinds destinations sources «attribute_starts» «attribute_entries» «label_starts» «label_entries» in
+        let l = lineWas attributes begins ids values in
+        ⌜ r ≡ scoringChecked (record { model = m; weights = now (weights .entry); words = words; line = l; transitions = transitions; states = states }) ⌝ }
 {
-    let sizes = scoring_sizes(
+    let bounds = score_tables::check_bounds(labels, words);
+    let model = feature_gen::check_weighted(
         labels,
         counts,
         kinds,
@@ -141,70 +97,13 @@ pub fn check_scoring(
         attribute_entries,
         label_starts,
         label_entries,
-        words,
-        attributes,
-        begins,
-        ids,
-        values,
-        transitions,
-        states,
     );
-    if let Checked::Refused(why) = sizes {
-        return Checked::Refused(why);
-    }
-    let five = check_lists(
-        sizes,
-        labels,
-        counts,
-        kinds,
-        destinations,
-        sources,
-        attribute_starts,
-        attribute_entries,
-        label_starts,
-        label_entries,
-        words,
-        attributes,
-        begins,
-    );
-    let weighted = table_checks::check_numbers(five, weights, counts.features as usize);
-    table_checks::check_numbers(weighted, values, attributes as usize)
-}
-
-fn counting_sizes(
-    labels: u32,
-    counts: Counts,
-    kinds: &[u8],
-    destinations: &[u32],
-    sources: &[u32],
-    attribute_starts: &[u32],
-    attribute_entries: &[u32],
-    label_starts: &[u32],
-    label_entries: &[u32],
-    words: u32,
-    attributes: u32,
-    begins: &[u32],
-    ids: &[u32],
-    values: &[f64],
-    path: &[u32],
-    features: usize,
-) -> Checked
-    ensures { λ r. ⌜ r ≡ countingSized (record { model = modelOf labels counts (now (kinds .entry)) (now (destinations .entry)) (now (sources .entry)) (now («attribute_starts» .entry)) (now («attribute_entries» .entry)) (now («label_starts» .entry)) (now («label_entries» .entry)); words = words; line = record { starts = now (begins .entry); size = attributes; ids = now (ids .entry); values = now (values .entry) }; path = now (path .entry); features = features }) ⌝ }
-{
-    let outside = feature_gen::exceeds(counts) | (MOST_ATTRIBUTES < attributes);
-    let model = feature_gen::lacks_tables(
-        counts,
-        kinds,
-        destinations,
-        sources,
-        attribute_starts,
-        attribute_entries,
-        label_starts,
-        label_entries,
-    );
-    let line = lacks_line(words, attributes, begins, ids, values);
-    let short = (path.len() < words as usize) | (features < counts.features as usize);
-    check_sizes(labels, words, outside, model | line | short)
+    let line = check_line(words, attributes, begins, ids, values);
+    let tables = refusals::sooner(model, line);
+    let short = lacks_scores(labels, words, transitions, states);
+    let room = refusals::refuse_if(Checked::Accepted, 2, 0, short);
+    let scoring = refusals::sooner(tables, room);
+    refusals::or_next(bounds, scoring)
 }
 
 // Whether the features of a line can be counted under labels into a buffer of this length.
@@ -226,9 +125,13 @@ pub fn check_counting(
     path: &[u32],
     features: usize,
 ) -> Checked
-    ensures { λ r. ⌜ r ≡ countingChecked (record { model = modelOf labels counts (now (kinds .entry)) (now (destinations .entry)) (now (sources .entry)) (now («attribute_starts» .entry)) (now («attribute_entries» .entry)) (now («label_starts» .entry)) (now («label_entries» .entry)); words = words; line = record { starts = now (begins .entry); size = attributes; ids = now (ids .entry); values = now (values .entry) }; path = now (path .entry); features = features }) ⌝ }
+    ensures { λ r.
+        let m = modelWas labels counts kinds destinations sources «attribute_starts» «attribute_entries» «label_starts» «label_entries» in
+        let l = lineWas attributes begins ids values in
+        ⌜ r ≡ countingChecked (record { model = m; words = words; line = l; path = now (path .entry); features = features }) ⌝ }
 {
-    let sizes = counting_sizes(
+    let bounds = score_tables::check_bounds(labels, words);
+    let model = feature_gen::check_tables(
         labels,
         counts,
         kinds,
@@ -238,32 +141,12 @@ pub fn check_counting(
         attribute_entries,
         label_starts,
         label_entries,
-        words,
-        attributes,
-        begins,
-        ids,
-        values,
-        path,
-        features,
     );
-    if let Checked::Refused(why) = sizes {
-        return Checked::Refused(why);
-    }
-    let lists = check_lists(
-        sizes,
-        labels,
-        counts,
-        kinds,
-        destinations,
-        sources,
-        attribute_starts,
-        attribute_entries,
-        label_starts,
-        label_entries,
-        words,
-        attributes,
-        begins,
-    );
-    let five = table_checks::check_ids(lists, path, words as usize, labels);
-    table_checks::check_numbers(five, values, attributes as usize)
+    let line = check_line(words, attributes, begins, ids, values);
+    let tables = refusals::sooner(model, line);
+    let labelled = refusals::sooner(tables, check_labels(labels, words, path));
+    let short = refusals::is_short(features, counts.features as usize);
+    let room = refusals::refuse_if(Checked::Accepted, 2, 0, short);
+    let counting = refusals::sooner(labelled, room);
+    refusals::or_next(bounds, counting)
 }

@@ -1,6 +1,6 @@
 // The check of a model, and its weights, for programs in C and Rust. Each is thin: one call of the crate feature_gen, and its
 // answer as numbers.
-ghost use Rattle.feature_gen.specs.Lent.{modelOf};
+ghost use Rattle.feature_gen.specs.Lent.{modelWas};
 ghost use Rattle.model_exports.specs.Model.{Checks, Sets};
 use answers::checks::Refused;
 use feature_gen::Counts;
@@ -19,7 +19,9 @@ pub extern "C" fn bodkinbloom_check_model(
     label_starts: &[u32],
     label_entries: &[u32],
 ) -> Refused
-    ensures { λ r. ⌜ Checks (record { model = modelOf labels counts (now (kinds .entry)) (now (destinations .entry)) (now (sources .entry)) (now («attribute_starts» .entry)) (now («attribute_entries» .entry)) (now («label_starts» .entry)) (now («label_entries» .entry)); weights = now (weights .entry) }) r ⌝ }
+    ensures { λ r.
+        let model = modelWas labels counts kinds destinations sources «attribute_starts» «attribute_entries» «label_starts» «label_entries» in
+        ⌜ Checks (record { model = model; weights = now (weights .entry) }) r ⌝ }
 {
     let answer = feature_gen::check_model(
         labels,

@@ -8,7 +8,7 @@ use lib.ListN.{getD}
 use Rattle.lines.specs.Passes.{through}
 use Rattle.training.specs.declared.Progress.{Progress}
 use Rattle.training.specs.Visits.{TrainingState}
-use Rattle.training.specs.Epochs.{isRefused, opened, visitedAt, epochOver, epoch}
+use Rattle.training.specs.Epochs.{isRefused, opened, visitedAt, epochOver}
 use Rattle.training.proofs.Epochs.{epoch-next, epoch-cut}
 use Rattle.updates.specs.Updating.{Agreed}
 

@@ -1,11 +1,9 @@
 // An epoch's visits, in the order of the shuffle.
 ghost use Rattle.training.specs.Visits.{visited};
 ghost use Rattle.training.specs.Epochs.{epochOver};
-ghost use Rattle.feature_gen.specs.Sound.{SoundModel};
-ghost use Rattle.training_check.specs.Sound.{SoundData};
 ghost use Rattle.prediction.specs.Tables.{modelAt, modelWas, dataAt, dataWas};
 ghost use Rattle.parameters.specs.Trainers.{ruleOf};
-ghost use Rattle.updates.specs.Updating.{stateOf, Agreed, Exact};
+ghost use Rattle.updates.specs.Updating.{stateOf, Agreed};
 ghost use Rattle.one_epoch.specs.Visited.{Ahead, CountedIn};
 use parameters::Trainer;
 use prediction::Sizes;
@@ -36,10 +34,9 @@ pub fn epoch(
     truly: &mut [f64],
     predicted: &mut [f64],
 ) -> Progress
-    requires { ⌜ SoundModel (modelAt sizes kinds destinations sources starts entries «label_starts» «label_entries») ⌝ }
-    requires { ⌜ SoundData (sizes .labels) (dataAt sizes lines begins ids values references shares) ⌝ }
-    requires { ⌜ Exact (sizes .features) (now weights) (now beside) (now truly) (now predicted) ⌝ }
-    requires { ⌜ Ahead (sizes .instances) (now order) s ⌝ }
+    requires { let m = modelAt sizes kinds destinations sources starts entries «label_starts» «label_entries» in
+        let d = dataAt sizes lines begins ids values references shares in
+        ⌜ Ahead sizes m d (now order) s (now weights) (now beside) (now truly) (now predicted) ⌝ }
     ensures { λ r.
         let m = modelWas sizes kinds destinations sources starts entries «label_starts» «label_entries» in
         let d = dataWas sizes lines begins ids values references shares in

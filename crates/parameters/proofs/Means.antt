@@ -19,7 +19,7 @@ use Rattle.score_tables.proofs.Order.{Never, why}
 use Rattle.refusal_rows.proofs.Means.{outside-means}
 use Rattle.refusal_rows.proofs.Groups.{Group}
 use Rattle.binary64.specs.Numbers.{nought}
-use Rattle.parameters.specs.Parameters.{Parameter, epochs, epsilon, scale, gamma, variant, numberOf, lastVariant, negative, notAboveZero, unfit, sevens, Fit, AllFit, FirstUnfit}
+use Rattle.parameters.specs.Parameters.{Parameter, epochs, epsilon, scale, gamma, variant, parameterNumber, lastVariant, negative, notAboveZero, unfit, sevens, Fit, AllFit, FirstUnfit}
 
 holds-if : (b : Bool) → not b ≡ false ↔ T b
 holds-if true = (λ h. tt, λ t. refl)
@@ -50,20 +50,20 @@ fit-means (variant v) = (ltb-false lastVariant v, le-ltb lastVariant v)
 -- one row
 module _ (p : Parameter) where
   abbrev row : Checked
-  row = refuse 7 (numberOf p) (unfit p)
+  row = refuse 7 (parameterNumber p) (unfit p)
 
   accepted-means : row ≡ Accepted ↔ Fit p
   unfolding refuse
-  accepted-means = (λ h. fit-means p .0 (passes 7 (numberOf p) (unfit p) h), λ f. rw (fit-means p .1 f))
+  accepted-means = (λ h. fit-means p .0 (passes 7 (parameterNumber p) (unfit p) h), λ f. rw (fit-means p .1 f))
 
-  refused-means : (number : ℕ) → row ≡ refusedAt 7 number ↔ (number ≡ numberOf p) × (Fit p → ⊥)
+  refused-means : (number : ℕ) → row ≡ refusedAt 7 number ↔ (number ≡ parameterNumber p) × (Fit p → ⊥)
   unfolding refuse
   refused-means number = (
-    λ h. (place-of (holds 7 (numberOf p) (unfit p) _ h .1), λ f. never (accepted-means .1 f) h),
+    λ h. (place-of (holds 7 (parameterNumber p) (unfit p) _ h .1), λ f. never (accepted-means .1 f) h),
     λ w. rw (w .0) (if-unfit (unfit p) (λ e. w .1 (fit-means p .0 e))),
   )
     where
-      if-unfit : (test : Bool) → (test ≡ false → ⊥) → refuse 7 (numberOf p) test ≡ refusedAt 7 (numberOf p)
+      if-unfit : (test : Bool) → (test ≡ false → ⊥) → refuse 7 (parameterNumber p) test ≡ refusedAt 7 (parameterNumber p)
       if-unfit true n = refl
       if-unfit false n = absurd (n refl)
 
@@ -89,7 +89,7 @@ first-means ps number = (to ps, from ps)
 
 pub never-means : (ps : List Parameter) (k : ℕ) → (7 ≡ k → ⊥) → Never k (sevens ps)
 never-means [] k d = tt
-never-means (p ∷ ps) k d = (λ place h. d (sym (test-number 7 (numberOf p) (unfit p) _ h)), never-means ps k d)
+never-means (p ∷ ps) k d = (λ place h. d (sym (test-number 7 (parameterNumber p) (unfit p) _ h)), never-means ps k d)
 
 -- a trainer's own parameters: fine when all are fit, refused with the number of the first that is not
 abbrev pub fitness : List Parameter → Group

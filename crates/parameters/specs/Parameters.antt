@@ -14,6 +14,7 @@ use Rattle.binary64.specs.Numbers.{nought}
 use Rattle.parameters.specs.declared.Perceptron.{Perceptron}
 use Rattle.parameters.specs.declared.Passive.{Passive}
 use Rattle.parameters.specs.declared.Arow.{Arow}
+use Rattle.parameters.specs.declared.Method.{Method}
 
 -- "variants 0 Pa, 1 PaI, 2 PaII"
 abbrev pub lastVariant : ℕ
@@ -37,12 +38,17 @@ passivesOwn p = epochs (p .epochs) ∷ epsilon (p .epsilon) ∷ scale (p .c) ∷
 abbrev pub arowsOwn : Arow → List Parameter
 arowsOwn p = epochs (p .epochs) ∷ epsilon (p .epsilon) ∷ scale (p .variance) ∷ gamma (p .gamma) ∷ []
 
-abbrev pub numberOf : Parameter → ℕ
-numberOf (epochs n) = 1
-numberOf (epsilon x) = 2
-numberOf (scale x) = 3
-numberOf (gamma x) = 4
-numberOf (variant v) = 5
+abbrev pub ownOf : Method → List Parameter
+ownOf (Method.AveragedPerceptron p) = perceptronsOwn p
+ownOf (Method.PassiveAggressive p) = passivesOwn p
+ownOf (Method.Arow p) = arowsOwn p
+
+abbrev pub parameterNumber : Parameter → ℕ
+parameterNumber (epochs n) = 1
+parameterNumber (epsilon x) = 2
+parameterNumber (scale x) = 3
+parameterNumber (gamma x) = 4
+parameterNumber (variant v) = 5
 
 -- "2 to 4 also when not finite"; "Epsilon of −0 is zero"
 abbrev pub negative : Float → Bool
@@ -61,7 +67,7 @@ unfit (variant v) = ltb lastVariant v
 -- 7 | a bad parameter | "the lowest such number"
 abbrev pub sevens : List Parameter → List Checked
 sevens [] = []
-sevens (p ∷ ps) = refuse 7 (numberOf p) (unfit p) ∷ sevens ps
+sevens (p ∷ ps) = refuse 7 (parameterNumber p) (unfit p) ∷ sevens ps
 
 -- ---- the same in plain terms
 
@@ -79,4 +85,4 @@ AllFit (p ∷ ps) = Fit p × AllFit ps
 -- the number of the first parameter that is not fit
 abbrev pub FirstUnfit : List Parameter → ℕ → Type 0
 FirstUnfit [] number = ⊥
-FirstUnfit (p ∷ ps) number = ((number ≡ numberOf p) × (Fit p → ⊥)) ⊎ (Fit p × FirstUnfit ps number)
+FirstUnfit (p ∷ ps) number = ((number ≡ parameterNumber p) × (Fit p → ⊥)) ⊎ (Fit p × FirstUnfit ps number)

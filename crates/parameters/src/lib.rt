@@ -2,9 +2,8 @@
 ghost use mathlib.Core.Path.{_≡_};
 ghost use mathlib.Core.List.{[], _∷_};
 ghost use Rattle.refusals.specs.Refusals.{firstFrom};
-ghost use Rattle.training.specs.Rules.{passive, arow};
-ghost use Rattle.parameters.specs.Trainers.{on, ruleOf};
-ghost use Rattle.parameters.specs.Parameters.{negative, notAboveZero, epochs, epsilon, sevens, perceptronsOwn, passivesOwn, arowsOwn};
+ghost use Rattle.parameters.specs.Trainers.{on, ruleOf, ruleFor, settingsIn, settingsFor};
+ghost use Rattle.parameters.specs.Parameters.{negative, notAboveZero, epochs, epsilon, sevens, passivesOwn, arowsOwn, ownOf};
 use refusals::Checked;
 
 pub const MOST_EPOCHS: u32 = 1000;
@@ -39,6 +38,20 @@ pub struct Arow {
     pub gamma: f64,
 }
 
+// Which trainer is called, and with which parameters.
+pub enum Method {
+    AveragedPerceptron(Perceptron),
+    PassiveAggressive(Passive),
+    Arow(Arow),
+}
+
+// The epochs allowed, epsilon and the seed, which every method has.
+pub struct Settings {
+    pub epochs: u32,
+    pub epsilon: f64,
+    pub seed: u64,
+}
+
 // A trainer with its own parameters; variants 0 Pa, 1 PaI, 2 PaII.
 pub enum Trainer {
     Perceptron,
@@ -61,23 +74,45 @@ fn is_on(switch: u32) -> bool
     switch != 0
 }
 
-pub fn passive_trainer(parameters: Passive) -> Trainer
-    ensures { λ r. ⌜ ruleOf r ≡ passive (parameters .variant) (parameters .c) (on (parameters .sensitive)) (on (parameters .averaging)) ⌝ }
+// The trainer that a method stands for.
+pub fn trainer_of(method: Method) -> Trainer
+    ensures { λ r. ⌜ ruleOf r ≡ ruleFor method ⌝ }
 {
-    Trainer::Passive {
-        variant: parameters.variant,
-        c: parameters.c,
-        sensitive: is_on(parameters.sensitive),
-        averaging: is_on(parameters.averaging),
+    match method {
+        Method::AveragedPerceptron(_) => Trainer::Perceptron,
+        Method::PassiveAggressive(p) => Trainer::Passive {
+            variant: p.variant,
+            c: p.c,
+            sensitive: is_on(p.sensitive),
+            averaging: is_on(p.averaging),
+        },
+        Method::Arow(p) => Trainer::Arow {
+            variance: p.variance,
+            gamma: p.gamma,
+        },
     }
 }
 
-pub fn arow_trainer(parameters: Arow) -> Trainer
-    ensures { λ r. ⌜ ruleOf r ≡ arow (parameters .variance) (parameters .gamma) ⌝ }
+// What every method has.
+pub fn settings_of(method: Method) -> Settings
+    ensures { λ r. ⌜ settingsIn r ≡ settingsFor method ⌝ }
 {
-    Trainer::Arow {
-        variance: parameters.variance,
-        gamma: parameters.gamma,
+    match method {
+        Method::AveragedPerceptron(p) => Settings {
+            epochs: p.epochs,
+            epsilon: p.epsilon,
+            seed: p.seed,
+        },
+        Method::PassiveAggressive(p) => Settings {
+            epochs: p.epochs,
+            epsilon: p.epsilon,
+            seed: p.seed,
+        },
+        Method::Arow(p) => Settings {
+            epochs: p.epochs,
+            epsilon: p.epsilon,
+            seed: p.seed,
+        },
     }
 }
 
@@ -103,14 +138,8 @@ fn check_shared(answer: Checked, rounds: u32, stop: f64) -> Checked
     refusals::refuse_if(one, 7, 2, is_negative(stop))
 }
 
-pub fn check_perceptron(answer: Checked, parameters: Perceptron) -> Checked
-    ensures { λ r. ⌜ r ≡ firstFrom answer (sevens (perceptronsOwn parameters)) ⌝ }
-{
-    check_shared(answer, parameters.epochs, parameters.epsilon)
-}
-
 // C is tested for every variant, as in the Rust's setter.
-pub fn check_passive(answer: Checked, parameters: Passive) -> Checked
+fn check_passive(answer: Checked, parameters: Passive) -> Checked
     ensures { λ r. ⌜ r ≡ firstFrom answer (sevens (passivesOwn parameters)) ⌝ }
 {
     let two = check_shared(answer, parameters.epochs, parameters.epsilon);
@@ -118,10 +147,21 @@ pub fn check_passive(answer: Checked, parameters: Passive) -> Checked
     refusals::refuse_if(three, 7, 5, LAST_VARIANT < parameters.variant)
 }
 
-pub fn check_arow(answer: Checked, parameters: Arow) -> Checked
+fn check_arow(answer: Checked, parameters: Arow) -> Checked
     ensures { λ r. ⌜ r ≡ firstFrom answer (sevens (arowsOwn parameters)) ⌝ }
 {
     let two = check_shared(answer, parameters.epochs, parameters.epsilon);
     let three = refusals::refuse_if(two, 7, 3, is_not_above_zero(parameters.variance));
     refusals::refuse_if(three, 7, 4, is_not_above_zero(parameters.gamma))
+}
+
+// 7: each method's own.
+pub fn check_parameters(answer: Checked, method: Method) -> Checked
+    ensures { λ r. ⌜ r ≡ firstFrom answer (sevens (ownOf method)) ⌝ }
+{
+    match method {
+        Method::AveragedPerceptron(p) => check_shared(answer, p.epochs, p.epsilon),
+        Method::PassiveAggressive(p) => check_passive(answer, p),
+        Method::Arow(p) => check_arow(answer, p),
+    }
 }

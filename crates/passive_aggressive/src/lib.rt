@@ -195,7 +195,11 @@ pub fn update(
     sums: &mut [f64],
 ) -> Outcome
     requires { ⌜ (wrong ≤ 128) × Held features (length (now truly)) (length (now predicted)) (length (now weights)) (length (now sums)) ⌝ }
-    ensures { λ r. ⌜ ((words : ℕ) → Updated (passive variant c sensitive averaging) features (record { words = words; wrong = wrong; truly = now (truly .entry); predicted = now (predicted .entry); trueScore = wanted; predictedScore = reached; weight = weight; counter = counter }) (record { weights = now (weights .entry); beside = now (sums .entry) }) (record { weights = now (weights .exit); beside = now (sums .exit) }) r) ⌝ }
+    ensures { λ r. ⌜ ((words : ℕ) →
+        Updated (passive variant c sensitive averaging) features
+        (record { words = words; wrong = wrong; truly = now (truly .entry); predicted = now (predicted .entry); trueScore = wanted; predictedScore = reached; weight = weight; counter = counter })
+        (record { weights = now (weights .entry); beside = now (sums .entry) })
+        (record { weights = now (weights .exit); beside = now (sums .exit) }) r) ⌝ }
 {
     let cost = cost_of(sensitive, wrong, reached, wanted);
     let norm = norm(features, truly, predicted);

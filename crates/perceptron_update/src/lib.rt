@@ -56,7 +56,11 @@ pub fn update(
     sums: &mut [f64],
 ) -> Outcome
     requires { ⌜ Held features (length (now truly)) (length (now predicted)) (length (now weights)) (length (now sums)) ⌝ }
-    ensures { λ r. ⌜ ((trueScore predictedScore : Float) → Updated perceptron features (record { words = words; wrong = wrong; truly = now (truly .entry); predicted = now (predicted .entry); trueScore = trueScore; predictedScore = predictedScore; weight = weight; counter = counter }) (record { weights = now (weights .entry); beside = now (sums .entry) }) (record { weights = now (weights .exit); beside = now (sums .exit) }) r) ⌝ }
+    ensures { λ r. ⌜ ((trueScore predictedScore : Float) →
+        Updated perceptron features
+        (record { words = words; wrong = wrong; truly = now (truly .entry); predicted = now (predicted .entry); trueScore = trueScore; predictedScore = predictedScore; weight = weight; counter = counter })
+        (record { weights = now (weights .entry); beside = now (sums .entry) })
+        (record { weights = now (weights .exit); beside = now (sums .exit) }) r) ⌝ }
 {
     let all = push(features, weight, counter, truly, predicted, weights, sums);
     let loss = share(wrong, words, weight);

@@ -1,11 +1,9 @@
 -- What scoring one instance relies on. Assumes nothing.
 use mathlib.Core.Path.{_≡_}
 use mathlib.Core.List.{List}
-use Prim.Native.Nat.{ℕ, _*_, _≤_}
-use native.Mathlib.Nat.{mul-le-mul}
+use Prim.Native.Nat.{ℕ, _≤_}
 use lib.ListN.{length}
 use lib.Ieee.{Float}
-use Rattle.score_tables.specs.Sound.{WordsIn}
 use Rattle.lines.specs.Tables.{Model, Words}
 use Rattle.lines.specs.Sound.{SoundTransitions}
 use Rattle.lines.specs.Scored.{transitionsOf, statesOf}
@@ -20,12 +18,6 @@ module _ {m : Model} (s : SoundModel m) where
     sourced = s .sized .sources;
     leaves = s .sources;
   }
-
-  pub square-small : m .labels * m .labels ≤ 1024
-  square-small = mul-le-mul (s .labels-in .high) (s .labels-in .high)
-
-  pub rows-small : {words : ℕ} → WordsIn words → words * m .labels ≤ 4096
-  rows-small w = mul-le-mul (w .high) (s .labels-in .high)
 
 -- a judgement of two tables that are the line's scores is one of its scores
 module _ (m : Model) (weights : List Float) (line : Words) (first : ℕ) where

@@ -4,63 +4,65 @@ use mathlib.Core.List.{List}
 use Prim.Native.Nat.{ℕ, _+_, _<_}
 use lib.ListN.{getD, length}
 use lib.Ieee.{Float}
-use denote.Ref.{now}
 use denote.Triple.Both.{Both}
 use Rattle.lines.specs.Tables.{Model, Words}
 use Rattle.lines.specs.Sound.{SoundWords}
 use Rattle.score_tables.specs.Sound.{WordsIn}
 use Rattle.lines.specs.Data.{Data}
 use Rattle.lines.specs.Entry.{Numbers, Floats}
+use Rattle.lines.specs.Entry as entry
+use Rattle.lines.specs.declared.Totals.{Totals}
+use Rattle.feature_gen.specs.declared.Counts.{Counts}
+use Rattle.feature_gen.specs.Lent as lent
 use Rattle.prediction.specs.declared.Sizes.{Sizes}
 
+-- the counts of the call that the sizes come from
+abbrev pub countsIn : Sizes → Counts
+countsIn sizes = record {
+  features = sizes .features;
+  «attribute_lists» = sizes .«attribute_lists»;
+  «label_lists» = sizes .«label_lists»;
+  «attribute_entries» = sizes .«attribute_entries»;
+  «label_entries» = sizes .«label_entries»;
+}
+
+abbrev pub totalsIn : Sizes → Totals
+totalsIn sizes = record { instances = sizes .instances; words = sizes .words; attributes = sizes .attributes }
+
 abbrev pub modelOf : (sizes : Sizes) (kinds destinations sources starts entries labelStarts labelEntries : List ℕ) → Model
-modelOf sizes kinds destinations sources starts entries labelStarts labelEntries =
-    record {
-      labels = sizes .labels;
-      features = record { count = sizes .features; kinds = kinds; destinations = destinations; sources = sources };
-      attributeLists = record { count = sizes .«attribute_lists»; starts = starts; size = sizes .«attribute_entries»; entries = entries };
-      labelLists = record { count = sizes .«label_lists»; starts = labelStarts; size = sizes .«label_entries»; entries = labelEntries };
-    }
+modelOf sizes = lent.modelOf (sizes .labels) (countsIn sizes)
 
 abbrev pub wordsFrom : (sizes : Sizes) (begins ids : List ℕ) (values : List Float) → Words
-wordsFrom sizes begins ids values = record { starts = begins; size = sizes .attributes; ids = ids; values = values }
+wordsFrom sizes = entry.lineOf (sizes .attributes)
 
 abbrev pub dataOf : (sizes : Sizes) (lines begins ids : List ℕ) (values : List Float) (references : List ℕ) (shares : List Float) → Data
-dataOf sizes lines begins ids values references shares =
-    record {
-      instances = sizes .instances;
-      starts = lines;
-      count = sizes .words;
-      words = wordsFrom sizes begins ids values;
-      references = references;
-      weights = shares;
-    }
+dataOf sizes = entry.dataOf (totalsIn sizes)
 
 -- the same at a call's entry: in a `requires`, where the name of a table is the table
 abbrev pub modelAt : Sizes → Numbers → Numbers → Numbers → Numbers → Numbers → Numbers → Numbers → Model
-modelAt sizes k d s a e b f = modelOf sizes (now k) (now d) (now s) (now a) (now e) (now b) (now f)
+modelAt sizes = lent.modelAt (sizes .labels) (countsIn sizes)
 
 abbrev pub wordsAt : Sizes → Numbers → Numbers → Floats → Words
-wordsAt sizes b i v = wordsFrom sizes (now b) (now i) (now v)
+wordsAt sizes = entry.lineAt (sizes .attributes)
 
 abbrev pub dataAt : Sizes → Numbers → Numbers → Numbers → Floats → Numbers → Floats → Data
-dataAt sizes l b i v r s = dataOf sizes (now l) (now b) (now i) (now v) (now r) (now s)
+dataAt sizes = entry.dataAt (totalsIn sizes)
 
 -- and in an `ensures`, where it is the pair of entry and exit
 module _ {A B C D E F G : Type 0} where
   abbrev pub modelWas : Sizes → Both Numbers A → Both Numbers B → Both Numbers C → Both Numbers D → Both Numbers E → Both Numbers F → Both Numbers G → Model
-  modelWas sizes k d s a e b f = modelAt sizes (k .entry) (d .entry) (s .entry) (a .entry) (e .entry) (b .entry) (f .entry)
+  modelWas sizes = lent.modelWas (sizes .labels) (countsIn sizes)
 
 module _ {A B C : Type 0} where
   abbrev pub wordsWas : Sizes → Both Numbers A → Both Numbers B → Both Floats C → Words
-  wordsWas sizes b i v = wordsAt sizes (b .entry) (i .entry) (v .entry)
+  wordsWas sizes = entry.lineWas (sizes .attributes)
 
 module _ {A B C D E F : Type 0} where
   abbrev pub dataWas : Sizes → Both Numbers A → Both Numbers B → Both Numbers C → Both Floats D → Both Numbers E → Both Floats F → Data
-  dataWas sizes l b i v r s = dataAt sizes (l .entry) (b .entry) (i .entry) (v .entry) (r .entry) (s .entry)
+  dataWas sizes = entry.dataWas (totalsIn sizes)
 
 -- one instance: its words, from the word `first` on, and its reference labels
-pub record SoundLine (labels : ℕ) (words : Words) (first count : ℕ) (references : List ℕ) : Type 0 where
+pub record SoundInstance (labels : ℕ) (words : Words) (first count : ℕ) (references : List ℕ) : Type 0 where
   pub sized : WordsIn count
   pub worded : SoundWords (first + count) (words .starts) (words .ids) (words .values)
   pub referenced : length references ≡ count

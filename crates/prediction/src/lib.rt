@@ -1,10 +1,10 @@
-// What a visit does before it learns: it scores an instance with the present weights and has the scores judged.
+// What a visit does before it learns: it labels an instance with the present weights and has the labels judged.
 ghost use mathlib.Core.Path.{_≡_};
 ghost use Prim.Native.Nat.{_*_, _≤_};
 ghost use lib.ListN.{length};
 ghost use Rattle.lines.specs.Scored.{statesOf, transitionsOf};
 ghost use Rattle.feature_gen.specs.Sound.{SoundModel};
-ghost use Rattle.prediction.specs.Tables.{modelAt, modelWas, wordsAt, wordsWas, SoundLine};
+ghost use Rattle.prediction.specs.Tables.{modelAt, modelWas, wordsAt, wordsWas, SoundInstance};
 ghost use Rattle.judging.specs.Judged.{Judged};
 use judging::Prediction;
 
@@ -27,6 +27,7 @@ fn predict_in(
     kinds: &[u8],
     destinations: &[u32],
     sources: &[u32],
+    weights: &[f64],
     starts: &[u32],
     entries: &[u32],
     label_starts: &[u32],
@@ -34,7 +35,6 @@ fn predict_in(
     begins: &[u32],
     ids: &[u32],
     values: &[f64],
-    weights: &[f64],
     first: usize,
     words: usize,
     references: &[u32],
@@ -43,7 +43,7 @@ fn predict_in(
     path: &mut [u32],
 ) -> Prediction
     requires { ⌜ SoundModel (modelAt sizes kinds destinations sources starts entries «label_starts» «label_entries») ⌝ }
-    requires { ⌜ SoundLine (sizes .labels) (wordsAt sizes begins ids values) first words (now references) ⌝ }
+    requires { ⌜ SoundInstance (sizes .labels) (wordsAt sizes begins ids values) first words (now references) ⌝ }
     requires { ⌜ (length (now weights) ≡ sizes .features) × (length (now path) ≡ words) ⌝ }
     requires { ⌜ (length (now transitions) ≡ sizes .labels * sizes .labels) × (length (now states) ≡ words * sizes .labels) ⌝ }
     ensures { λ r.
@@ -54,7 +54,7 @@ fn predict_in(
 {
     let labels = sizes.labels;
     let features = sizes.features;
-    compute_scores::score_transitions(
+    line_scores::score_transitions(
         labels,
         features,
         kinds,
@@ -66,7 +66,7 @@ fn predict_in(
         label_entries,
         transitions,
     );
-    compute_scores::score_line(
+    let answer = labelling::label_at(
         labels,
         features,
         kinds,
@@ -80,17 +80,20 @@ fn predict_in(
         values,
         first,
         words,
+        transitions,
         states,
+        path,
     );
-    judging::judge(labels, words, transitions, states, references, path)
+    judging::judge(labels, words, references, transitions, states, path, answer)
 }
 
-// A short line has its scores in small arrays: clearing large ones would take longer than the line.
+// A short line has its scores in small arrays.
 fn predict_short(
     sizes: Sizes,
     kinds: &[u8],
     destinations: &[u32],
     sources: &[u32],
+    weights: &[f64],
     starts: &[u32],
     entries: &[u32],
     label_starts: &[u32],
@@ -98,14 +101,13 @@ fn predict_short(
     begins: &[u32],
     ids: &[u32],
     values: &[f64],
-    weights: &[f64],
     first: usize,
     words: usize,
     references: &[u32],
     path: &mut [u32],
 ) -> Prediction
     requires { ⌜ SoundModel (modelAt sizes kinds destinations sources starts entries «label_starts» «label_entries») ⌝ }
-    requires { ⌜ SoundLine (sizes .labels) (wordsAt sizes begins ids values) first words (now references) ⌝ }
+    requires { ⌜ SoundInstance (sizes .labels) (wordsAt sizes begins ids values) first words (now references) ⌝ }
     requires { ⌜ (length (now weights) ≡ sizes .features) × (length (now path) ≡ words) ⌝ }
     requires { ⌜ (sizes .labels * sizes .labels ≤ 256) × (words * sizes .labels ≤ 256) ⌝ }
     ensures { λ r.
@@ -114,8 +116,8 @@ fn predict_short(
         let w = now (weights .entry) in
         ⌜ Judged (sizes .labels) words (transitionsOf m w) (statesOf m w line first words) (now (references .entry)) (now (path .exit)) r ⌝ }
 {
-    let mut transitions = [0.0; 256];
-    let mut states = [0.0; 256];
+    let mut transitions = [0.0; labelling::FEW];
+    let mut states = [0.0; labelling::FEW];
     let square = sizes.labels * sizes.labels;
     let rows = words * sizes.labels;
     predict_in(
@@ -123,6 +125,7 @@ fn predict_short(
         kinds,
         destinations,
         sources,
+        weights,
         starts,
         entries,
         label_starts,
@@ -130,7 +133,6 @@ fn predict_short(
         begins,
         ids,
         values,
-        weights,
         first,
         words,
         references,
@@ -146,6 +148,7 @@ fn predict_long(
     kinds: &[u8],
     destinations: &[u32],
     sources: &[u32],
+    weights: &[f64],
     starts: &[u32],
     entries: &[u32],
     label_starts: &[u32],
@@ -153,14 +156,13 @@ fn predict_long(
     begins: &[u32],
     ids: &[u32],
     values: &[f64],
-    weights: &[f64],
     first: usize,
     words: usize,
     references: &[u32],
     path: &mut [u32],
 ) -> Prediction
     requires { ⌜ SoundModel (modelAt sizes kinds destinations sources starts entries «label_starts» «label_entries») ⌝ }
-    requires { ⌜ SoundLine (sizes .labels) (wordsAt sizes begins ids values) first words (now references) ⌝ }
+    requires { ⌜ SoundInstance (sizes .labels) (wordsAt sizes begins ids values) first words (now references) ⌝ }
     requires { ⌜ (length (now weights) ≡ sizes .features) × (length (now path) ≡ words) ⌝ }
     ensures { λ r.
         let m = modelWas sizes kinds destinations sources starts entries «label_starts» «label_entries» in
@@ -168,8 +170,8 @@ fn predict_long(
         let w = now (weights .entry) in
         ⌜ Judged (sizes .labels) words (transitionsOf m w) (statesOf m w line first words) (now (references .entry)) (now (path .exit)) r ⌝ }
 {
-    let mut transitions = [0.0; 1024];
-    let mut states = [0.0; 4096];
+    let mut transitions = [0.0; labelling::MOST_TRANSITIONS];
+    let mut states = [0.0; labelling::MOST_STATES];
     let square = sizes.labels * sizes.labels;
     let rows = words * sizes.labels;
     predict_in(
@@ -177,6 +179,7 @@ fn predict_long(
         kinds,
         destinations,
         sources,
+        weights,
         starts,
         entries,
         label_starts,
@@ -184,7 +187,6 @@ fn predict_long(
         begins,
         ids,
         values,
-        weights,
         first,
         words,
         references,
@@ -200,6 +202,7 @@ pub fn predict(
     kinds: &[u8],
     destinations: &[u32],
     sources: &[u32],
+    weights: &[f64],
     starts: &[u32],
     entries: &[u32],
     label_starts: &[u32],
@@ -207,14 +210,13 @@ pub fn predict(
     begins: &[u32],
     ids: &[u32],
     values: &[f64],
-    weights: &[f64],
     first: usize,
     words: usize,
     references: &[u32],
     path: &mut [u32],
 ) -> Prediction
     requires { ⌜ SoundModel (modelAt sizes kinds destinations sources starts entries «label_starts» «label_entries») ⌝ }
-    requires { ⌜ SoundLine (sizes .labels) (wordsAt sizes begins ids values) first words (now references) ⌝ }
+    requires { ⌜ SoundInstance (sizes .labels) (wordsAt sizes begins ids values) first words (now references) ⌝ }
     requires { ⌜ (length (now weights) ≡ sizes .features) × (length (now path) ≡ words) ⌝ }
     ensures { λ r.
         let m = modelWas sizes kinds destinations sources starts entries «label_starts» «label_entries» in
@@ -222,13 +224,13 @@ pub fn predict(
         let w = now (weights .entry) in
         ⌜ Judged (sizes .labels) words (transitionsOf m w) (statesOf m w line first words) (now (references .entry)) (now (path .exit)) r ⌝ }
 {
-    let labels = sizes.labels;
-    if (labels * labels <= 256) & (words * labels <= 256) {
+    if labelling::is_small(sizes.labels, words) {
         predict_short(
             sizes,
             kinds,
             destinations,
             sources,
+            weights,
             starts,
             entries,
             label_starts,
@@ -236,7 +238,6 @@ pub fn predict(
             begins,
             ids,
             values,
-            weights,
             first,
             words,
             references,
@@ -248,6 +249,7 @@ pub fn predict(
             kinds,
             destinations,
             sources,
+            weights,
             starts,
             entries,
             label_starts,
@@ -255,7 +257,6 @@ pub fn predict(
             begins,
             ids,
             values,
-            weights,
             first,
             words,
             references,

@@ -1,3 +1,4 @@
 pub mod Means
+pub mod Parts
 pub mod Groups
 pub mod TableGroups

@@ -1,5 +1,5 @@
 -- Limits and tests refuse exactly what they say in plain terms. Assumes nothing.
-use mathlib.Core.Path.{_≡_, refl, sym, _∙_, ap}
+use mathlib.Core.Path.{_≡_, refl, _∙_}
 use mathlib.Core.Bool.{Bool, true, false, _||_}
 use mathlib.Core.List.{List, [], _∷_, _++_}
 use mathlib.Core.Logic.{_↔_, inl, inr}
@@ -72,13 +72,13 @@ broken-on answer (limit ∷ these) those = broken-on (answer || broken limit) th
 pub broken-parts : (these those : List Limit) → anyBroken (these ++ those) ≡ (anyBroken these || anyBroken those)
 broken-parts these those = broken-on false these those ∙ broken-or (anyBroken these) those
 
-pub broken-thirds : (these those others : List Limit) → (anyBroken these || anyBroken those || anyBroken others) ≡ anyBroken (these ++ those ++ others)
-broken-thirds these those others =
-    sym (broken-parts (these ++ those) others ∙ ap (λ (t : Bool). t || anyBroken others) (broken-parts these those))
-
 pub within-parts : (these those : List Limit) → AllWithin (these ++ those) → AllWithin these × AllWithin those
 within-parts [] those a = (tt, a)
 within-parts (limit ∷ these) those a = let s = within-parts these those (a .1) in ((a .0, s .0), s .1)
+
+pub within-both : (these those : List Limit) → AllWithin these → AllWithin those → AllWithin (these ++ those)
+within-both [] those a b = b
+within-both (limit ∷ these) those a b = (a .0, within-both these those (a .1) b)
 
 -- ---- tests
 
@@ -106,12 +106,12 @@ fitting table n g i l = record {
 }
 
 pub test-means : (test : Test) → Exactly (checked test) (numberOf test) (places test) (Bad test)
-test-means (startsRise table n entries) = starts-mean table n entries
+test-means (startsRise which table n entries) = starts-mean table n entries
 test-means (linesFit table n) = lengths-mean table n
-test-means (kindsKnown table n) = kinds-mean table n
-test-means (idsBelow table n bound) = ids-mean table n bound
-test-means (sourcesBelow kinds table n labels) = sources-mean kinds table n labels
-test-means (numbersFinite table n) = numbers-mean table n
+test-means (kindsKnown which table n) = kinds-mean table n
+test-means (idsBelow which table n bound) = ids-mean table n bound
+test-means (sourcesBelow which kinds table n labels) = sources-mean kinds table n labels
+test-means (numbersFinite which table n) = numbers-mean table n
 
 -- every test has this number
 abbrev pub Numbered : ℕ → List Test → Type 0

@@ -1,3 +1,4 @@
 pub mod Limits
 pub mod Tests
+pub mod Parts
 pub mod Given

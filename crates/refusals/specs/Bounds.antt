@@ -94,3 +94,18 @@ pub data Table : Type 0 where
   instanceWeightTable : Table
   transitionTable : Table
   stateTable : Table
+
+-- a table's position among them, from 0
+abbrev pub tablePosition : Table → ℕ
+tablePosition kindTable = 0
+tablePosition destinationTable = 1
+tablePosition sourceTable = 2
+tablePosition weightTable = 3
+tablePosition attributeListTable = 4
+tablePosition labelListTable = 5
+tablePosition wordTable = 6
+tablePosition attributeTable = 7
+tablePosition referenceTable = 8
+tablePosition instanceWeightTable = 9
+tablePosition transitionTable = 10
+tablePosition stateTable = 11

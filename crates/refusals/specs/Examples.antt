@@ -6,7 +6,7 @@ use lib.IntN.{pos}
 use lib.Ieee.{nan, inf, fin}
 use Rattle.refusals.specs.declared.Checked.{Checked}
 use Rattle.refusals.specs.declared.Checked.the-variants.{Accepted}
-use Rattle.refusals.specs.Refusals.{refusedAt, refuse, orNext, lowest, first}
+use Rattle.refusals.specs.Refusals.{refusedAt, refuse, orNext, sooner, lowest, first}
 use Rattle.refusals.specs.Tables.{outside, startsChecked, kindsChecked, idsChecked, sourcesChecked, numbersChecked}
 
 -- "A start above the count is not bad by itself: 0, 9, 9 over 3 entries is place 2"
@@ -62,3 +62,8 @@ not-finite = (refl, refl, refl)
 lowest-number : first (refuse 1 0 (outside 1 32 33) ∷ startsChecked (1 ∷ []) 0 0 ∷ []) ≡ refusedAt 1 0
 unfolding lowest orNext refuse
 lowest-number = refl
+
+-- "The lowest number wins" of two checks, whichever was made first; of equal numbers the first
+lower-first : (sooner (refusedAt 6 0) (refusedAt 3 2) ≡ refusedAt 3 2) × (sooner (refusedAt 5 1) (refusedAt 5 0) ≡ refusedAt 5 1) × (sooner Accepted (refusedAt 6 0) ≡ refusedAt 6 0)
+unfolding sooner
+lower-first = (refl, refl, refl)

@@ -1,7 +1,8 @@
 -- What a refusal is, and which of several is given. Assumes nothing.
-use mathlib.Core.Bool.{Bool, true, false}
+use mathlib.Core.Bool.{Bool, true, false, cond}
 use mathlib.Core.List.{List, [], _∷_}
 use Prim.Native.Nat.{ℕ, zero, suc}
+use lib.Dec.{ltb}
 use Rattle.refusals.specs.declared.Refusal.{Refusal}
 use Rattle.refusals.specs.declared.Checked.{Checked}
 use Rattle.refusals.specs.declared.Checked.the-variants.{Accepted, Refused}
@@ -37,6 +38,19 @@ firstFrom answer (check ∷ checks) = firstFrom (orNext answer check) checks
 -- the first of the checks that refuses; accepted where none does
 abbrev pub first : List Checked → Checked
 first checks = firstFrom Accepted checks
+
+-- which of two refusals goes first: the one of lower rank, and a refusal's rank is its number
+abbrev pub rank : Refusal → ℕ
+rank why = why .number
+
+abbrev pub goesBefore : Refusal → Refusal → Bool
+goesBefore this that = ltb (rank this) (rank that)
+
+-- "The lowest number wins": of two answers the one with the lower number, of equal numbers the first
+unfoldable pub sooner : Checked → Checked → Checked
+sooner Accepted next = next
+sooner (Refused why) Accepted = Refused why
+sooner (Refused why) (Refused other) = cond (goesBefore other why) (Refused other) (Refused why)
 
 -- how many of n places are still to be looked at: none once the answer refuses
 abbrev pub toCheck : Checked → ℕ → ℕ

@@ -1,7 +1,7 @@
 // Refusals: the numbers and places of document 01's table, and which of two comes first.
 ghost use mathlib.Core.Path.{_≡_};
 ghost use Prim.Native.Nat.{_≤_};
-ghost use Rattle.refusals.specs.Refusals.{numbered as Refusals·numbered, refusedAt, refuse, orNext, toCheck};
+ghost use Rattle.refusals.specs.Refusals.{numbered as Refusals·numbered, refusedAt, refuse, orNext, goesBefore, sooner as Refusals·sooner, toCheck};
 ghost use Rattle.refusals.specs.Tables.{outside, short};
 
 pub struct Refusal {
@@ -50,6 +50,28 @@ pub fn refuse_if(answer: Checked, number: u32, place: usize, test: bool) -> Chec
     } else {
         answer
     }
+}
+
+// Whether a refusal goes before another: only a lower number does.
+fn goes_before(this: Refusal, that: Refusal) -> bool
+    ensures { λ r. ⌜ r ≡ goesBefore this that ⌝ }
+{
+    this.number < that.number
+}
+
+// Of two answers the one with the lower number, of equal numbers the first: so checks of separate things are made one.
+pub fn sooner(answer: Checked, next: Checked) -> Checked
+    ensures { λ r. ⌜ r ≡ Refusals·sooner answer next ⌝ }
+{
+    if let Checked::Refused(why) = answer {
+        if let Checked::Refused(other) = next {
+            if goes_before(other, why) {
+                return next;
+            }
+        }
+        return answer;
+    }
+    next
 }
 
 // A number outside its bound.

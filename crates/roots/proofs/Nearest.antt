@@ -10,7 +10,7 @@ use lib.Ieee.{Float, nan, inf, fin, lt}
 use lib.Ieee.Scale.{finite}
 use lib.Ieee.Fits.{and-l, and-r}
 use lib.Ieee.Positive.{num, den, den-pos}
-use Rattle.binary64.specs.Units.{plain, one, Units}
+use Rattle.binary64.specs.Units.{plain, unitsInOne, Units}
 use Rattle.binary64.proofs.Gap.{some, after, before, after-least, before-most}
 use Rattle.binary64.proofs.Units.{taken, lt-units}
 use Rattle.roots.specs.Root.{square, RootBelowMiddle, RootAboveMiddle, NearestRoot}
@@ -18,7 +18,7 @@ use Rattle.roots.proofs.Middle.{below-middle, above-middle}
 
 -- how many units a plain x is
 abbrev pub units : Float → ℕ
-units x = num x * one / den x
+units x = num x * unitsInOne / den x
 
 pub units-is : (x : Float) (u : ℕ) → Units x u → units x ≡ u
 units-is x u p = ap (λ (z : ℕ). z / den x) p ∙ mul-div-cancel u (den-pos x)
@@ -30,10 +30,10 @@ plain-finite (fin s m e) t = refl
 
 -- the root of n lies below the middle of u units and the neighbour above, and above the middle of u and the neighbour below
 abbrev pub High : ℕ → ℕ → Type 0
-High n u = 4 * n * square one < square (u + after u)
+High n u = 4 * n * square unitsInOne < square (u + after u)
 
 abbrev pub Low : ℕ → ℕ → Type 0
-Low n u = square (u + before u) < 4 * n * square one
+Low n u = square (u + before u) < 4 * n * square unitsInOne
 
 farther : (u v w : ℕ) → v ≤ w → square (u + v) ≤ square (u + w)
 farther u v w h = mul-le-mul (more u v w h) (more u v w h)
@@ -69,7 +69,7 @@ nearest-by n x X hi lo = record { is-plain = X; is-finite = plain-finite x X; be
 abbrev pub passes : ℕ → Float → Bool
 passes n x =
     let u = units x in
-    plain x && (ltb (4 * n * square one) (square (u + after u)) && (eqb u 0 || ltb (square (u + before u)) (4 * n * square one)))
+    plain x && (ltb (4 * n * square unitsInOne) (square (u + after u)) && (eqb u 0 || ltb (square (u + before u)) (4 * n * square unitsInOne)))
 
 other : (a b : Bool) → T (a || b) → (T a → ⊥) → T b
 other true b t h = absurd (h tt)
@@ -79,10 +79,10 @@ pub passes-nearest : (n : ℕ) (x : Float) → T (passes n x) → NearestRoot n 
 passes-nearest n x t =
     let u = units x in
     let A = plain x in
-    let B = ltb (4 * n * square one) (square (u + after u)) in
-    let C = ltb (square (u + before u)) (4 * n * square one) in
+    let B = ltb (4 * n * square unitsInOne) (square (u + after u)) in
+    let C = ltb (square (u + before u)) (4 * n * square unitsInOne) in
     nearest-by n x (and-l A (B && (eqb u 0 || C)) t)
-    (ltb→lt (4 * n * square one) (square (u + after u)) (and-l B (eqb u 0 || C) (and-r A (B && (eqb u 0 || C)) t)))
+    (ltb→lt (4 * n * square unitsInOne) (square (u + after u)) (and-l B (eqb u 0 || C) (and-r A (B && (eqb u 0 || C)) t)))
     (λ (h : 0 < u).
-    ltb→lt (square (u + before u)) (4 * n * square one)
+    ltb→lt (square (u + before u)) (4 * n * square unitsInOne)
     (other (eqb u 0) C (and-r B (eqb u 0 || C) (and-r A (B && (eqb u 0 || C)) t)) (λ z. lt-irrefl 0 (subst (λ (w : ℕ). 0 < w) (eqb→eq u 0 z) h))))

@@ -11,17 +11,17 @@ use Rattle.binary64.specs.Units.{plain}
 abbrev pub square : ℕ → ℕ
 square a = a * a
 
--- a plain x is the fraction num x / den x, and so x + y is the fraction total x y / (den x * den y)
-abbrev pub total : Float → Float → ℕ
-total x y = num x * den y + num y * den x
+-- a plain x is the fraction num x / den x, and so x + y is the fraction numOfSum x y / (den x * den y)
+abbrev pub numOfSum : Float → Float → ℕ
+numOfSum x y = num x * den y + num y * den x
 
 -- the root of n lies below the middle of x and y, (x + y) / 2: that is, 4 n is below (x + y) squared
 abbrev pub RootBelowMiddle : ℕ → Float → Float → Type 0
-RootBelowMiddle n x y = 4 * n * square (den x * den y) < square (total x y)
+RootBelowMiddle n x y = 4 * n * square (den x * den y) < square (numOfSum x y)
 
 -- it lies above their middle: 4 n is above (x + y) squared
 abbrev pub RootAboveMiddle : ℕ → Float → Float → Type 0
-RootAboveMiddle n x y = square (total x y) < 4 * n * square (den x * den y)
+RootAboveMiddle n x y = square (numOfSum x y) < 4 * n * square (den x * den y)
 
 -- "the nearest binary64": r is plain, and every other plain y is strictly farther from the root of n than r. Of two
 -- numbers the one on the root's side of their middle is strictly nearer: for a y above r the root has to lie below the

@@ -12,7 +12,7 @@ use Rattle.lines.specs.declared.Attribute.{Attribute}
 use Rattle.lines.specs.Passes.{through, throughList, raised, start, size}
 use Rattle.lines.specs.Tables.{Lists, Model, Words, attributeAt, State, Transition}
 use Rattle.lines.specs.Scored.{stateEntry, scoredAttribute, scoredAt, scoredWord, transitionEntry}
-use Rattle.same_scores.specs.Named.{Input, listed, listAt, attributesAt, Feature, featureAt, namedBy, among, StateFeature, asState, TransitionFeature, asTransition, statesFor, transitionsFor}
+use Rattle.same_scores.specs.Named.{ScoringInput, listed, listAt, attributesAt, Feature, featureAt, namedBy, among, StateFeature, asState, TransitionFeature, asTransition, statesFor, transitionsFor}
 
 -- s after a step at each member of a list
 unfoldable pub after : {A S : Type 0} → (A → S → S) → List A → S → S
@@ -50,7 +50,7 @@ module _ {A S : Type 0} (kind : ℕ) (read : Feature → A) (add : A → S → S
       go false r = r s
 
 -- a list that is there is gone through, one that is not is passed over: what is named, one by one
-pass-named : {S : Type 0} (i : Input) (lists : Lists) (g : Feature → S → S) (a : ℕ) (s : S) →
+pass-named : {S : Type 0} (i : ScoringInput) (lists : Lists) (g : Feature → S → S) (a : ℕ) (s : S) →
     cond (ltb a (lists .count)) (throughList (λ place. g (featureAt i (getD (lists .entries) place 0))) (lists .starts) a s) s ≡ after g (namedBy i lists a) s
 unfolding namedBy after
 pass-named i lists g a s = go (ltb a (lists .count))
@@ -67,7 +67,7 @@ toState labels word value f s = raised s (word * labels + f .destination) (mul b
 abbrev pub toNext : ℕ → TransitionFeature → List Float → List Float
 toNext labels f s = raised s (f .source * labels + f .destination) (f .weight)
 
-pub attribute-named : (i : Input) (word : ℕ) (a : Attribute) (s : List Float) → scoredAttribute (i .model) (i .weights) word a s ≡ after (toState (i .model .labels) word (a .value)) (statesFor i (a .id)) s
+pub attribute-named : (i : ScoringInput) (word : ℕ) (a : Attribute) (s : List Float) → scoredAttribute (i .model) (i .weights) word a s ≡ after (toState (i .model .labels) word (a .value)) (statesFor i (a .id)) s
 unfolding scoredAttribute stateEntry statesFor
 attribute-named i word a s =
     let add = toState (i .model .labels) word (a .value) in
@@ -78,10 +78,10 @@ unfolding scoredWord scoredAt attributesAt
 word-named m weights d first word s = through-listed (scoredAttribute m weights word) (attributeAt d) _ _ s
 
 -- a label's list, where there is one
-abbrev pub labelPass : Input → ℕ → List Float → List Float
+abbrev pub labelPass : ScoringInput → ℕ → List Float → List Float
 labelPass i label s = cond (ltb label (i .model .labelLists .count)) (throughList (transitionEntry (i .model) (i .weights)) (i .model .labelLists .starts) label s) s
 
-pub label-named : (i : Input) (label : ℕ) (s : List Float) → labelPass i label s ≡ after (toNext (i .model .labels)) (transitionsFor i label) s
+pub label-named : (i : ScoringInput) (label : ℕ) (s : List Float) → labelPass i label s ≡ after (toNext (i .model .labels)) (transitionsFor i label) s
 unfolding transitionEntry transitionsFor
 label-named i label s =
     let add = toNext (i .model .labels) in

@@ -7,7 +7,7 @@ use lib.Ieee.{Float}
 use Rattle.lines.specs.declared.Attribute.{Attribute}
 use Rattle.lines.specs.Passes.{through}
 use Rattle.lines.specs.Scored.{scoredAttribute, scoredAt, scoredWord, statesOf}
-use Rattle.same_scores.specs.Named.{Input, statesFor}
+use Rattle.same_scores.specs.Named.{ScoringInput, statesFor}
 use Rattle.same_scores.specs.NoScore.{NothingNamed, NoAttributes}
 use Rattle.same_scores.proofs.Folds.{after, attribute-named, word-named}
 
@@ -16,7 +16,7 @@ unfolding through
 through-idle step first zero h s = refl
 through-idle step first (suc n) h s = h n (omega arith) (through step first n s) ∙ through-idle step first n (λ j k. h j (omega arith)) s
 
-attribute-idle : (i : Input) (word : ℕ) (a : Attribute) → statesFor i (a .id) ≡ [] → (s : List Float) → scoredAttribute (i .model) (i .weights) word a s ≡ s
+attribute-idle : (i : ScoringInput) (word : ℕ) (a : Attribute) → statesFor i (a .id) ≡ [] → (s : List Float) → scoredAttribute (i .model) (i .weights) word a s ≡ s
 unfolding after
 attribute-idle i word a e s = attribute-named i word a s ∙ rw e
 

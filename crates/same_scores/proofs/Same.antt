@@ -11,11 +11,11 @@ use Rattle.lines.specs.declared.Attribute.{Attribute}
 use Rattle.lines.specs.Passes.{through, throughList}
 use Rattle.binary64.specs.Numbers.{nought}
 use Rattle.lines.specs.Scored.{scoredAttribute, scoredAt, scoredWord, statesOf, transitionEntry, transitionsOf}
-use Rattle.same_scores.specs.Named.{Input, statesFor}
+use Rattle.same_scores.specs.Named.{ScoringInput, statesFor}
 use Rattle.same_scores.specs.Agree.{Agree, states, transitions, scores, OnlyNamedMatters}
 use Rattle.same_scores.proofs.Folds.{after, through-same, attribute-named, word-named, labelPass, label-named, below-both}
 
-module _ (i j : Input) (g : Agree i j) where
+module _ (i j : ScoringInput) (g : Agree i j) where
   -- an attribute of the line adds the same
   same-attribute : (word : ℕ) (a : Attribute) (s : List Float) → statesFor i (a .id) ≡ statesFor j (a .id) → scoredAttribute (i .model) (i .weights) word a s ≡ scoredAttribute (j .model) (j .weights) word a s
   same-attribute word a s e = attribute-named i word a s ∙ rw (e, g .labels) (sym (attribute-named j word a s))

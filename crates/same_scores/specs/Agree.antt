@@ -14,9 +14,9 @@ use Rattle.best_path.specs.Scores.{Scores, tabled}
 use Rattle.best_path.specs.Decoded.{decodedPath, decodedSum}
 use Rattle.best_path.specs.Lead.{lead}
 use Rattle.lines.specs.Scored.{statesOf, transitionsOf}
-use Rattle.same_scores.specs.Named.{Input, attributesOf, InLine, statesFor, transitionsFor}
+use Rattle.same_scores.specs.Named.{ScoringInput, attributesOf, InLine, statesFor, transitionsFor}
 
-pub record Agree (i j : Input) : Type 0 where
+pub record Agree (i j : ScoringInput) : Type 0 where
   -- "on L"
   pub labels : i .model .labels ≡ j .model .labels
   -- "on the line": as many words, and each the same list of attributes
@@ -27,17 +27,17 @@ pub record Agree (i j : Input) : Type 0 where
   -- "and on the label lists with theirs": those of the labels
   pub followers : (label : ℕ) → label < i .model .labels → transitionsFor i label ≡ transitionsFor j label
 
-abbrev pub states : Input → List Float
+abbrev pub states : ScoringInput → List Float
 states i = statesOf (i .model) (i .weights) (i .table) (i .first) (i .words)
 
-abbrev pub transitions : Input → List Float
+abbrev pub transitions : ScoringInput → List Float
 transitions i = transitionsOf (i .model) (i .weights)
 
-abbrev pub scores : Input → Scores
+abbrev pub scores : ScoringInput → Scores
 scores i = tabled (i .model .labels) (transitions i) (states i)
 
 -- "get the same scores and path", and so the same sum and lead, all to the bit
-pub record Same (i j : Input) : Type 0 where
+pub record SameScoresAndPath (i j : ScoringInput) : Type 0 where
   pub same-states : states i ≡ states j
   pub same-transitions : transitions i ≡ transitions j
   pub path : decodedPath (scores i) (i .words) ≡ decodedPath (scores j) (j .words)
@@ -45,4 +45,4 @@ pub record Same (i j : Input) : Type 0 where
   pub ahead : lead (scores i) (i .words) ≡ lead (scores j) (j .words)
 
 abbrev pub OnlyNamedMatters : Type 0
-OnlyNamedMatters = (i j : Input) → Agree i j → Same i j
+OnlyNamedMatters = (i j : ScoringInput) → Agree i j → SameScoresAndPath i j

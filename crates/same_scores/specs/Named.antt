@@ -11,7 +11,7 @@ use Rattle.lines.specs.Passes.{start, size}
 use Rattle.lines.specs.Tables.{Lists, Model, Words, attributeAt, State, Transition}
 
 -- an input of scoring: a model and its weights, and the line of so many words that begins at the word `first` of a table
-pub record Input : Type 0 where
+pub record ScoringInput : Type 0 where
   pub model : Model
   pub weights : List Float
   pub table : Words
@@ -31,11 +31,11 @@ listAt f starts a = listed f (start starts a) (size starts a)
 unfoldable pub attributesAt : Words → ℕ → List Attribute
 attributesAt table word = listAt (attributeAt table) (table .starts) word
 
-abbrev pub attributesOf : Input → ℕ → List Attribute
+abbrev pub attributesOf : ScoringInput → ℕ → List Attribute
 attributesOf i word = attributesAt (i .table) (i .first + word)
 
 -- the attributes in the line: one at a place of one of its words has this id
-pub record InLine (i : Input) (id : ℕ) : Type 0 where
+pub record InLine (i : ScoringInput) (id : ℕ) : Type 0 where
   pub word : ℕ
   pub place : ℕ
   pub below : word < i .words
@@ -50,7 +50,7 @@ pub record Feature : Type 0 where
   pub destination : ℕ
   pub weight : Float
 
-abbrev pub featureAt : Input → ℕ → Feature
+abbrev pub featureAt : ScoringInput → ℕ → Feature
 featureAt i f = record {
   kind = getD (i .model .features .kinds) f 0;
   source = getD (i .model .features .sources) f 0;
@@ -59,7 +59,7 @@ featureAt i f = record {
 }
 
 -- the features that list a names, in order; none where there is no such list
-unfoldable pub namedBy : Input → Lists → ℕ → List Feature
+unfoldable pub namedBy : ScoringInput → Lists → ℕ → List Feature
 namedBy i lists a = cond (ltb a (lists .count)) (listAt (λ place. featureAt i (getD (lists .entries) place 0)) (lists .starts) a) []
 
 -- what is read of those features that are of a kind, in order
@@ -85,9 +85,9 @@ abbrev pub asTransition : Feature → TransitionFeature
 asTransition f = record { source = f .source; destination = f .destination; weight = f .weight }
 
 -- "the lists of attributes in it with the features named there": the State features in the list of an attribute's id
-unfoldable pub statesFor : Input → ℕ → List StateFeature
+unfoldable pub statesFor : ScoringInput → ℕ → List StateFeature
 statesFor i id = among State asState (namedBy i (i .model .attributeLists) id)
 
 -- "the label lists with theirs": the Transition features in the list of a label
-unfoldable pub transitionsFor : Input → ℕ → List TransitionFeature
+unfoldable pub transitionsFor : ScoringInput → ℕ → List TransitionFeature
 transitionsFor i label = among Transition asTransition (namedBy i (i .model .labelLists) label)

@@ -17,7 +17,7 @@ use Rattle.refusals.proofs.Laws.{neither, passes}
 use Rattle.refusals.proofs.Meant.{numbers-finite}
 use Rattle.best_path.specs.Scores.{AllFinite, tabled}
 use Rattle.refusals.specs.Bounds.{theLabels, theLineWords, most}
-use Rattle.score_tables.specs.Rows.{one, four, two}
+use Rattle.score_tables.specs.Rows.{one, four, scoresShort}
 use Rattle.score_tables.specs.Sound.{LabelsIn, WordsIn, ScoresRoom, ScoresSized}
 
 -- the product of two numbers of 32 bits fits 64
@@ -45,7 +45,7 @@ words-in {words} h =
     record { low = ltb-false words 1 (o .0); high = ltb-false (most theLineWords) words (o .1) }
 
 module _ {labels words : ℕ} {transitions states : List Float} where
-  pub room : two labels words transitions states ≡ Accepted → ScoresRoom labels words transitions states
+  pub room : scoresShort labels words transitions states ≡ Accepted → ScoresRoom labels words transitions states
   room h =
       let o = neither (ltb (length transitions) (labels * labels)) (ltb (length states) (words * labels)) (passes 2 0 _ h) in
       record {
@@ -63,7 +63,7 @@ module _ {labels words : ℕ} {transitions states : List Float} where
     few-states = mul-le-mul (w .high) (l .high);
   }
 
-  pub sized : one labels ≡ Accepted → four words ≡ Accepted → two labels words transitions states ≡ Accepted → ScoresSized labels words transitions states
+  pub sized : one labels ≡ Accepted → four words ≡ Accepted → scoresShort labels words transitions states ≡ Accepted → ScoresSized labels words transitions states
   sized h1 h4 h2 = sized-of (labels-in h1) (words-in h4) (room h2)
 
 -- 6 accepts: every entry within is finite

@@ -10,7 +10,7 @@ use Rattle.refusals.specs.declared.Checked.the-variants.{Accepted, Refused}
 use Rattle.refusals.specs.Refusals.{refusedAt}
 use Rattle.refusals.specs.Meaning.{FirstBad}
 use Rattle.fronts.specs.Finite.{FiniteTo, NotFinite}
-use Rattle.score_tables.specs.Rows.{one, four, two}
+use Rattle.score_tables.specs.Rows.{one, four, scoresShort}
 use Rattle.score_tables.specs.Sound.{LabelsIn, WordsIn, ScoresRoom}
 
 -- a row with place 0: "given exactly when" something is not fine, and under no other number
@@ -26,7 +26,7 @@ abbrev pub FourMeans : Type 0
 FourMeans = (words : ℕ) → Row (four words) 4 (WordsIn words)
 
 abbrev pub TwoMeans : Type 0
-TwoMeans = (labels words : ℕ) (transitions states : List Float) → Row (two labels words transitions states) 2 (ScoresRoom labels words transitions states)
+TwoMeans = (labels words : ℕ) (transitions states : List Float) → Row (scoresShort labels words transitions states) 2 (ScoresRoom labels words transitions states)
 
 -- the place of 6: the first bad entry of the first table that has one, "transitions; states"
 pub data SixAt (labels words : ℕ) (transitions states : List Float) (place : ℕ) : Type 0 where

@@ -18,8 +18,8 @@ abbrev pub four : ℕ → Checked
 four words = refuse 4 0 (outsideIts theLineWords words)
 
 -- 2 | "a lent buffer too short": L·L transitions, T·L states | 0
-abbrev pub two : ℕ → ℕ → List Float → List Float → Checked
-two labels words transitions states =
+abbrev pub scoresShort : ℕ → ℕ → List Float → List Float → Checked
+scoresShort labels words transitions states =
     refuse 2 0 (short (length transitions) (labels * labels) || short (length states) (words * labels))
 
 -- 6 | "a .. table entry not finite": "transitions; states" | "index in its table"

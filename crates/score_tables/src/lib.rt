@@ -3,7 +3,7 @@
 ghost use mathlib.Core.Path.{_≡_};
 ghost use Prim.Native.Nat.{_*_};
 ghost use Rattle.refusals.specs.Refusals.{orNext, firstFrom};
-ghost use Rattle.score_tables.specs.Rows.{two, sixes, boundsChecked};
+ghost use Rattle.score_tables.specs.Rows.{one, scoresShort, sixes, boundsChecked};
 ghost use Rattle.score_tables.specs.Sound.{ScoresRoom};
 use refusals::Checked;
 
@@ -18,16 +18,19 @@ pub fn entries(rows: u32, width: u32) -> usize
     rows as usize * width as usize
 }
 
+// 1.
+pub fn check_labels(labels: u32) -> Checked
+    ensures { λ r. ⌜ r ≡ one labels ⌝ }
+{
+    let outside = refusals::is_outside(1, MOST_LABELS, labels);
+    refusals::refuse_if(Checked::Accepted, 1, 0, outside)
+}
+
 // 1 and 4: "a call that takes T as a number tests 4 right after 1".
 pub fn check_bounds(labels: u32, words: u32) -> Checked
     ensures { λ r. ⌜ r ≡ boundsChecked labels words ⌝ }
 {
-    let a = refusals::refuse_if(
-        Checked::Accepted,
-        1,
-        0,
-        refusals::is_outside(1, MOST_LABELS, labels),
-    );
+    let a = check_labels(labels);
     refusals::refuse_if(a, 4, 0, refusals::is_outside(1, MOST_WORDS, words))
 }
 
@@ -39,7 +42,7 @@ pub fn check_room(
     transitions: &[f64],
     states: &[f64],
 ) -> Checked
-    ensures { λ r. ⌜ r ≡ orNext answer (two labels words (now (transitions .entry)) (now (states .entry))) ⌝ }
+    ensures { λ r. ⌜ r ≡ orNext answer (scoresShort labels words (now (transitions .entry)) (now (states .entry))) ⌝ }
 {
     let short = (transitions.len() < entries(labels, labels))
         | (states.len() < entries(words, labels));

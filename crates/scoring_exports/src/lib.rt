@@ -1,6 +1,7 @@
 // The scores of a line, for programs in C and Rust: one call of the crate scoring, and its answer as numbers.
-ghost use Rattle.feature_gen.specs.Lent.{modelOf};
-ghost use Rattle.scoring_exports.specs.Scores.{Scores};
+ghost use Rattle.lines.specs.Entry.{lineWas};
+ghost use Rattle.feature_gen.specs.Lent.{modelWas};
+ghost use Rattle.scoring_exports.specs.Scoring.{ScoresLine};
 use answers::checks::Refused;
 use feature_gen::Counts;
 
@@ -25,7 +26,12 @@ pub extern "C" fn bodkinbloom_compute_scores(
     transitions: &mut [f64],
     states: &mut [f64],
 ) -> Refused
-    ensures { λ r. ⌜ Scores (record { model = modelOf labels counts (now (kinds .entry)) (now (destinations .entry)) (now (sources .entry)) (now («attribute_starts» .entry)) (now («attribute_entries» .entry)) (now («label_starts» .entry)) (now («label_entries» .entry)); weights = now (weights .entry); words = words; line = record { starts = now («word_starts» .entry); size = attributes; ids = now (ids .entry); values = now (values .entry) } }) (record { transitions = now (transitions .entry); states = now (states .entry) }) (record { answer = r; transitions = now (transitions .exit); states = now (states .exit) }) ⌝ }
+    ensures { λ r.
+        let m = modelWas labels counts kinds destinations sources «attribute_starts» «attribute_entries» «label_starts» «label_entries» in
+        let line = lineWas attributes «word_starts» ids values in
+        ⌜ ScoresLine (record { model = m; weights = now (weights .entry); words = words; line = line })
+        (record { transitions = now (transitions .entry); states = now (states .entry) })
+        (record { answer = r; transitions = now (transitions .exit); states = now (states .exit) }) ⌝ }
 {
     let answer = compute_scores::compute_scores(
         labels,

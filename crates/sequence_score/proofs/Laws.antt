@@ -34,10 +34,13 @@ one-word s path = refl
 
 -- one word more
 pub one-more : (s : Scores) (path : List ℕ) (word : ℕ) → 0 < word →
-    add binary64 (add binary64 (pathScore s path word) (s .state word (labelAt path word))) (s .transition (labelAt path (word - 1)) (labelAt path word)) ≡ pathScore s path (word + 1)
+    {before next : ℕ} {score state transition : Float} →
+    before ≡ labelAt path (word - 1) → next ≡ labelAt path word →
+    score ≡ pathScore s path word → state ≡ s .state word next → transition ≡ s .transition before next →
+    add binary64 (add binary64 score state) transition ≡ pathScore s path (word + 1)
 unfolding pathScore
-one-more s path zero h = absurd (omega arith)
-one-more s path (suc word) h = let e : suc word - 1 ≡ word = omega arith in rw (add-one, e)
+one-more s path zero h b n p q r = absurd (omega arith)
+one-more s path (suc word) h b n p q r = let e : suc word - 1 ≡ word = omega arith in rw (p, q, r, b, n, add-one, e)
 
 -- a row of a word or a label, and a label, are within the table
 module _ {labels : ℕ} {transitions states : List Float} {path : List ℕ} {count : ℕ} (met : Met labels transitions states path count) where

@@ -20,13 +20,13 @@ use Rattle.score_tables.proofs.Order.{row, not-table, of-table}
 use Rattle.score_tables.proofs.Meant.{one-means, four-means, two-means, finite-tables}
 use Rattle.refusal_rows.proofs.Groups.{Group, single, given-first, given-after, accepted-when, given-only}
 use Rattle.refusal_rows.proofs.TableGroups.{pair, tableSixes}
-use Rattle.sequence_score.specs.Rows.{longer, pathShort, five, pathChecked}
+use Rattle.sequence_score.specs.Rows.{pathLonger, pathShort, five, pathChecked}
 use Rattle.sequence_score.specs.Sound.{LabelsBelow}
 use Rattle.sequence_score.specs.Promise.{Given, checkedOf, answerTo}
 use Rattle.sequence_score.specs.Meaning.{FiveAt, Meaning, PathsMean, AnswersMean}
 use Rattle.sequence_score.proofs.Laws.{sound}
 
-longer-means : (words count : ℕ) → Row (longer words count) 4 (count ≤ words)
+longer-means : (words count : ℕ) → Row (pathLonger words count) 4 (count ≤ words)
 longer-means words count = row 4 _ (λ h. ltb-false words count (passes 4 0 _ h)) (λ l. le-ltb words count l)
 
 short-means : (path : List ℕ) (count : ℕ) → Row (pathShort path count) 2 (count ≤ length path)

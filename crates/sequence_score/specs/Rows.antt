@@ -7,11 +7,11 @@ use lib.Ieee.{Float}
 use Rattle.refusals.specs.declared.Checked.{Checked}
 use Rattle.refusals.specs.Refusals.{first, refuse}
 use Rattle.refusals.specs.Tables.{short, idsChecked}
-use Rattle.score_tables.specs.Rows.{one, four, two, sixes}
+use Rattle.score_tables.specs.Rows.{one, four, scoresShort, sixes}
 
 -- 4 | "a scored path longer than its table" | "0 for a single line"
-abbrev pub longer : ℕ → ℕ → Checked
-longer words count = refuse 4 0 (ltb words count)
+abbrev pub pathLonger : ℕ → ℕ → Checked
+pathLonger words count = refuse 4 0 (ltb words count)
 
 -- 2 | "a lent buffer too short": the path that is scored | 0
 abbrev pub pathShort : List ℕ → ℕ → Checked
@@ -26,8 +26,8 @@ abbrev pub sizes : ℕ → ℕ → List Float → List Float → List ℕ → �
 sizes labels words transitions states path count =
     one labels
     ∷ four words
-    ∷ longer words count
-    ∷ two labels words transitions states
+    ∷ pathLonger words count
+    ∷ scoresShort labels words transitions states
     ∷ pathShort path count
     ∷ []
 

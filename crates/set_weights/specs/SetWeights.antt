@@ -7,7 +7,7 @@ use lib.Ieee.{Float}
 use Rattle.refusals.specs.declared.Checked.{Checked}
 use Rattle.refusals.specs.declared.Checked.the-variants.{Accepted, Refused}
 use Rattle.refusals.specs.Refusals.{first}
-use Rattle.refusals.specs.Bounds.{theFeatures}
+use Rattle.refusals.specs.Bounds.{theFeatures, weightTable}
 use Rattle.refusal_rows.specs.Limits.{Limit, count, room, two}
 use Rattle.refusal_rows.specs.Tests.{Test, numbersFinite, checks}
 use Rattle.refusals.specs.Said.{Said, saidOf}
@@ -35,7 +35,7 @@ newRooms given have =
 
 -- 6 | "a weight .. not finite" | "index in its table"
 abbrev pub newTests : Setting → List Test
-newTests given = numbersFinite (given .new) (given .features) ∷ []
+newTests given = numbersFinite weightTable (given .new) (given .features) ∷ []
 
 -- "The lowest number wins": 2 of the count, 2 of the rooms, 6, for a table that has so many places
 unfoldable pub newChecked : Setting → ℕ → Checked

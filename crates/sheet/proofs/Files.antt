@@ -12,12 +12,12 @@ use Rattle.refusals.specs.declared.Checked.the-variants.{Accepted, Refused}
 use Rattle.refusals.proofs.Meant.{numbers-finite}
 use Rattle.fronts.specs.Finite.{FiniteTo}
 use Rattle.score_tables.proofs.Meant.{to-finite}
-use Rattle.sheet.specs.File.{Sheet, littleEndian, numbers, encoded, Finite64, SoundSheet}
+use Rattle.sheet.specs.File.{Sheet, littleEndian, numberBytes, encoded, Finite64, SoundSheet}
 use Rattle.sheet.specs.Fields.{labelsIn, wordsIn, statesFrom, wholeLength, numbersIn, transitionsIn, statesIn}
 use Rattle.sheet.specs.Rows.{Given, Lent, sheetChecked}
 use Rattle.sheet.specs.RowsMeaning.{RightHead, RightFile}
 use Rattle.sheet.specs.Promise.{Outcome, said, read, answerBy, answerTo, transitionsAfter, statesAfter, Promised}
-use Rattle.sheet.specs.Files.{sheetIn, Bytes, RoomFor, RightFilesAreSheets, ReadFrom, ExactlyTheFiles}
+use Rattle.sheet.specs.Files.{sheetIn, Bytes, SheetRoom, RightFilesAreSheets, ReadFrom, ExactlyTheFiles}
 use Rattle.sheet.proofs.Bytes.{length-numbers, number-at}
 use Rattle.sheet.proofs.Little.{length-bytes, numbers-read, numbers-back, drop-bytes}
 use Rattle.sheet.proofs.RowsMeant.{mark-byte, sheets-mean}
@@ -26,7 +26,7 @@ use Rattle.sheet.proofs.RowsMeant.{mark-byte, sheets-mean}
 
 module _ (s : Sheet) (sound : SoundSheet s) where
   body : List ℕ
-  body = numbers (s .transitions) ++ numbers (s .states)
+  body = numberBytes (s .transitions) ++ numberBytes (s .states)
 
   -- L and T
   pub labels-back : labelsIn (encoded s) ≡ s .labels
@@ -44,19 +44,19 @@ module _ (s : Sheet) (sound : SoundSheet s) where
   pub transitions-back : transitionsIn (encoded s) ≡ s .transitions
   unfolding transitionsIn body
   transitions-back =
-      rw (labels-back, ← sound .all-transitions, body-back) (numbers-read (s .transitions) (numbers (s .states)) (sound .finite-transitions .binary))
+      rw (labels-back, ← sound .all-transitions, body-back) (numbers-read (s .transitions) (numberBytes (s .states)) (sound .finite-transitions .binary))
 
   pub states-back : statesIn (encoded s) ≡ s .states
   unfolding statesIn body
   states-back =
-      rw (words-back, labels-back, ← sound .all-states, ← sound .all-transitions, ← drop-drop (8 * length (s .transitions)) 8 (encoded s), body-back, drop-at (numbers (s .transitions)) (numbers (s .states)) (8 * length (s .transitions)) (length-bytes (s .transitions)), ← append-nil (numbers (s .states)))
+      rw (words-back, labels-back, ← sound .all-states, ← sound .all-transitions, ← drop-drop (8 * length (s .transitions)) 8 (encoded s), body-back, drop-at (numberBytes (s .transitions)) (numberBytes (s .states)) (8 * length (s .transitions)) (length-bytes (s .transitions)), ← append-nil (numberBytes (s .states)))
       (numbers-read (s .states) [] (sound .finite-states .binary))
 
   -- its length
   pub long : length (encoded s) ≡ 8 + 8 * (s .labels * s .labels + s .words * s .labels)
   unfolding encoded littleEndian
   long =
-      omega (arith, length-append (numbers (s .transitions)) (numbers (s .states)), length-bytes (s .transitions), length-bytes (s .states), sound .all-transitions, sound .all-states)
+      omega (arith, length-append (numberBytes (s .transitions)) (numberBytes (s .states)), length-bytes (s .transitions), length-bytes (s .states), sound .all-transitions, sound .all-states)
 
   length-back : length (encoded s) ≡ wholeLength (encoded s)
   length-back = rw (words-back, labels-back) long
@@ -78,10 +78,10 @@ module _ (s : Sheet) (sound : SoundSheet s) where
     finite-states = rw (states-back, words-back, labels-back) (finite-back _ _ (sound .all-states) (sound .finite-states));
   }
 
-  pub file-accepted : (before : Lent) → RoomFor s before → sheetChecked (record { bytes = encoded s }) before ≡ Accepted
+  pub file-accepted : (before : Lent) → SheetRoom s before → sheetChecked (record { bytes = encoded s }) before ≡ Accepted
   file-accepted before room = sheets-mean (record { bytes = encoded s }) before .accepted .1 (right-file, rw (labels-back, words-back) room)
 
-  file-read : (before : Lent) → RoomFor s before → (outcome : Outcome) → Promised (record { bytes = encoded s }) before outcome → ReadFrom s before outcome
+  file-read : (before : Lent) → SheetRoom s before → (outcome : Outcome) → Promised (record { bytes = encoded s }) before outcome → ReadFrom s before outcome
   unfolding answerTo transitionsAfter statesAfter
   file-read before room outcome p =
       let h = file-accepted before room in
@@ -126,13 +126,13 @@ module _ (bytes : List ℕ) (all : Bytes bytes) (right : RightFile bytes) where
       }
 
   -- a table's bytes
-  part-in : (at n : ℕ) → at + 8 * n ≤ length bytes → FiniteTo (numbersIn n (drop at bytes)) n → numbers (numbersIn n (drop at bytes)) ≡ take (8 * n) (drop at bytes)
+  part-in : (at n : ℕ) → at + 8 * n ≤ length bytes → FiniteTo (numbersIn n (drop at bytes)) n → numberBytes (numbersIn n (drop at bytes)) ≡ take (8 * n) (drop at bytes)
   part-in at n l f =
       let table = numbersIn n (drop at bytes) in
       numbers-back n (drop at bytes) (rw (length-drop at bytes) (omega arith)) (drop-bytes at bytes (omega arith) all)
       (λ i b. numbers-finite table n (to-finite table n f) i b)
 
-  body-in : numbers (transitionsIn bytes) ++ numbers (statesIn bytes) ≡ drop 8 bytes
+  body-in : numberBytes (transitionsIn bytes) ++ numberBytes (statesIn bytes) ≡ drop 8 bytes
   unfolding transitionsIn statesIn
   body-in =
       let n = labelsIn bytes * labelsIn bytes in
@@ -181,7 +181,7 @@ accepted-if-read given before labels words h = go (sheetChecked given before) h
     go Accepted e = refl
     go (Refused why) e = let z : _≡_ {A = ℕ} 0 1 = cc in absurd (omega arith)
 
-only-files : (given : Given) → Bytes (given .bytes) → (before : Lent) (outcome : Outcome) → Promised given before outcome → (labels words : ℕ) → said (outcome .answer) ≡ read labels words → (s : Sheet) × SoundSheet s × (given .bytes ≡ encoded s) × RoomFor s before × ReadFrom s before outcome
+only-files : (given : Given) → Bytes (given .bytes) → (before : Lent) (outcome : Outcome) → Promised given before outcome → (labels words : ℕ) → said (outcome .answer) ≡ read labels words → (s : Sheet) × SoundSheet s × (given .bytes ≡ encoded s) × SheetRoom s before × ReadFrom s before outcome
 only-files given all before outcome p labels words e =
     let h = accepted-if-read given before labels words (sym (p .answers) ∙ e) in
     let a = sheets-mean given before .accepted .0 h in (

@@ -11,7 +11,7 @@ use lib.Seq.{take-at, drop-at, take-add, getD-take, getD-drop, length-take-le}
 use lib.Ieee.{Float, nan, binary64, fits, toBits, ofBits}
 use lib.Ieee.Bits.{toBits-ofBits, ofBits-toBits, toBits-lt}
 use lib.Ieee.Scale.{finite}
-use Rattle.sheet.specs.File.{littleEndian, numbers}
+use Rattle.sheet.specs.File.{littleEndian, numberBytes}
 use Rattle.sheet.specs.Fields.{valueOf, numbersIn}
 use Rattle.sheet.specs.Files.{Bytes}
 use Rattle.sheet.proofs.Pattern.{no-nan}
@@ -65,26 +65,26 @@ pattern-back bs l h f =
     rw (toBits-ofBits binary64 (valueOf (take 8 bs)) v (no-nan _ f)) (rw e at (little-value (take 8 bs) b))
 
 -- the first n numbers, written again
-pub numbers-back : (n : ℕ) (bs : List ℕ) → 8 * n ≤ length bs → Bytes bs → ((i : ℕ) → i < n → finite (getD (numbersIn n bs) i nan) ≡ true) → numbers (numbersIn n bs) ≡ take (8 * n) bs
-unfolding numbersIn numbers
+pub numbers-back : (n : ℕ) (bs : List ℕ) → 8 * n ≤ length bs → Bytes bs → ((i : ℕ) → i < n → finite (getD (numbersIn n bs) i nan) ≡ true) → numberBytes (numbersIn n bs) ≡ take (8 * n) bs
+unfolding numbersIn numberBytes
 numbers-back zero bs l h f = refl
 numbers-back (suc n) bs l h f =
     let e : 8 * suc n ≡ 8 + 8 * n = omega arith in
     rw (e, take-add 8 (8 * n) bs, pattern-back bs (omega arith) h (f 0 (omega arith)))
     (ap (λ (rest : List ℕ). take 8 bs ++ rest) (numbers-back n (drop 8 bs) (rw (length-drop 8 bs) (omega arith)) (drop-bytes 8 bs (omega arith) h) (λ i b. f (suc i) (omega arith))))
 
-pub length-bytes : (table : List Float) → length (numbers table) ≡ 8 * length table
-unfolding numbers
+pub length-bytes : (table : List Float) → length (numberBytes table) ≡ 8 * length table
+unfolding numberBytes
 length-bytes [] = refl
 length-bytes (x ∷ table) =
-    rw (length-append (littleEndian 8 (toBits binary64 x)) (numbers table), length-little 8 (toBits binary64 x), length-bytes table) (omega arith)
+    rw (length-append (littleEndian 8 (toBits binary64 x)) (numberBytes table), length-little 8 (toBits binary64 x), length-bytes table) (omega arith)
 
 -- a table's bytes, read again
-pub numbers-read : (table : List Float) (rest : List ℕ) → ((i : ℕ) → i < length table → T (fits binary64 (getD table i nan))) → numbersIn (length table) (numbers table ++ rest) ≡ table
-unfolding numbersIn numbers
+pub numbers-read : (table : List Float) (rest : List ℕ) → ((i : ℕ) → i < length table → T (fits binary64 (getD table i nan))) → numbersIn (length table) (numberBytes table ++ rest) ≡ table
+unfolding numbersIn numberBytes
 numbers-read [] rest f = refl
 numbers-read (x ∷ table) rest f =
     let b = littleEndian 8 (toBits binary64 x) in
     let l = length-little 8 (toBits binary64 x) in
     let t = f 0 (omega arith) in
-    rw (append-assoc b (numbers table) rest, take-at b (numbers table ++ rest) 8 l, drop-at b (numbers table ++ rest) 8 l, value-little 8 (toBits binary64 x) (toBits-lt binary64 x t), ofBits-toBits binary64 x t, numbers-read table rest (λ i h. f (suc i) (omega arith)))
+    rw (append-assoc b (numberBytes table) rest, take-at b (numberBytes table ++ rest) 8 l, drop-at b (numberBytes table ++ rest) 8 l, value-little 8 (toBits binary64 x) (toBits-lt binary64 x t), ofBits-toBits binary64 x t, numbers-read table rest (λ i h. f (suc i) (omega arith)))

@@ -22,14 +22,14 @@ littleEndian zero n = []
 littleEndian (suc size) n = n % 256 ∷ littleEndian size (n / 256)
 
 -- "as binary64": eight bytes to a number, one number after another
-unfoldable pub numbers : List Float → List ℕ
-numbers [] = []
-numbers (x ∷ rest) = littleEndian 8 (toBits binary64 x) ++ numbers rest
+unfoldable pub numberBytes : List Float → List ℕ
+numberBytes [] = []
+numberBytes (x ∷ rest) = littleEndian 8 (toBits binary64 x) ++ numberBytes rest
 
 -- "Bytes `TLG`, version 1 as 16 bits, L as one byte, T as 16 bits, transitions, states as binary64, all little-endian, nothing after"
 unfoldable pub encoded : Sheet → List ℕ
 encoded s =
-    mark ++ (littleEndian 2 1 ++ (littleEndian 1 (s .labels) ++ (littleEndian 2 (s .words) ++ (numbers (s .transitions) ++ numbers (s .states)))))
+    mark ++ (littleEndian 2 1 ++ (littleEndian 1 (s .labels) ++ (littleEndian 2 (s .words) ++ (numberBytes (s .transitions) ++ numberBytes (s .states)))))
 
 -- every number of a table is finite, and a binary64
 pub record Finite64 (table : List Float) : Type 0 where

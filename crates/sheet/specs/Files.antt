@@ -25,8 +25,8 @@ pub record Bytes (bytes : List ℕ) : Type 0 where
   pub below : (i : ℕ) → i < length bytes → getD bytes i 0 < 256
 
 -- there is room for the tables of a sheet
-abbrev pub RoomFor : Sheet → Lent → Type 0
-RoomFor s before = ScoresRoom (s .labels) (s .words) (before .transitions) (before .states)
+abbrev pub SheetRoom : Sheet → Lent → Type 0
+SheetRoom s before = ScoresRoom (s .labels) (s .words) (before .transitions) (before .states)
 
 -- bytes in which nothing is refused are the file of a sound sheet, and the other way round
 abbrev pub RightFilesAreSheets : Type 0
@@ -40,7 +40,7 @@ pub record ReadFrom (s : Sheet) (before : Lent) (outcome : Outcome) : Type 0 whe
 
 pub record ExactlyTheFiles : Type 0 where
   -- the file of every sound sheet is read
-  pub every : (s : Sheet) → SoundSheet s → (before : Lent) → RoomFor s before → (outcome : Outcome) → Promised (record { bytes = encoded s }) before outcome → ReadFrom s before outcome
+  pub every : (s : Sheet) → SoundSheet s → (before : Lent) → SheetRoom s before → (outcome : Outcome) → Promised (record { bytes = encoded s }) before outcome → ReadFrom s before outcome
   -- and nothing else is
   pub only :
       (given : Given) →
@@ -49,4 +49,4 @@ pub record ExactlyTheFiles : Type 0 where
       Promised given before outcome →
       (labels words : ℕ) →
       said (outcome .answer) ≡ read labels words →
-      (s : Sheet) × SoundSheet s × (given .bytes ≡ encoded s) × RoomFor s before × ReadFrom s before outcome
+      (s : Sheet) × SoundSheet s × (given .bytes ≡ encoded s) × SheetRoom s before × ReadFrom s before outcome

@@ -7,7 +7,7 @@ use lib.ListN.{length, getD}
 use lib.Ieee.{Float}
 use Rattle.refusals.specs.declared.Checked.{Checked}
 use Rattle.refusals.specs.Refusals.{first, refuse}
-use Rattle.score_tables.specs.Rows.{one, four, two, sixes}
+use Rattle.score_tables.specs.Rows.{one, four, scoresShort, sixes}
 use Rattle.sheet.specs.Fields.{versionIn, labelsIn, wordsIn, wholeLength, transitionsIn, statesIn}
 
 -- what the call is given: the file's bytes
@@ -56,7 +56,7 @@ fileChecked bytes room = first (headRows bytes ++ (sizeRows bytes room ++ entryR
 -- ---- the reader's rows: 2 for the two tables that it is lent
 
 abbrev pub tablesShort : List ℕ → Lent → Checked
-tablesShort bytes before = two (labelsIn bytes) (wordsIn bytes) (before .transitions) (before .states)
+tablesShort bytes before = scoresShort (labelsIn bytes) (wordsIn bytes) (before .transitions) (before .states)
 
 abbrev pub sheetChecked : Given → Lent → Checked
 sheetChecked given before = fileChecked (given .bytes) (tablesShort (given .bytes) before)

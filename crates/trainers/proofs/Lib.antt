@@ -4,4 +4,4 @@ pub mod Fronts
 pub mod SameAnswer
 pub mod Meant
 pub mod Keeping
-pub mod Late
+pub mod Answered

@@ -1,6 +1,6 @@
 -- What a trainer answers means what `Meaning` says. Assumes nothing.
 use mathlib.Core.Path.{_≡_, refl, sym, _∙_, ap}
-use mathlib.Core.List.{List, [], _∷_}
+use mathlib.Core.List.{List, [], _∷_, _++_}
 use mathlib.Core.Logic.{_⊎_, inl, inr}
 use Prim.Native.Nat.{ℕ, _≤_, _<_}
 use native.Mathlib.Omega.{arith}
@@ -15,10 +15,12 @@ use Rattle.refusal_rows.specs.Given.{OneOf}
 use Rattle.training.specs.declared.Training.{Training}
 use Rattle.training.specs.declared.Trained.{Trained}
 use Rattle.training.proofs.Accepted.{answers-true}
-use Rattle.parameters.specs.Parameters.{AllFit}
+use Rattle.parameters.specs.Parameters.{AllFit, ownOf}
 use Rattle.training_check.proofs.Meant.{training-means}
-use Rattle.trainers.specs.Promise.{Call, averagedPerceptron, passiveAggressive, adaptive, Given, Buffers, Outcome, trainedWith, said, ruleFor, settingsFor, ownOf, inputOf, checkedOf, trainedOf, answerTo, buffersAfter, Promised}
-use Rattle.trainers.specs.Meaning.{AcceptedTrue, RefusedMeans, RefusedTrue, ChecksAnswered}
+use Rattle.parameters.specs.declared.Method.{Method}
+use Rattle.parameters.specs.Trainers.{ruleFor, settingsFor}
+use Rattle.trainers.specs.Promise.{Given, Buffers, Outcome, trainedWith, said, inputOf, checkedOf, trainedOf, answerTo, buffersAfter, Promised}
+use Rattle.trainers.specs.Meaning.{AcceptedTrue, RefusedMeans, RefusedTrue}
 use Rattle.trainers.proofs.Trained.{trained-late, trained-zero}
 use Rattle.trainers.proofs.Fronts.{after-is, fronts}
 
@@ -32,18 +34,18 @@ trained-so (Training.Accepted t) epochs visits updates h = ap Training.Accepted 
 trained-so (Training.Refused why) epochs visits updates h = let z : _≡_ {A = ℕ} 0 1 = cc in absurd (omega arith)
 
 -- 7 has seen to it that an epoch is allowed
-some-epochs : (call : Call) → AllFit (ownOf call) → 1 ≤ settingsFor call .epochs
-some-epochs (averagedPerceptron p) f = f .0 .0
-some-epochs (passiveAggressive p) f = f .0 .0
-some-epochs (adaptive p) f = f .0 .0
+some-epochs : (method : Method) → AllFit (ownOf method) → 1 ≤ settingsFor method .epochs
+some-epochs (Method.AveragedPerceptron p) f = f .0 .0
+some-epochs (Method.PassiveAggressive p) f = f .0 .0
+some-epochs (Method.Arow p) f = f .0 .0
 
 pub accepted-true : AcceptedTrue
 unfolding answerTo
-accepted-true call given before outcome kept epochs visits updates answer =
-    let a = accepts (checkedOf call given before) _ epochs visits updates (sym (kept .answers) ∙ answer) in
-    let means = training-means (inputOf given before) (ownOf call) in
+accepted-true method given before outcome kept epochs visits updates answer =
+    let a = accepts (checkedOf method given before) _ epochs visits updates (sym (kept .answers) ∙ answer) in
+    let means = training-means (inputOf given before) (ownOf method) in
     let f = given .model .features .count in
-    let t = answers-true (ruleFor call) (settingsFor call) (given .model) (given .corpus) _ (some-epochs call (means .sound (a .0) .1)) (trained-so _ epochs visits updates (a .1)) in
+    let t = answers-true (ruleFor method) (settingsFor method) (given .model) (given .corpus) _ (some-epochs method (means .sound (a .0) .1)) (trained-so _ epochs visits updates (a .1)) in
     record {
       unrefused = means .accepted .0 (a .0);
       least = t .least;
@@ -53,8 +55,8 @@ accepted-true call given before outcome kept epochs visits updates answer =
       none-refused = t .sound;
       updates-are = t .updates;
       all-finite = λ i l.
-          let g = List·getD-append (trainedOf call given .weights) (drop f (before .weights)) nan i (omega (arith, l, t .long)) in
-          rw (after-is call given before outcome kept (a .0), g) (t .all-finite i l);
+          let g = List·getD-append (trainedOf method given .weights) (drop f (before .weights)) nan i (omega (arith, l, t .long)) in
+          rw (after-is method given before outcome kept (a .0), g) (t .all-finite i l);
     }
 
 -- ---- refusals
@@ -77,45 +79,45 @@ at-most number (inr (inr (inr (inr (inl e))))) = omega arith
 at-most number (inr (inr (inr (inr (inr (inl e)))))) = omega arith
 at-most number (inr (inr (inr (inr (inr (inr (inl e))))))) = omega arith
 
-above : (number : ℕ) → OneOf (8 ∷ 9 ∷ []) number → 7 < number
+pub above : (number : ℕ) → OneOf (8 ∷ 9 ∷ []) number → 7 < number
 above number (inl e) = omega arith
 above number (inr (inl e)) = omega arith
 
-among : (number : ℕ) → OneOf (1 ∷ 2 ∷ 3 ∷ 4 ∷ 5 ∷ 6 ∷ 7 ∷ []) number → OneOf (1 ∷ 2 ∷ 3 ∷ 4 ∷ 5 ∷ 6 ∷ 7 ∷ 8 ∷ 9 ∷ []) number
-among number (inl e) = inl e
-among number (inr (inl e)) = inr (inl e)
-among number (inr (inr (inl e))) = inr (inr (inl e))
-among number (inr (inr (inr (inl e)))) = inr (inr (inr (inl e)))
-among number (inr (inr (inr (inr (inl e))))) = inr (inr (inr (inr (inl e))))
-among number (inr (inr (inr (inr (inr (inl e)))))) = inr (inr (inr (inr (inr (inl e)))))
-among number (inr (inr (inr (inr (inr (inr (inl e))))))) = inr (inr (inr (inr (inr (inr (inl e))))))
+-- one of some is one of more
+in-more : (some more : List ℕ) (number : ℕ) → OneOf some number → OneOf (some ++ more) number
+in-more [] more number h = absurd h
+in-more (this ∷ some) more number (inl e) = inl e
+in-more (this ∷ some) more number (inr h) = inr (in-more some more number h)
 
-among-late : (number : ℕ) → OneOf (8 ∷ 9 ∷ []) number → OneOf (1 ∷ 2 ∷ 3 ∷ 4 ∷ 5 ∷ 6 ∷ 7 ∷ 8 ∷ 9 ∷ []) number
+pub among : (number : ℕ) → OneOf (1 ∷ 2 ∷ 3 ∷ 4 ∷ 5 ∷ 6 ∷ 7 ∷ []) number → OneOf (1 ∷ 2 ∷ 3 ∷ 4 ∷ 5 ∷ 6 ∷ 7 ∷ 8 ∷ 9 ∷ []) number
+among number h = in-more (1 ∷ 2 ∷ 3 ∷ 4 ∷ 5 ∷ 6 ∷ 7 ∷ []) (8 ∷ 9 ∷ []) number h
+
+pub among-late : (number : ℕ) → OneOf (8 ∷ 9 ∷ []) number → OneOf (1 ∷ 2 ∷ 3 ∷ 4 ∷ 5 ∷ 6 ∷ 7 ∷ 8 ∷ 9 ∷ []) number
 among-late number h = inr (inr (inr (inr (inr (inr (inr h))))))
 
-module _ (call : Call) (given : Given) (before : Buffers) (outcome : Outcome) (kept : Promised call given before outcome) (number place : ℕ) where
-  early-means : checkedOf call given before ≡ refusedAt number place → RefusedMeans call given before (outcome .after) number place
+module _ (method : Method) (given : Given) (before : Buffers) (outcome : Outcome) (kept : Promised method given before outcome) (number place : ℕ) where
+  early-means : checkedOf method given before ≡ refusedAt number place → RefusedMeans method given before (outcome .after) number place
   unfolding buffersAfter
   early-means h =
-      let one = training-means (inputOf given before) (ownOf call) .only _ h in
+      let one = training-means (inputOf given before) (ownOf method) .only _ h in
       record {
         only = among number one;
         early = λ l. (h, rw h at (kept .after));
         late = λ l. absurd (omega (arith, at-most number one));
       }
 
-  late-means : checkedOf call given before ≡ Accepted → said (trainedOf call given .answer) ≡ refused (numbered number place) → RefusedMeans call given before (outcome .after) number place
+  late-means : checkedOf method given before ≡ Accepted → said (trainedOf method given .answer) ≡ refused (numbered number place) → RefusedMeans method given before (outcome .after) number place
   late-means h t =
-      let e = trained-not (trainedOf call given .answer) number place t in
-      let one = trained-late (ruleFor call) (settingsFor call) (given .model) (given .corpus) _ e in
-      let f = fronts call given before outcome kept h in
+      let e = trained-not (trainedOf method given .answer) number place t in
+      let one = trained-late (ruleFor method) (settingsFor method) (given .model) (given .corpus) _ e in
+      let f = fronts method given before outcome kept h in
       record {
         only = among-late number one;
         early = λ l. absurd (omega (arith, above number one));
         late = λ l. (
-          training-means (inputOf given before) (ownOf call) .accepted .0 h,
+          training-means (inputOf given before) (ownOf method) .accepted .0 h,
           record {
-            weights = f .weights ∙ trained-zero (ruleFor call) (settingsFor call) (given .model) (given .corpus) _ e;
+            weights = f .weights ∙ trained-zero (ruleFor method) (settingsFor method) (given .model) (given .corpus) _ e;
             beside = f .beside;
             truly = f .truly;
             predicted = f .predicted;
@@ -124,15 +126,11 @@ module _ (call : Call) (given : Given) (before : Buffers) (outcome : Outcome) (k
         );
       }
 
-  refused-means : (checkedOf call given before ≡ refusedAt number place) ⊎ ((checkedOf call given before ≡ Accepted) × (said (trainedOf call given .answer) ≡ refused (numbered number place))) → RefusedMeans call given before (outcome .after) number place
+  refused-means : (checkedOf method given before ≡ refusedAt number place) ⊎ ((checkedOf method given before ≡ Accepted) × (said (trainedOf method given .answer) ≡ refused (numbered number place))) → RefusedMeans method given before (outcome .after) number place
   refused-means (inl h) = early-means h
   refused-means (inr h) = late-means (h .0) (h .1)
 
 pub refused-true : RefusedTrue
 unfolding answerTo
-refused-true call given before outcome kept number place answer =
-    refused-means call given before outcome kept number place (refuses (checkedOf call given before) _ number place (sym (kept .answers) ∙ answer))
-
-pub checks-answered : ChecksAnswered
-unfolding answerTo
-checks-answered call given before outcome kept number place h = kept .answers ∙ rw h
+refused-true method given before outcome kept number place answer =
+    refused-means method given before outcome kept number place (refuses (checkedOf method given before) _ number place (sym (kept .answers) ∙ answer))

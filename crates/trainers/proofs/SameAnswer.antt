@@ -3,14 +3,16 @@ use mathlib.Core.Path.{_≡_, sym, _∙_, ap}
 use Rattle.refusals.specs.declared.Checked.{Checked}
 use Rattle.refusals.specs.Said.{orRefused}
 use Rattle.training_check.specs.Rows.{trainingChecked}
-use Rattle.trainers.specs.Promise.{Call, Given, Buffers, said, ownOf, checkedOf, trainedOf, answerTo}
+use Rattle.parameters.specs.declared.Method.{Method}
+use Rattle.parameters.specs.Parameters.{ownOf}
+use Rattle.trainers.specs.Promise.{Given, Buffers, said, checkedOf, trainedOf, answerTo}
 use Rattle.trainers.specs.SameAnswer.{SameLengths, SameAnswer}
 use Rattle.trainers.proofs.Unique.{told}
 use Rattle.trainers.proofs.Fronts.{fronts}
 
-module _ (call : Call) (given : Given) (before other : Buffers) (s : SameLengths before other) where
+module _ (method : Method) (given : Given) (before other : Buffers) (s : SameLengths before other) where
   -- the checks ask for lengths alone
-  same-checked : checkedOf call given before ≡ checkedOf call given other
+  same-checked : checkedOf method given before ≡ checkedOf method given other
   same-checked i =
       trainingChecked
       (record {
@@ -18,19 +20,19 @@ module _ (call : Call) (given : Given) (before other : Buffers) (s : SameLengths
         corpus = given .corpus;
         lent = record { weights = s .weights i; beside = s .beside i; truly = s .truly i; predicted = s .predicted i; order = s .order i };
       })
-      (ownOf call)
+      (ownOf method)
 
-  same-answered : answerTo call given before ≡ answerTo call given other
+  same-answered : answerTo method given before ≡ answerTo method given other
   unfolding answerTo
-  same-answered = ap (λ (checked : Checked). orRefused checked (said (trainedOf call given .answer))) same-checked
+  same-answered = ap (λ (checked : Checked). orRefused checked (said (trainedOf method given .answer))) same-checked
 
 pub same-answer : SameAnswer
-same-answer call given before other s a b p q =
+same-answer method given before other s a b p q =
     record {
-      answers = told (a .answer) (b .answer) (p .answers ∙ same-answered call given before other s ∙ sym (q .answers));
+      answers = told (a .answer) (b .answer) (p .answers ∙ same-answered method given before other s ∙ sym (q .answers));
       fronts = λ h.
-          let x = fronts call given before a p h in
-          let y = fronts call given other b q (sym (same-checked call given before other s) ∙ h) in
+          let x = fronts method given before a p h in
+          let y = fronts method given other b q (sym (same-checked method given before other s) ∙ h) in
           record {
             weights = x .weights ∙ sym (y .weights);
             beside = x .beside ∙ sym (y .beside);

@@ -14,7 +14,7 @@ told (Training.Refused w) (Training.Accepted u) h = let z : _≡_ {A = ℕ} 0 1 
 told (Training.Refused w) (Training.Refused v) h = ap Training.Refused (same-refusal h)
 
 pub only-one : OnlyOne
-only-one call given before a b p q =
+only-one method given before a b p q =
     let answer = told (a .answer) (b .answer) (p .answers ∙ sym (q .answers)) in
     let after = p .after ∙ sym (q .after) in
     λ i. record { answer = answer i; after = after i }

@@ -1,4 +1,4 @@
 pub mod Promise
-pub mod Inside
+pub mod Lent
 pub mod SameAnswer
 pub mod Meaning

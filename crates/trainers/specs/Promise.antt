@@ -1,4 +1,4 @@
--- What the three trainers promise, in one promise: document 01's answer to what a call is given, and what the lent buffers hold afterwards. Assumes nothing.
+-- What a trainer promises, whichever it is: document 01's answer to what a call is given, and what the lent buffers hold afterwards. Assumes nothing.
 use mathlib.Core.Path.{_≡_}
 use mathlib.Core.List.{List, _++_}
 use Prim.Native.Nat.{ℕ}
@@ -13,21 +13,12 @@ use Rattle.fronts.specs.Cleared.{cleared}
 use Rattle.training.specs.declared.Training.{Training}
 use Rattle.training.specs.declared.Trained.{Trained}
 use Rattle.lines.specs.Data.{Data}
-use Rattle.training.specs.Rules.{Rule, perceptron, passive, arow}
-use Rattle.training.specs.Epochs.{Settings, Result, trained}
+use Rattle.training.specs.Epochs.{Result, trained}
 pub use Rattle.training.specs.Said.{trainedWith, said}
-use Rattle.parameters.specs.declared.Perceptron.{Perceptron}
-use Rattle.parameters.specs.declared.Passive.{Passive}
-use Rattle.parameters.specs.declared.Arow.{Arow}
-use Rattle.parameters.specs.Trainers.{on}
-use Rattle.parameters.specs.Parameters.{Parameter, perceptronsOwn, passivesOwn, arowsOwn}
+use Rattle.parameters.specs.declared.Method.{Method}
+use Rattle.parameters.specs.Trainers.{ruleFor, settingsFor}
+use Rattle.parameters.specs.Parameters.{ownOf}
 use Rattle.training_check.specs.Rows.{Input, trainingChecked}
-
--- which trainer is called, and with which parameters
-pub data Call : Type 0 where
-  averagedPerceptron : Perceptron → Call
-  passiveAggressive : Passive → Call
-  adaptive : Arow → Call
 
 -- what it is given: the model's tables, which "are only read", and the instances
 pub record Given : Type 0 where
@@ -47,24 +38,6 @@ pub record Outcome : Type 0 where
   pub answer : Training
   pub after : Buffers
 
--- the update and the stop test
-abbrev pub ruleFor : Call → Rule
-ruleFor (averagedPerceptron p) = perceptron
-ruleFor (passiveAggressive p) = passive (p .variant) (p .c) (on (p .sensitive)) (on (p .averaging))
-ruleFor (adaptive p) = arow (p .variance) (p .gamma)
-
--- "a required 64-bit seed", the epochs allowed, and epsilon
-abbrev pub settingsFor : Call → Settings
-settingsFor (averagedPerceptron p) = record { epochs = p .epochs; epsilon = p .epsilon; seed = p .seed }
-settingsFor (passiveAggressive p) = record { epochs = p .epochs; epsilon = p .epsilon; seed = p .seed }
-settingsFor (adaptive p) = record { epochs = p .epochs; epsilon = p .epsilon; seed = p .seed }
-
--- "each trainer tests only its own"
-abbrev pub ownOf : Call → List Parameter
-ownOf (averagedPerceptron p) = perceptronsOwn p
-ownOf (passiveAggressive p) = passivesOwn p
-ownOf (adaptive p) = arowsOwn p
-
 -- 1 to 7
 abbrev pub inputOf : Given → Buffers → Input
 inputOf given before = record {
@@ -79,12 +52,12 @@ inputOf given before = record {
   };
 }
 
-abbrev pub checkedOf : Call → Given → Buffers → Checked
-checkedOf call given before = trainingChecked (inputOf given before) (ownOf call)
+abbrev pub checkedOf : Method → Given → Buffers → Checked
+checkedOf method given before = trainingChecked (inputOf given before) (ownOf method)
 
 -- 8 and 9 are training's own, and its weights are zero after them
-abbrev pub trainedOf : Call → Given → Result
-trainedOf call given = trained (ruleFor call) (settingsFor call) (given .model) (given .corpus)
+abbrev pub trainedOf : Method → Given → Result
+trainedOf method given = trained (ruleFor method) (settingsFor method) (given .model) (given .corpus)
 
 -- "After 1 to 7 .. every lent buffer holds its entry contents"; else the trained weights stand in the result's front, and "work buffers' needed fronts are zero": F entries, and N of the order; "only the needed front is touched"
 abbrev pub holding : Checked → Given → List Float → Buffers → Buffers
@@ -100,17 +73,17 @@ holding Accepted given weights before =
     }
 
 -- what document 01 says: "The lowest number wins", so 8 and 9 come last
-unfoldable pub answerTo : Call → Given → Buffers → Said Trained
-answerTo call given before = orRefused (checkedOf call given before) (said (trainedOf call given .answer))
+unfoldable pub answerTo : Method → Given → Buffers → Said Trained
+answerTo method given before = orRefused (checkedOf method given before) (said (trainedOf method given .answer))
 
-unfoldable pub buffersAfter : Call → Given → Buffers → Buffers
-buffersAfter call given before = holding (checkedOf call given before) given (trainedOf call given .weights) before
+unfoldable pub buffersAfter : Method → Given → Buffers → Buffers
+buffersAfter method given before = holding (checkedOf method given before) given (trainedOf method given .weights) before
 
 -- the promise
-pub record Promised (call : Call) (given : Given) (before : Buffers) (outcome : Outcome) : Type 0 where
-  pub answers : said (outcome .answer) ≡ answerTo call given before
-  pub after : outcome .after ≡ buffersAfter call given before
+pub record Promised (method : Method) (given : Given) (before : Buffers) (outcome : Outcome) : Type 0 where
+  pub answers : said (outcome .answer) ≡ answerTo method given before
+  pub after : outcome .after ≡ buffersAfter method given before
 
 -- no two different outcomes satisfy one promise; proved in proofs/Unique
 abbrev pub OnlyOne : Type 0
-OnlyOne = (call : Call) (given : Given) (before : Buffers) (a b : Outcome) → Promised call given before a → Promised call given before b → a ≡ b
+OnlyOne = (method : Method) (given : Given) (before : Buffers) (a b : Outcome) → Promised method given before a → Promised method given before b → a ≡ b

@@ -2,7 +2,8 @@
 use mathlib.Core.Path.{_≡_}
 use lib.ListN.{length, take}
 use Rattle.refusals.specs.declared.Checked.the-variants.{Accepted}
-use Rattle.trainers.specs.Promise.{Call, Given, Buffers, Outcome, checkedOf, Promised}
+use Rattle.parameters.specs.declared.Method.{Method}
+use Rattle.trainers.specs.Promise.{Given, Buffers, Outcome, checkedOf, Promised}
 
 -- buffers of the same lengths
 pub record SameLengths (a b : Buffers) : Type 0 where
@@ -21,12 +22,12 @@ pub record SameFronts (given : Given) (a b : Buffers) : Type 0 where
   pub order : take (given .corpus .instances) (a .order) ≡ take (given .corpus .instances) (b .order)
 
 -- two calls alike but for the contents of what they are lent: the same answer and, unless a number of 1 to 7 was given, the same needed fronts
-pub record Same (call : Call) (given : Given) (before : Buffers) (a b : Outcome) : Type 0 where
+pub record Same (method : Method) (given : Given) (before : Buffers) (a b : Outcome) : Type 0 where
   pub answers : a .answer ≡ b .answer
-  pub fronts : checkedOf call given before ≡ Accepted → SameFronts given (a .after) (b .after)
+  pub fronts : checkedOf method given before ≡ Accepted → SameFronts given (a .after) (b .after)
 
 abbrev pub SameAnswer : Type 0
 SameAnswer =
-    (call : Call) (given : Given) (before other : Buffers) → SameLengths before other →
-    (a b : Outcome) → Promised call given before a → Promised call given other b →
-    Same call given before a b
+    (method : Method) (given : Given) (before other : Buffers) → SameLengths before other →
+    (a b : Outcome) → Promised method given before a → Promised method given other b →
+    Same method given before a b

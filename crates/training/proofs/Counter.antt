@@ -1,7 +1,6 @@
 -- The Rust's averaging counter is the whole number visits + 1. Assumes nothing.
 use mathlib.Core.Path.{_≡_, refl, ap, _∙_}
-use Prim.Native.Nat.{ℕ, zero, suc, _+_, _^_, _≤_}
-use native.Mathlib.Nat.{mul-le-mul}
+use Prim.Native.Nat.{zero, suc, _+_}
 use native.Mathlib.Omega.{arith}
 use lib.Dec.{lit≤}
 use lib.Ieee.{Float}
@@ -18,4 +17,4 @@ counter-exact (suc visits) h =
     ap (λ (x : Float). x ⊕ whole 1) (counter-exact visits (omega arith)) ∙ whole-add (visits + 1) 1 (omega arith) (lit≤ tt) ∙ ap whole e
 
 pub counter-exact-in-training : CounterExactInTraining
-counter-exact-in-training epochs instances visits e n h = counter-exact visits (omega (arith, mul-le-mul e n))
+counter-exact-in-training visits h = counter-exact visits (omega (arith, h))

@@ -22,7 +22,7 @@ use Rattle.training.specs.Rules.{Rule, perceptron, passive, arow, Learne
 use Rattle.training.specs.Visits.{TrainingState, refusedAs, unchanged, changedTo, finiteState, heldTo, corrected, compared, visited}
 use Rattle.training.specs.Epochs.{isRefused}
 use Rattle.training.specs.OneVisit.{predictedFor, LabelsAgree}
-use Rattle.training.specs.Reasons.{SomeNotFinite, stateScores, transitionScores, trueCounts, predictedCounts, ScoresFinite, EightIn, state-score, transition-score, true-count, predicted-count, ComesToUpdate, NineAfter, weight, running-sum, covariance, epoch-loss, TablesFinite, afterUpdate, VisitsMean}
+use Rattle.training.specs.Reasons.{SomeNotFinite, stateScores, transitionScores, trueCounts, predictedCounts, VisitScoresFinite, EightInVisit, state-score, transition-score, true-count, predicted-count, ComesToUpdate, NineAfter, weight, running-sum, covariance, epoch-loss, TablesFinite, afterUpdate, VisitsMean}
 use Rattle.training.proofs.OneVisit.{agree-none, none-agree, wrongIn}
 use Rattle.training.proofs.Weights.{through-keeps}
 use Rattle.fronts.proofs.Finite.{all-finite-at, all-finite-if}
@@ -105,18 +105,18 @@ module _ (rule : Rule) (m : Model) (d : Data) (i : ℕ) (s : TrainingState) wher
   unfolding visited
   scores-refused e = rw e
 
-  agreeing-so : ScoresFinite m d i s → LabelsAgree m d i s → visited rule m d i s ≡ unchanged s
+  agreeing-so : VisitScoresFinite m d i s → LabelsAgree m d i s → visited rule m d i s ≡ unchanged s
   unfolding visited compared predictedFor
   agreeing-so f h =
       rw (all-finite-if (stateScores m d i s) _ (f .states), all-finite-if (transitionScores m d i s) _ (f .transitions), eq-eqb (wrongIn rule m d i s) 0 (agree-none (predictedFor m d i s) (referenceOf d i) (wordsOf d i) h))
 
   -- labels that differ bring a visit to the counts
-  comes-to-counts : ScoresFinite m d i s → (LabelsAgree m d i s → ⊥) → visited rule m d i s ≡ corrected rule m d i (tabled (m .labels) (transitionScores m d i s) (stateScores m d i s)) (predictedFor m d i s) (wrongIn rule m d i s) s
+  comes-to-counts : VisitScoresFinite m d i s → (LabelsAgree m d i s → ⊥) → visited rule m d i s ≡ corrected rule m d i (tabled (m .labels) (transitionScores m d i s) (stateScores m d i s)) (predictedFor m d i s) (wrongIn rule m d i s) s
   unfolding visited compared predictedFor
   comes-to-counts f n =
       rw (all-finite-if (stateScores m d i s) _ (f .states), all-finite-if (transitionScores m d i s) _ (f .transitions), refuted (eqb (wrongIn rule m d i s) 0) (λ e. n (none-agree (predictedFor m d i s) (referenceOf d i) (wordsOf d i) (eqb-true (wrongIn rule m d i s) 0 e))))
 
-  counts-refused : ScoresFinite m d i s → (LabelsAgree m d i s → ⊥) → allFinite (trueCounts m d i s) (m .features .count) && allFinite (predictedCounts m d i s) (m .features .count) ≡ false → visited rule m d i s ≡ refusedAs 8 s
+  counts-refused : VisitScoresFinite m d i s → (LabelsAgree m d i s → ⊥) → allFinite (trueCounts m d i s) (m .features .count) && allFinite (predictedCounts m d i s) (m .features .count) ≡ false → visited rule m d i s ≡ refusedAs 8 s
   unfolding corrected
   counts-refused f n e = comes-to-counts f n ∙ rw e
 
@@ -126,7 +126,7 @@ module _ (rule : Rule) (m : Model) (d : Data) (i : ℕ) (s : TrainingState) wher
       comes-to-counts (c .scores) (c .differ)
       ∙ rw (all-finite-if (trueCounts m d i s) (m .features .count) (c .true-counts), all-finite-if (predictedCounts m d i s) (m .features .count) (c .predicted-counts))
 
-  pub eight-so : EightIn m d i s → visited rule m d i s ≡ refusedAs 8 s
+  pub eight-so : EightInVisit m d i s → visited rule m d i s ≡ refusedAs 8 s
   eight-so (state-score h) = scores-refused (rw (none-of (stateScores m d i s) _ h))
   eight-so (transition-score f h) = scores-refused (rw (none-of (transitionScores m d i s) _ h, and-false))
   eight-so (true-count f n h) = counts-refused f n (rw (none-of (trueCounts m d i s) _ h))
@@ -142,8 +142,8 @@ module _ (rule : Rule) (m : Model) (d : Data) (i : ℕ) (s : TrainingState) wher
 
   -- ---- one of the four reasons is there
   pub data Reason : Type 0 where
-    for-eight : EightIn m d i s → Reason
-    for-same : ScoresFinite m d i s → LabelsAgree m d i s → Reason
+    for-eight : EightInVisit m d i s → Reason
+    for-same : VisitScoresFinite m d i s → LabelsAgree m d i s → Reason
     for-nine : ComesToUpdate m d i s → NineAfter rule (m .features .count) (afterUpdate rule m d i s) → Reason
     for-update : ComesToUpdate m d i s → TablesFinite (m .features .count) (afterUpdate rule m d i s) → Reason
 
@@ -154,7 +154,7 @@ module _ (rule : Rule) (m : Model) (d : Data) (i : ℕ) (s : TrainingState) wher
       (λ e. for-update c (finite-held (m .features .count) (afterUpdate rule m d i s) e))
       (λ e. for-nine c (lost-nine rule (m .features .count) _ s h e))
 
-  counts-reason : TablesFinite (m .features .count) s → ScoresFinite m d i s → (LabelsAgree m d i s → ⊥) → Reason
+  counts-reason : TablesFinite (m .features .count) s → VisitScoresFinite m d i s → (LabelsAgree m d i s → ⊥) → Reason
   counts-reason h f n =
       let features = m .features .count in
       by-test (allFinite (trueCounts m d i s) features)
@@ -163,7 +163,7 @@ module _ (rule : Rule) (m : Model) (d : Data) (i : ℕ) (s : TrainingState) wher
       (λ b. for-eight (predicted-count f n (all-finite-at _ features a) (some-of _ features b))))
       (λ a. for-eight (true-count f n (some-of _ features a)))
 
-  labels-reason : TablesFinite (m .features .count) s → ScoresFinite m d i s → Reason
+  labels-reason : TablesFinite (m .features .count) s → VisitScoresFinite m d i s → Reason
   labels-reason h f =
       by-test (eqb (wrongIn rule m d i s) 0)
       (λ e. for-same f (none-agree (predictedFor m d i s) (referenceOf d i) (wordsOf d i) (eqb-true (wrongIn rule m d i s) 0 e)))
@@ -205,7 +205,7 @@ module _ (rule : Rule) (m : Model) (d : Data) (i : ℕ) (s : TrainingState) wher
   same-end : (r : Reason rule m d i s) {v : Visit} → visited rule m d i s .progress .visit ≡ v → told (endBy rule m d i s r .progress .visit) ≡ told v
   same-end r e = ap told (sym (end-is r) ∙ e)
 
-  eight-told : {p : ℕ} → Reason rule m d i s → visited rule m d i s .progress .visit ≡ Refused (record { number = 8; place = p }) → EightIn m d i s
+  eight-told : {p : ℕ} → Reason rule m d i s → visited rule m d i s .progress .visit ≡ Refused (record { number = 8; place = p }) → EightInVisit m d i s
   unfolding refusedAs unchanged afterUpdate changedTo
   eight-told (for-eight h) e = h
   eight-told (for-same f h) e = absurd (omega (arith, same-end (for-same f h) e))
@@ -219,7 +219,7 @@ module _ (rule : Rule) (m : Model) (d : Data) (i : ℕ) (s : TrainingState) wher
   nine-told (for-nine c h) e = (c, h)
   nine-told (for-update c h) e = absurd (omega (arith, same-end (for-update c h) e))
 
-  unchanged-told : Reason rule m d i s → visited rule m d i s .progress .visit ≡ Unchanged → ScoresFinite m d i s × LabelsAgree m d i s
+  unchanged-told : Reason rule m d i s → visited rule m d i s .progress .visit ≡ Unchanged → VisitScoresFinite m d i s × LabelsAgree m d i s
   unfolding refusedAs unchanged afterUpdate changedTo
   unchanged-told (for-eight h) e = absurd (omega (arith, same-end (for-eight h) e))
   unchanged-told (for-same f h) e = (f, h)

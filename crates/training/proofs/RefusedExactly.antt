@@ -20,7 +20,7 @@ use Rattle.training.specs.Rules.{Rule, perceptron, passive, arow, beside
 use Rattle.training.specs.Visits.{TrainingState, refusedAs, visited}
 use Rattle.training.specs.Epochs.{Settings, Run, isRefused, ran, refusedWith, averaged, finished, trained}
 use Rattle.training.specs.Reasons.{SomeNotFinite, KeepsSums, TablesFinite, VisitMeans}
-use Rattle.training.specs.Reached.{instanceAt, stateBefore, endAt, Reached, EightAt, averagedWeights, NineAt, in-visit, in-averaging, RefusedExactly}
+use Rattle.training.specs.Reached.{instanceAt, stateBefore, endAt, Reached, EightAtVisit, averagedWeights, NineAt, in-visit, in-averaging, RefusedExactly}
 use Rattle.training.proofs.Reasons.{by-test, none-of, some-of, eight-so, nine-so, visits-mean}
 use Rattle.training.proofs.AlwaysFinite.{ran-finite, before-finite}
 use Rattle.training.proofs.Reached.{visits-before, ran-refused, ran-found, none-refused-so, so-none-refused, all-visits}
@@ -84,7 +84,7 @@ module _ (rule : Rule) (set : Settings) (m : Model) (d : Data) (start : T (finit
       refused-so rule set m d _ (ap (λ (s : TrainingState). s .progress .visit) l)
       ∙ ap (λ (p : ℕ). NotTrained (record { number = number; place = p })) (visits-before rule set m d e j n r)
 
-  eight-answers : (place : ℕ) → EightAt rule set m d place → trained rule set m d .answer ≡ NotTrained (record { number = 8; place = place })
+  eight-answers : (place : ℕ) → EightAtVisit rule set m d place → trained rule set m d .answer ≡ NotTrained (record { number = 8; place = place })
   eight-answers place h =
       visit-answers (h .epoch) (h .turn) place 8 (h .reached) (eight-so rule m d (instanceAt rule set m d (h .epoch) (h .turn)) (stateBefore rule set m d (h .epoch) (h .turn)) (h .found))
 
@@ -116,7 +116,7 @@ module _ (rule : Rule) (set : Settings) (m : Model) (d : Data) (start : T (finit
         means = v;
       }
 
-  visit-eight : (place : ℕ) → ran rule set m d .state .progress .visit ≡ Refused (record { number = 8; place = place }) → EightAt rule set m d place
+  visit-eight : (place : ℕ) → ran rule set m d .state .progress .visit ≡ Refused (record { number = 8; place = place }) → EightAtVisit rule set m d place
   visit-eight place e =
       let f = refused-for _ e in
       record { epoch = f .epoch-at; turn = f .turn; reached = f .reached; found = f .means .eight .0 (f .ended) }
@@ -136,7 +136,7 @@ module _ (rule : Rule) (set : Settings) (m : Model) (d : Data) (start : T (finit
   same-refusal : {why : Refusal} {n p : ℕ} → trained rule set m d .answer ≡ NotTrained why → trained rule set m d .answer ≡ NotTrained (record { number = n; place = p }) → why ≡ record { number = n; place = p }
   same-refusal a b = cc
 
-  eight-told : (place : ℕ) → Answered rule set m d → trained rule set m d .answer ≡ NotTrained (record { number = 8; place = place }) → EightAt rule set m d place
+  eight-told : (place : ℕ) → Answered rule set m d → trained rule set m d .answer ≡ NotTrained (record { number = 8; place = place }) → EightAtVisit rule set m d place
   eight-told place (by-visit why e a) b = visit-eight place (e ∙ ap Refused (same-refusal a b))
   eight-told place (by-averaging h f a) b = absurd (omega (arith, ap (λ (w : Refusal). w .number) (same-refusal a b)))
   eight-told place (by-success t a) b = let z : _≡_ {A = ℕ} 0 1 = cc in absurd (omega arith)
@@ -149,7 +149,7 @@ module _ (rule : Rule) (set : Settings) (m : Model) (d : Data) (start : T (finit
   nine-told place (by-success t a) b = let z : _≡_ {A = ℕ} 0 1 = cc in absurd (omega arith)
 
   -- a training for which neither 8 nor 9 is there is accepted
-  accepted-so : Answered rule set m d → ((place : ℕ) → EightAt rule set m d place → ⊥) → ((place : ℕ) → NineAt rule set m d place → ⊥) → (t : Trained) × (trained rule set m d .answer ≡ Accepted t)
+  accepted-so : Answered rule set m d → ((place : ℕ) → EightAtVisit rule set m d place → ⊥) → ((place : ℕ) → NineAt rule set m d place → ⊥) → (t : Trained) × (trained rule set m d .answer ≡ Accepted t)
   accepted-so (by-success t a) no-eight no-nine = (t, a)
   accepted-so (by-averaging h f a) no-eight no-nine = absurd (no-nine _ (averaging-nine h f))
   accepted-so (by-visit why e a) no-eight no-nine = absurd (go (refused-for why e .means .only _ (refused-for why e .ended) .0))

@@ -14,6 +14,7 @@ use Rattle.lines.specs.Passes.{through, start, size, raised}
 use Rattle.binary64.specs.Numbers.{nought, whole}
 use Rattle.lines.specs.Tables.{Model, Words, State, Transition}
 use Rattle.lines.specs.Counted.{stateCount, countedAttribute, countedAt, countedWord, transitionCount, countedTransition, countsOf}
+use Rattle.refusals.specs.Bounds.{theAttributeEntries, most}
 use Rattle.training.specs.WholeCounts.{total, timesInList, timesFor, timesAt, matching, StateCountsWhole, MatchingFits}
 use Rattle.training.proofs.Whole.{whole-add}
 
@@ -148,18 +149,18 @@ list-most m i a =
     let starts = m .attributeLists .starts in
     omega (arith, total-most (λ place. cond (eqb (getD (m .attributeLists .entries) place 0) i) 1 0) 1 (start starts a) (size starts a) (λ j _. cond-most (eqb (getD (m .attributeLists .entries) (start starts a + j) 0) i) 1 1 (λ _. omega arith)))
 
-module _ (m : Model) (d : Words) (i : ℕ) (lists : (a : ℕ) → a < m .attributeLists .count → start (m .attributeLists .starts) (a + 1) ≤ 1048576) where
-  attribute-most : (a : ℕ) → timesFor m i d a ≤ 1048576
+module _ (m : Model) (d : Words) (i : ℕ) (lists : (a : ℕ) → a < m .attributeLists .count → start (m .attributeLists .starts) (a + 1) ≤ most theAttributeEntries) where
+  attribute-most : (a : ℕ) → timesFor m i d a ≤ most theAttributeEntries
   unfolding timesFor
-  attribute-most a = cond-most (ltb (getD (d .ids) a 0) (m .attributeLists .count)) _ 1048576 (λ t. omega (arith, list-most m i (getD (d .ids) a 0), lists (getD (d .ids) a 0) (ltb-true _ _ t)))
+  attribute-most a = cond-most (ltb (getD (d .ids) a 0) (m .attributeLists .count)) _ (most theAttributeEntries) (λ t. omega (arith, list-most m i (getD (d .ids) a 0), lists (getD (d .ids) a 0) (ltb-true _ _ t)))
 
-  word-most : (word : ℕ) → timesAt m i d word ≤ 1048576 * size (d .starts) word
+  word-most : (word : ℕ) → timesAt m i d word ≤ most theAttributeEntries * size (d .starts) word
   unfolding timesAt
-  word-most word = total-most (timesFor m i d) 1048576 (start (d .starts) word) (size (d .starts) word) (λ j _. attribute-most (start (d .starts) word + j))
+  word-most word = total-most (timesFor m i d) (most theAttributeEntries) (start (d .starts) word) (size (d .starts) word) (λ j _. attribute-most (start (d .starts) word + j))
 
   -- words that add no more than their attributes can add no more than the attributes up to their end can
   words-most : (first words : ℕ) (f : ℕ → ℕ) → ((word : ℕ) → f word ≤ timesAt m i d (first + word)) → ((word : ℕ) → word < words → start (d .starts) (first + word) ≤ start (d .starts) (first + word + 1)) →
-      total f 0 words ≤ 1048576 * start (d .starts) (first + words)
+      total f 0 words ≤ most theAttributeEntries * start (d .starts) (first + words)
   unfolding total
   words-most first zero f h r = omega arith
   words-most first (suc n) f h r =

@@ -3,6 +3,7 @@ use mathlib.Core.Path.{_≡_}
 use Prim.Native.Nat.{ℕ, zero, suc, _+_, _*_, _^_, _≤_}
 use lib.Ieee.{Float}
 use Rattle.binary64.specs.Numbers.{whole}
+use Rattle.refusals.specs.Bounds.{theInstances, theEpochs, most}
 use Rattle.training.specs.Rules.{_⊕_}
 
 -- the Rust's `c` and `update_counter` after so many visits: `let mut c = 1.0;`, `c += 1.0;`
@@ -14,6 +15,10 @@ counterAfter (suc visits) = counterAfter visits ⊕ whole 1
 abbrev pub CounterExact : Type 0
 CounterExact = (visits : ℕ) → visits ≤ 2 ^ 53 → counterAfter visits ≡ whole (visits + 1)
 
--- and so for all of a training: "Epochs: 1 to 1,000", "Instances N: 1 to 16,384"
+-- "Epochs: 1 to 1,000", "Instances N: 1 to 16,384": a training makes no more visits than this
+abbrev pub mostVisits : ℕ
+mostVisits = most theEpochs * most theInstances
+
+-- and so for all of a training
 abbrev pub CounterExactInTraining : Type 0
-CounterExactInTraining = (epochs instances visits : ℕ) → epochs ≤ 1000 → instances ≤ 16384 → visits ≤ epochs * instances → counterAfter visits ≡ whole (visits + 1)
+CounterExactInTraining = (visits : ℕ) → visits ≤ mostVisits → counterAfter visits ≡ whole (visits + 1)

@@ -8,6 +8,7 @@ use lib.Dec.{T}
 use lib.ListN.{getD}
 use lib.Ieee.{Float}
 use lib.Ieee.Scale.{finite}
+use Rattle.refusals.specs.Refusals.{numbered}
 use Rattle.training.specs.declared.Visit.{Visit}
 use Rattle.training.specs.declared.Trained.{Trained}
 use Rattle.training.specs.declared.Training.the-variants.{Accepted, Refused}
@@ -20,7 +21,7 @@ use Rattle.training.specs.Rules.{Rule, besideAtFirst, stops, averagedBy,
 use Rattle.training.specs.Visits.{TrainingState, unchanged, heldTo, visited}
 use Rattle.training.specs.Epochs.{Settings, isRefused, opened, visitedAt, begun, ran, trained}
 use Rattle.training.specs.Orders.{ranFor}
-use Rattle.training.specs.Reasons.{SomeNotFinite, EightIn, ComesToUpdate, KeepsSums, NineAfter, TablesFinite, afterUpdate}
+use Rattle.training.specs.Reasons.{SomeNotFinite, EightInVisit, ComesToUpdate, KeepsSums, NineAfter, TablesFinite, afterUpdate}
 
 module _ (rule : Rule) (set : Settings) (m : Model) (d : Data) where
   -- the order of an epoch's visits: "shuffled before each epoch, keeping the order of the epoch before"
@@ -60,11 +61,11 @@ module _ (rule : Rule) (set : Settings) (m : Model) (d : Data) where
     pub counted : (epoch turn before : ℕ) → Reached epoch turn before → stateBefore epoch turn .progress .visits ≡ before
 
   -- 8 | "a finished state or transition score or feature count is not finite" | "in training: visits done"
-  pub record EightAt (place : ℕ) : Type 0 where
+  pub record EightAtVisit (place : ℕ) : Type 0 where
     pub epoch : ℕ
     pub turn : ℕ
     pub reached : Reached epoch turn place
-    pub found : EightIn m d (instanceAt epoch turn) (stateBefore epoch turn)
+    pub found : EightInVisit m d (instanceAt epoch turn) (stateBefore epoch turn)
 
   -- the weights that the final averaging makes
   abbrev pub averagedWeights : List Float
@@ -88,9 +89,9 @@ module _ (rule : Rule) (set : Settings) (m : Model) (d : Data) where
 
   -- 8 and 9 "given exactly when", and a training accepted exactly when neither is
   pub record TrainingEnds : Type 0 where
-    pub eight : (place : ℕ) → trained rule set m d .answer ≡ Refused (record { number = 8; place = place }) ↔ EightAt place
-    pub nine : (place : ℕ) → trained rule set m d .answer ≡ Refused (record { number = 9; place = place }) ↔ NineAt place
-    pub accepted : ((t : Trained) × (trained rule set m d .answer ≡ Accepted t)) ↔ ((place : ℕ) → EightAt place → ⊥) × ((place : ℕ) → NineAt place → ⊥)
+    pub eight : (place : ℕ) → trained rule set m d .answer ≡ Refused (numbered 8 place) ↔ EightAtVisit place
+    pub nine : (place : ℕ) → trained rule set m d .answer ≡ Refused (numbered 9 place) ↔ NineAt place
+    pub accepted : ((t : Trained) × (trained rule set m d .answer ≡ Accepted t)) ↔ ((place : ℕ) → EightAtVisit place → ⊥) × ((place : ℕ) → NineAt place → ⊥)
 
   -- before every visit, whatever became of those before it, 9 would find nothing, and so after a visit that ends as unchanged: "after a visit" 9 need only be looked for where there was an update
   pub record FiniteThroughout : Type 0 where

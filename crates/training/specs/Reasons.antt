@@ -8,6 +8,7 @@ use lib.Dec.{T}
 use lib.Ieee.{Float}
 use lib.Ieee.Scale.{finite}
 use Rattle.refusals.specs.declared.Refusal.{Refusal}
+use Rattle.refusals.specs.Refusals.{numbered}
 use Rattle.fronts.specs.Finite.{FiniteTo, NotFinite}
 use Rattle.training.specs.declared.Visit.the-variants.{Unchanged, Updated, Refused}
 use Rattle.best_path.specs.Scores.{tabled}
@@ -41,20 +42,20 @@ module _ (m : Model) (d : Data) (i : ℕ) (s : TrainingState) where
   abbrev pub predictedCounts : List Float
   predictedCounts = countsOf m (d .words) (firstWord d i) (wordsOf d i) (predictedFor m d i s)
 
-  pub record ScoresFinite : Type 0 where
+  pub record VisitScoresFinite : Type 0 where
     pub states : FiniteTo stateScores (wordsOf d i * m .labels)
     pub transitions : FiniteTo transitionScores (m .labels * m .labels)
 
   -- "In a visit 8 looks at scores, then, where labels differ, at true counts, then predicted counts"
-  pub data EightIn : Type 0 where
-    state-score : SomeNotFinite stateScores (wordsOf d i * m .labels) → EightIn
-    transition-score : FiniteTo stateScores (wordsOf d i * m .labels) → SomeNotFinite transitionScores (m .labels * m .labels) → EightIn
-    true-count : ScoresFinite → (LabelsAgree m d i s → ⊥) → SomeNotFinite trueCounts (m .features .count) → EightIn
-    predicted-count : ScoresFinite → (LabelsAgree m d i s → ⊥) → FiniteTo trueCounts (m .features .count) → SomeNotFinite predictedCounts (m .features .count) → EightIn
+  pub data EightInVisit : Type 0 where
+    state-score : SomeNotFinite stateScores (wordsOf d i * m .labels) → EightInVisit
+    transition-score : FiniteTo stateScores (wordsOf d i * m .labels) → SomeNotFinite transitionScores (m .labels * m .labels) → EightInVisit
+    true-count : VisitScoresFinite → (LabelsAgree m d i s → ⊥) → SomeNotFinite trueCounts (m .features .count) → EightInVisit
+    predicted-count : VisitScoresFinite → (LabelsAgree m d i s → ⊥) → FiniteTo trueCounts (m .features .count) → SomeNotFinite predictedCounts (m .features .count) → EightInVisit
 
   -- labels differ, and 8 finds nothing: the visit comes to an update
   pub record ComesToUpdate : Type 0 where
-    pub scores : ScoresFinite
+    pub scores : VisitScoresFinite
     pub differ : LabelsAgree m d i s → ⊥
     pub true-counts : FiniteTo trueCounts (m .features .count)
     pub predicted-counts : FiniteTo predictedCounts (m .features .count)
@@ -97,12 +98,12 @@ module _ (rule : Rule) (m : Model) (d : Data) (i : ℕ) (s : TrainingState) wher
 
   -- each of the ends of a visit exactly when; the place of 8 and 9 is "visits done before it"
   pub record VisitMeans : Type 0 where
-    pub eight : visited rule m d i s .progress .visit ≡ Refused (record { number = 8; place = s .progress .visits }) ↔ EightIn m d i s
+    pub eight : visited rule m d i s .progress .visit ≡ Refused (numbered 8 (s .progress .visits)) ↔ EightInVisit m d i s
     -- "9 comes after"
-    pub nine : visited rule m d i s .progress .visit ≡ Refused (record { number = 9; place = s .progress .visits }) ↔ ComesToUpdate m d i s × NineAfter rule (m .features .count) afterUpdate
+    pub nine : visited rule m d i s .progress .visit ≡ Refused (numbered 9 (s .progress .visits)) ↔ ComesToUpdate m d i s × NineAfter rule (m .features .count) afterUpdate
     -- no other number is given, and no other place
     pub only : (why : Refusal) → visited rule m d i s .progress .visit ≡ Refused why → ((why .number ≡ 8) ⊎ (why .number ≡ 9)) × (why .place ≡ s .progress .visits)
-    pub unchanged : visited rule m d i s .progress .visit ≡ Unchanged ↔ ScoresFinite m d i s × LabelsAgree m d i s
+    pub unchanged : visited rule m d i s .progress .visit ≡ Unchanged ↔ VisitScoresFinite m d i s × LabelsAgree m d i s
     -- "Updated: labels differ"
     pub updated : visited rule m d i s .progress .visit ≡ Updated ↔ ComesToUpdate m d i s × TablesFinite (m .features .count) afterUpdate
 

@@ -10,6 +10,7 @@ use Rattle.lines.specs.Passes.{start, size}
 use Rattle.lines.specs.Tables.{Model, Words, State}
 use Rattle.lines.specs.Counted.{countsOf}
 use Rattle.binary64.specs.Numbers.{whole}
+use Rattle.refusals.specs.Bounds.{theAttributeEntries, theAttributes, most}
 
 -- f first + f (first + 1) + ..: n of them
 unfoldable pub total : (ℕ → ℕ) → ℕ → ℕ → ℕ
@@ -43,10 +44,10 @@ StateCountsWhole =
     getD (countsOf m d first words labels) i nan ≡ whole (matching m i d first words labels)
 
 -- document 01's bounds keep far below 2^53: "attributes in all: at most 4,194,304", "Entries of the attribute lists .. at most 1,048,576"
-pub record InBounds (m : Model) (d : Words) (first words : ℕ) : Type 0 where
+pub record CountsInBounds (m : Model) (d : Words) (first words : ℕ) : Type 0 where
   pub rising : (word : ℕ) → word < words → start (d .starts) (first + word) ≤ start (d .starts) (first + word + 1)
-  pub attributes : start (d .starts) (first + words) ≤ 4194304
-  pub entries : (a : ℕ) → a < m .attributeLists .count → start (m .attributeLists .starts) (a + 1) ≤ 1048576
+  pub attributes : start (d .starts) (first + words) ≤ most theAttributes
+  pub entries : (a : ℕ) → a < m .attributeLists .count → start (m .attributeLists .starts) (a + 1) ≤ most theAttributeEntries
 
 abbrev pub MatchingFits : Type 0
-MatchingFits = (m : Model) (d : Words) (first words : ℕ) (labels : List ℕ) (i : ℕ) → InBounds m d first words → matching m i d first words labels ≤ 2 ^ 53
+MatchingFits = (m : Model) (d : Words) (first words : ℕ) (labels : List ℕ) (i : ℕ) → CountsInBounds m d first words → matching m i d first words labels ≤ 2 ^ 53

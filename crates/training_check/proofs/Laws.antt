@@ -1,33 +1,76 @@
--- What the sizes give a trainer that accepts them, and when so many words are no line. Assumes nothing.
-use mathlib.Core.Path.{_≡_, refl, sym, _∙_, ap}
-use mathlib.Core.Bool.{Bool, true, _||_}
+-- What the sizes give a trainer that accepts them, the parts that its input is checked in, and when so many words are no line. Assumes nothing.
+use mathlib.Core.Path.{_≡_, refl, _∙_}
+use mathlib.Core.Bool.{true}
 use mathlib.Core.List.{List, [], _∷_, _++_}
 use Prim.Native.Nat.{ℕ, _+_, _-_, _<_, _≤_}
 use native.Mathlib.Omega.{arith}
 use borrow.Author.Tests.{lt-ltb}
+use lib.Ieee.{Float}
 use lib.ListN.{length}
 use Rattle.refusals.specs.declared.Refusal.{Refusal}
 use Rattle.refusals.specs.declared.Checked.{Checked}
 use Rattle.refusals.specs.declared.Checked.the-variants.{Accepted, Refused}
-use Rattle.refusals.specs.Refusals.{first, firstFrom, refuse}
-use Rattle.refusals.specs.Bounds.{theLineWords, outsideIts}
-use Rattle.refusals.proofs.Laws.{settled, all-accepted}
+use Rattle.refusals.specs.Refusals.{orNext, sooner, firstFrom}
+use Rattle.refusals.specs.Bounds.{theLineWords, outsideIts, wordTable, referenceTable, instanceWeightTable}
 use Rattle.score_tables.specs.Rows.{one}
-use Rattle.refusal_rows.specs.Limits.{Limit, room, anyBroken, two, AllWithin, Fitting}
-use Rattle.refusal_rows.specs.Tests.{idsBelow, numbersFinite, checks}
-use Rattle.refusal_rows.proofs.Means.{two-means, broken-parts, broken-thirds, within-parts}
-use Rattle.feature_gen.specs.Rows.{modelCounts, modelRooms, featureTests, entryTests}
+use Rattle.refusal_rows.specs.Limits.{Limit, room, anyBroken, AllWithin, Fitting}
+use Rattle.refusal_rows.specs.Parts.{partChecked}
+use Rattle.refusal_rows.specs.Tests.{startsRise, linesFit, idsBelow, numbersFinite, checks}
+use Rattle.refusal_rows.proofs.Means.{within-parts}
+use Rattle.refusal_rows.proofs.Parts.{ordered, joined, same-limits, as-rows, part-stopped, part-within, part-answered}
+use Rattle.feature_gen.specs.Rows.{modelCounts, modelRooms, tableLimits, tableTests, tablesChecked, weightsChecked}
 use Rattle.feature_gen.proofs.Laws.{sized}
-use Rattle.line_check.specs.Rows.{lineRooms, valueTests}
+use Rattle.line_check.specs.Rows.{lineRooms, lineLimits, lineTests, lineChecked, labelsChecked}
 use Rattle.line_check.proofs.Laws.{line-sized}
 use Rattle.lines.specs.Data.{Data}
 use Rattle.parameters.specs.Parameters.{Parameter, sevens}
-use Rattle.training_check.specs.Rows.{Input, dataCounts, dataRooms, lentRooms, inputCounts, inputRooms, inputStarts, lengthTests, inputIds, inputNumbers, trainingChecked, inputChecked, inputSized}
-use Rattle.training_check.specs.Sound.{DataSized, LentSized, InputFits}
+use Rattle.training_check.specs.Rows.{Input, dataCounts, dataRooms, lentRooms, inputCounts, inputRooms, instanceLimits, instanceTests, instancesSized, instancesChecked, dataLimits, dataTests, dataChecked, lentChecked, trainingChecked, inputChecked}
+use Rattle.training_check.specs.Sound.{DataSized, InputFits}
 
 -- no words, or starts that fall
 pub no-line : (start next : ℕ) → next ≤ start → outsideIts theLineWords (next - start) ≡ true
 no-line start next h = let z : next - start < 1 = omega arith in rw (lt-ltb (next - start) 1 z)
+
+-- ---- the instances
+
+module _ (instances words : ℕ) (starts : List ℕ) where
+  pub instances-stopped : {sizes : Checked} (why : Refusal) → sizes ≡ instancesSized instances words starts → sizes ≡ Refused why → Refused why ≡ instancesChecked instances words starts
+  unfolding instancesSized instancesChecked
+  instances-stopped why e h = part-stopped (instanceLimits instances words starts) (instanceTests instances words starts) why e h
+
+  pub instances-room : {sizes : Checked} → sizes ≡ instancesSized instances words starts → sizes ≡ Accepted → instances < length starts
+  unfolding instancesSized
+  instances-room e h =
+      let w = part-within (instanceLimits instances words starts) (instanceTests instances words starts) e h in
+      omega (arith, w .1 .1 .0)
+
+  pub instances-answered : {sizes three r : Checked} → sizes ≡ instancesSized instances words starts → three ≡ firstFrom sizes (checks (startsRise wordTable starts instances words ∷ [])) →
+      r ≡ firstFrom three (checks (linesFit starts instances ∷ [])) → r ≡ instancesChecked instances words starts
+  unfolding instancesSized instancesChecked
+  instances-answered a b c = part-answered (instanceLimits instances words starts) (instanceTests instances words starts) a (rw (c, b))
+
+-- the check of a model's weights does not look at the table's name
+weights-of : (n : ℕ) (weights : List Float) → weightsChecked n weights ≡ partChecked (room (length weights) n ∷ []) (numbersFinite instanceWeightTable weights n ∷ [])
+unfolding weightsChecked partChecked
+weights-of n weights = refl
+
+-- with their words, labels and weights
+pub data-joined : (labels : ℕ) (d : Data) {instances line words labelled both weighted r : Checked} →
+    instances ≡ instancesChecked (d .instances) (d .count) (d .starts) → line ≡ lineChecked (d .count) (d .words) → words ≡ sooner instances line →
+    labelled ≡ labelsChecked labels (d .count) (d .references) → both ≡ sooner words labelled →
+    weighted ≡ weightsChecked (d .instances) (d .weights) → r ≡ sooner both weighted → r ≡ dataChecked labels d
+unfolding instancesChecked lineChecked labelsChecked dataChecked
+data-joined labels d a b c e f g h =
+    let starts = instanceLimits (d .instances) (d .count) (d .starts) in
+    let line = lineLimits (d .count) (d .words) in
+    let references = room (length (d .references)) (d .count) ∷ [] in
+    let shares = room (length (d .weights)) (d .instances) ∷ [] in
+    let these = instanceTests (d .instances) (d .count) (d .starts) in
+    let those = lineTests (d .count) (d .words) in
+    let ids = idsBelow referenceTable (d .references) (d .count) labels ∷ [] in
+    let words = joined starts line these those tt tt tt a b c in
+    let both = joined (starts ++ line) references (ordered (these ++ those)) ids tt tt tt words e f in
+    joined (starts ++ line ++ references) shares (ordered (ordered (these ++ those) ++ ids)) (numbersFinite instanceWeightTable (d .weights) (d .instances) ∷ []) tt tt tt both (g ∙ weights-of (d .instances) (d .weights)) h
 
 module _ (d : Data) where
   abbrev opened : List Limit
@@ -38,10 +81,6 @@ module _ (d : Data) where
 
   abbrev beside : List Limit
   beside = room (length (d .references)) (d .count) ∷ room (length (d .weights)) (d .instances) ∷ []
-
-  -- rooms that are tested part by part
-  pub data-parts : (anyBroken opened || anyBroken words || anyBroken beside) ≡ anyBroken (dataRooms d)
-  data-parts = broken-thirds opened words beside
 
   data-sized : AllWithin (dataCounts d) → AllWithin (dataRooms d) → DataSized d
   data-sized n w =
@@ -61,34 +100,29 @@ module _ (g : Input) where
   abbrev lent : List Limit
   lent = lentRooms (g .model .features .count) (g .corpus .instances) (g .lent)
 
-  abbrev by-size : List Checked
-  by-size = one (g .model .labels) ∷ two (inputCounts g) ∷ two (inputRooms g) ∷ []
+  abbrev parts : List Limit
+  parts = tableLimits (g .model) ++ dataLimits (g .corpus) ++ lent
 
-  -- sizes that are tested part by part
-  pub input-sized : first (one (g .model .labels) ∷ refuse 2 0 (anyBroken (modelCounts (g .model)) || anyBroken (dataCounts (g .corpus))) ∷ refuse 2 0 (anyBroken (modelRooms (g .model)) || anyBroken (dataRooms (g .corpus)) || anyBroken lent) ∷ []) ≡ inputSized g
-  unfolding inputSized
-  input-sized =
-      ap (λ (outside : Bool). first (one (g .model .labels) ∷ refuse 2 0 outside ∷ refuse 2 0 (anyBroken (modelRooms (g .model)) || anyBroken (dataRooms (g .corpus)) || anyBroken lent) ∷ []))
-      (sym (broken-parts (modelCounts (g .model)) (dataCounts (g .corpus))))
-      ∙ ap (λ (lacking : Bool). first (one (g .model .labels) ∷ two (inputCounts g) ∷ refuse 2 0 lacking ∷ []))
-      (broken-thirds (modelRooms (g .model)) (dataRooms (g .corpus)) lent)
+  same-input : anyBroken parts ≡ anyBroken (inputCounts g ++ inputRooms g)
+  same-input =
+      same-limits parts (inputCounts g ++ inputRooms g)
+      (0 ∷ 1 ∷ 2 ∷ 3 ∷ 4 ∷ 12 ∷ 13 ∷ 15 ∷ 5 ∷ 6 ∷ 7 ∷ 8 ∷ 9 ∷ 10 ∷ 11 ∷ 14 ∷ 16 ∷ 17 ∷ 18 ∷ 19 ∷ 20 ∷ 21 ∷ 22 ∷ 23 ∷ 24 ∷ 25 ∷ [])
+      (0 ∷ 1 ∷ 2 ∷ 3 ∷ 4 ∷ 8 ∷ 9 ∷ 10 ∷ 11 ∷ 12 ∷ 13 ∷ 14 ∷ 5 ∷ 6 ∷ 15 ∷ 7 ∷ 16 ∷ 17 ∷ 18 ∷ 19 ∷ 20 ∷ 21 ∷ 22 ∷ 23 ∷ 24 ∷ 25 ∷ [])
+      refl refl
 
-  -- a refusal by size is the call's
-  pub input-stopped : (why : Refusal) → inputSized g ≡ Refused why → Refused why ≡ inputChecked g
-  unfolding inputSized inputChecked
-  input-stopped why h =
-      sym
-      (settled (first by-size)
-      (checks (inputStarts g) ++ checks (lengthTests (g .corpus)) ++ checks (inputIds g) ++ checks (inputNumbers (g .corpus)))
-      why
-      h)
-
-  -- the tests one after the other are the call's
-  pub input-answered : {sizes four features lists five valued r : Checked} → sizes ≡ inputSized g → four ≡ firstFrom sizes (checks (inputStarts g ++ lengthTests (g .corpus))) → features ≡ firstFrom four (checks (featureTests (g .model .labels) (g .model .features))) →
-      lists ≡ firstFrom features (checks (entryTests (g .model))) → five ≡ firstFrom lists (checks (idsBelow (g .corpus .references) (g .corpus .count) (g .model .labels) ∷ [])) → valued ≡ firstFrom five (checks (valueTests (g .corpus .words))) →
-      r ≡ firstFrom valued (checks (numbersFinite (g .corpus .weights) (g .corpus .instances) ∷ [])) → r ≡ inputChecked g
-  unfolding inputSized inputChecked
-  input-answered a b c d e f h = rw (h, f, e, d, c, b, a)
+  -- 1, then the sooner of the parts
+  pub input-answered : {labels tables corpus both buffers rest r : Checked} → labels ≡ one (g .model .labels) →
+      tables ≡ tablesChecked (g .model) → corpus ≡ dataChecked (g .model .labels) (g .corpus) → both ≡ sooner tables corpus →
+      buffers ≡ lentChecked (g .model .features .count) (g .corpus .instances) (g .lent) → rest ≡ sooner both buffers → r ≡ orNext labels rest → r ≡ inputChecked g
+  unfolding tablesChecked dataChecked lentChecked inputChecked orNext
+  input-answered a b c d e f h =
+      let these = tableTests (g .model) in
+      let those = dataTests (g .model .labels) (g .corpus) in
+      let t = joined (tableLimits (g .model)) (dataLimits (g .corpus)) these those tt tt tt b c d in
+      let all = joined (tableLimits (g .model) ++ dataLimits (g .corpus)) lent (ordered (these ++ those)) [] tt tt tt t e f in
+      h
+      ∙ rw (a, all)
+      (as-rows (one (g .model .labels)) parts (inputCounts g) (inputRooms g) (ordered (these ++ those)) same-input)
 
   pub input-within : Fitting (inputCounts g) (inputRooms g) → InputFits g
   input-within w =
@@ -101,12 +135,6 @@ module _ (g : Input) where
         corpus = data-sized (g .corpus) (n .1) (q .1);
         lent = record { weights = l .0; beside = l .1 .0; truly = l .1 .1 .0; predicted = l .1 .1 .1 .0; order = l .1 .1 .1 .1 .0 };
       }
-
-  pub input-fits : (r : Checked) → r ≡ inputSized g → r ≡ Accepted → InputFits g
-  unfolding inputSized
-  input-fits r e h =
-      let a = all-accepted Accepted by-size (sym e ∙ h) .1 .1 in
-      input-within (two-means (inputCounts g) .accepted .0 (a .0), two-means (inputRooms g) .accepted .0 (a .1 .0))
 
   -- the input, then a trainer's own parameters: the whole call
   pub with-parameters : (parameters : List Parameter) → firstFrom (inputChecked g) (sevens parameters) ≡ trainingChecked g parameters

@@ -9,6 +9,7 @@ use Rattle.refusals.specs.Meaning.{Starts}
 use Rattle.refusals.proofs.Meant.{within}
 use Rattle.score_tables.specs.Sound.{WordsIn}
 use Rattle.score_tables.proofs.Meant.{one-means}
+use Rattle.refusals.specs.Bounds.{wordTable, attributeTable, referenceTable, instanceWeightTable}
 use Rattle.refusal_rows.specs.Tests.{linesFit, startsRise, idsBelow, numbersFinite, AllGood, Good, lineLength}
 use Rattle.refusal_rows.proofs.Means.{two-means, good-parts, fitting}
 use Rattle.refusal_rows.proofs.Groups.{Group, single, tested, given-first, given-after, accepted-when, given-only}
@@ -30,12 +31,12 @@ end-within : (a b count : ℕ) → a ≤ b → b ≤ count → a + (b - a) ≤ c
 end-within a b count r w = omega arith
 
 module _ (labels : ℕ) (d : Data) (z : DataSized d) where
-  pub sound-data : Good (startsRise (d .starts) (d .instances) (d .count)) →
-      Good (startsRise (d .words .starts) (d .count) (d .words .size)) →
+  pub sound-data : Good (startsRise wordTable (d .starts) (d .instances) (d .count)) →
+      Good (startsRise attributeTable (d .words .starts) (d .count) (d .words .size)) →
       Good (linesFit (d .starts) (d .instances)) →
-      Good (idsBelow (d .references) (d .count) labels) →
-      Good (numbersFinite (d .words .values) (d .words .size)) →
-      Good (numbersFinite (d .weights) (d .instances)) →
+      Good (idsBelow referenceTable (d .references) (d .count) labels) →
+      Good (numbersFinite attributeTable (d .words .values) (d .words .size)) →
+      Good (numbersFinite instanceWeightTable (d .weights) (d .instances)) →
       SoundData labels d
   sound-data opens begins lengths references values weights =
       let s = rising (d .starts) (d .instances) (d .count) opens in
@@ -57,8 +58,8 @@ module _ (labels : ℕ) (d : Data) (z : DataSized d) where
 sound-input : (g : Input) → Before7 g → SoundInput g
 sound-input g a =
     let f = input-within g (a .1 .0) in
-    let t = good-parts (startTests (g .model)) (startsRise (g .corpus .starts) (g .corpus .instances) (g .corpus .count) ∷ startsRise (g .corpus .words .starts) (g .corpus .count) (g .corpus .words .size) ∷ []) (a .1 .1 .0) in
-    let i = good-parts (idTests (g .model)) (idsBelow (g .corpus .references) (g .corpus .count) (g .model .labels) ∷ []) (a .1 .1 .1 .1 .0) in
+    let t = good-parts (startTests (g .model)) (startsRise wordTable (g .corpus .starts) (g .corpus .instances) (g .corpus .count) ∷ startsRise attributeTable (g .corpus .words .starts) (g .corpus .count) (g .corpus .words .size) ∷ []) (a .1 .1 .0) in
+    let i = good-parts (idTests (g .model)) (idsBelow referenceTable (g .corpus .references) (g .corpus .count) (g .model .labels) ∷ []) (a .1 .1 .1 .1 .0) in
     let n = a .1 .1 .1 .1 .1 in
     record {
       fits = f;

@@ -8,11 +8,12 @@ use lib.Ieee.{Float, nan, inf, fin, ofInt, lt}
 use Rattle.refusals.specs.declared.Checked.the-variants.{Accepted}
 use Rattle.refusals.specs.Refusals.{refusedAt, refuse, orNext, lowest}
 use Rattle.refusal_rows.specs.Limits.{inOrder}
+use Rattle.refusal_rows.specs.Tests.{inTableOrder}
 use Rattle.binary64.specs.Numbers.{nought, whole}
 use Rattle.parameters.specs.declared.Perceptron.{Perceptron}
 use Rattle.parameters.specs.declared.Passive.{Passive}
 use Rattle.parameters.specs.declared.Arow.{Arow}
-use Rattle.training_check.specs.Rows.{Input, inputCounts, trainingChecked, perceptronChecked, passiveChecked, arowChecked}
+use Rattle.training_check.specs.Rows.{Input, inputCounts, inputStarts, inputIds, inputNumbers, trainingChecked, perceptronChecked, passiveChecked, arowChecked}
 
 -- "L=2, one word, attribute 0 of value 1 listing State features to labels 0 and 1, instance weight 1, .. reference 0"; so many instances that begin so
 abbrev p9 : ℕ → List ℕ → Float → Input
@@ -81,3 +82,8 @@ gammas = refl
 -- the counts are tested in the order of "Tables and bounds"
 counts-in-order : (g : Input) → inOrder (inputCounts g) ≡ true
 counts-in-order g = refl
+
+-- and 3, 5 and 6 in the order of the tables
+tables-in-order : (g : Input) →
+    (inTableOrder (inputStarts g) ≡ true) × (inTableOrder (inputIds g) ≡ true) × (inTableOrder (inputNumbers (g .corpus)) ≡ true)
+tables-in-order g = (refl, refl, refl)

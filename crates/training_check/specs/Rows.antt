@@ -4,13 +4,14 @@ use Prim.Native.Nat.{ℕ, _+_}
 use lib.ListN.{length}
 use Rattle.refusals.specs.declared.Checked.{Checked}
 use Rattle.refusals.specs.Refusals.{first}
-use Rattle.refusals.specs.Bounds.{theInstances, theWords, theAttributes}
+use Rattle.refusals.specs.Bounds.{theInstances, theWords, theAttributes, wordTable, attributeTable, referenceTable, instanceWeightTable}
 use Rattle.score_tables.specs.Rows.{one}
 use Rattle.refusal_rows.specs.Limits.{Limit, count, room, two}
 use Rattle.refusal_rows.specs.Tests.{Test, startsRise, linesFit, idsBelow, numbersFinite, checks}
+use Rattle.refusal_rows.specs.Parts.{partChecked}
 use Rattle.lines.specs.Tables.{Model}
 use Rattle.feature_gen.specs.Rows.{modelCounts, modelRooms, startTests, idTests}
-use Rattle.line_check.specs.Rows.{lineRooms, valueTests}
+use Rattle.line_check.specs.Rows.{lineRooms, lineLimits, valueTests}
 use Rattle.lines.specs.Data.{Data}
 use Rattle.parameters.specs.declared.Perceptron.{Perceptron}
 use Rattle.parameters.specs.declared.Passive.{Passive}
@@ -72,8 +73,8 @@ inputRooms g =
 abbrev pub inputStarts : Input → List Test
 inputStarts g =
     startTests (g .model)
-    ++ (startsRise (g .corpus .starts) (g .corpus .instances) (g .corpus .count)
-    ∷ startsRise (g .corpus .words .starts) (g .corpus .count) (g .corpus .words .size)
+    ++ (startsRise wordTable (g .corpus .starts) (g .corpus .instances) (g .corpus .count)
+    ∷ startsRise attributeTable (g .corpus .words .starts) (g .corpus .count) (g .corpus .words .size)
     ∷ [])
 
 -- ---- 4 | "a T outside 1 to 128" | "instance index"
@@ -84,12 +85,12 @@ lengthTests d = linesFit (d .starts) (d .instances) ∷ []
 -- ---- 5 | ".. label at or above L" | "index in its table": after the model's own rows the reference labels
 
 abbrev pub inputIds : Input → List Test
-inputIds g = idTests (g .model) ++ idsBelow (g .corpus .references) (g .corpus .count) (g .model .labels) ∷ []
+inputIds g = idTests (g .model) ++ idsBelow referenceTable (g .corpus .references) (g .corpus .count) (g .model .labels) ∷ []
 
 -- ---- 6 | "a .. value, instance weight .. not finite" | "index in its table": "attributes; .. instance weights"
 
 abbrev pub inputNumbers : Data → List Test
-inputNumbers d = valueTests (d .words) ++ numbersFinite (d .weights) (d .instances) ∷ []
+inputNumbers d = valueTests (d .words) ++ numbersFinite instanceWeightTable (d .weights) (d .instances) ∷ []
 
 -- ---- the order: "The lowest number wins"
 
@@ -127,6 +128,47 @@ inputChecked g =
     ++ checks (inputIds g)
     ++ checks (inputNumbers (g .corpus)))
 
--- the first three: what can be said before any table is read
-unfoldable pub inputSized : Input → Checked
-inputSized g = first (one (g .model .labels) ∷ two (inputCounts g) ∷ two (inputRooms g) ∷ [])
+-- ---- the same in the parts that are checked apart: the model's tables, the instances with what they are made of, the buffers
+
+-- 2, 3 and 4 of so many instances, with so many words in all
+abbrev pub instanceLimits : ℕ → ℕ → List ℕ → List Limit
+instanceLimits instances words starts =
+    count theInstances instances
+    ∷ count theWords words
+    ∷ room (length starts) (instances + 1)
+    ∷ []
+
+abbrev pub instanceTests : ℕ → ℕ → List ℕ → List Test
+instanceTests instances words starts =
+    startsRise wordTable starts instances words
+    ∷ linesFit starts instances
+    ∷ []
+
+unfoldable pub instancesSized : ℕ → ℕ → List ℕ → Checked
+instancesSized instances words starts = two (instanceLimits instances words starts)
+
+unfoldable pub instancesChecked : ℕ → ℕ → List ℕ → Checked
+instancesChecked instances words starts = partChecked (instanceLimits instances words starts) (instanceTests instances words starts)
+
+-- 2 to 6 of the instances, their words, a reference label for each word and a weight for each instance
+abbrev pub dataLimits : Data → List Limit
+dataLimits d =
+    instanceLimits (d .instances) (d .count) (d .starts)
+    ++ lineLimits (d .count) (d .words)
+    ++ (room (length (d .references)) (d .count) ∷ [])
+    ++ (room (length (d .weights)) (d .instances) ∷ [])
+
+abbrev pub dataTests : ℕ → Data → List Test
+dataTests labels d =
+    startsRise wordTable (d .starts) (d .instances) (d .count)
+    ∷ startsRise attributeTable (d .words .starts) (d .count) (d .words .size)
+    ∷ linesFit (d .starts) (d .instances)
+    ∷ idsBelow referenceTable (d .references) (d .count) labels
+    ∷ inputNumbers d
+
+unfoldable pub dataChecked : ℕ → Data → Checked
+dataChecked labels d = partChecked (dataLimits d) (dataTests labels d)
+
+-- 2 of the result and work buffers
+unfoldable pub lentChecked : ℕ → ℕ → Lent → Checked
+lentChecked features instances lent = partChecked (lentRooms features instances lent) []

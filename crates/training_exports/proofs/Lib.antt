@@ -1,1 +1,3 @@
 mod OnlyOne
+mod Kept
+mod Meant

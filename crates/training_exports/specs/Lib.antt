@@ -1,1 +1,2 @@
 pub mod Trains
+pub mod Meaning

@@ -1,6 +1,7 @@
 -- What the three trainers give to C: the answers of the crate trainers, as numbers. Assumes nothing.
 use mathlib.Core.Path.{_≡_}
-use Rattle.trainers.specs.Promise.{Call, Given, Buffers, answerTo, buffersAfter}
+use Rattle.parameters.specs.declared.Method.{Method}
+use Rattle.trainers.specs.Promise.{Given, Buffers, answerTo, buffersAfter}
 use Rattle.answers.specs.declared.trainings.Trained.{Trained}
 use Rattle.answers.specs.Numbers.{trainedNumbers}
 
@@ -10,6 +11,6 @@ pub record Outcome : Type 0 where
   pub after : Buffers
 
 -- the promise of each of the three
-pub record Trains (call : Call) (given : Given) (before : Buffers) (outcome : Outcome) : Type 0 where
-  pub answers : outcome .answer ≡ trainedNumbers (answerTo call given before)
-  pub after : outcome .after ≡ buffersAfter call given before
+pub record Trains (method : Method) (given : Given) (before : Buffers) (outcome : Outcome) : Type 0 where
+  pub answers : outcome .answer ≡ trainedNumbers (answerTo method given before)
+  pub after : outcome .after ≡ buffersAfter method given before

@@ -1,12 +1,15 @@
 // The three trainers, for programs in C and Rust. Each is thin: one call of the crate trainers, and its answer as numbers.
 ghost use Rattle.feature_gen.specs.Lent.{modelWas};
 ghost use Rattle.lines.specs.Entry.{dataWas};
-ghost use Rattle.trainers.specs.Promise.{averagedPerceptron, passiveAggressive, adaptive, Given, Buffers};
+ghost use Rattle.parameters.specs.declared.Method.{Method};
+ghost use Rattle.trainers.specs.Promise.{Given};
+ghost use Rattle.trainers.specs.Lent.{buffersWere, buffersAre};
 ghost use Rattle.training_exports.specs.Trains.{Trains};
 use answers::trainings::Trained;
 use feature_gen::Counts;
 use lines::Totals;
 use parameters::Arow;
+use parameters::Method;
 use parameters::Passive;
 use parameters::Perceptron;
 
@@ -37,13 +40,16 @@ pub extern "C" fn bodkinbloom_averaged_perceptron(
     order: &mut [u32],
 ) -> Trained
     ensures { λ r.
-        let given : Given = record { model = modelWas labels counts kinds destinations sources «attribute_starts» «attribute_entries» «label_starts» «label_entries»; corpus = dataWas totals «line_starts» «word_starts» ids values references «instance_weights» } in
-        let before : Buffers = record { weights = now (weights .entry); beside = now («running_sums» .entry); truly = now («true_counts» .entry); predicted = now («predicted_counts» .entry); order = now (order .entry) } in
-        let after : Buffers = record { weights = now (weights .exit); beside = now («running_sums» .exit); truly = now («true_counts» .exit); predicted = now («predicted_counts» .exit); order = now (order .exit) } in
-        ⌜ Trains (averagedPerceptron parameters) given before (record { answer = r; after = after }) ⌝ }
+        let given : Given = record {
+          model = modelWas labels counts kinds destinations sources «attribute_starts» «attribute_entries» «label_starts» «label_entries»;
+          corpus = dataWas totals «line_starts» «word_starts» ids values references «instance_weights»;
+        } in
+        let before = buffersWere weights «running_sums» «true_counts» «predicted_counts» order in
+        let after = buffersAre weights «running_sums» «true_counts» «predicted_counts» order in
+        ⌜ Trains (Method.AveragedPerceptron parameters) given before (record { answer = r; after = after }) ⌝ }
 {
-    let answer = trainers::averaged_perceptron(
-        parameters,
+    let answer = trainers::train(
+        Method::AveragedPerceptron(parameters),
         labels,
         counts,
         kinds,
@@ -96,13 +102,16 @@ pub extern "C" fn bodkinbloom_passive_aggressive(
     order: &mut [u32],
 ) -> Trained
     ensures { λ r.
-        let given : Given = record { model = modelWas labels counts kinds destinations sources «attribute_starts» «attribute_entries» «label_starts» «label_entries»; corpus = dataWas totals «line_starts» «word_starts» ids values references «instance_weights» } in
-        let before : Buffers = record { weights = now (weights .entry); beside = now («running_sums» .entry); truly = now («true_counts» .entry); predicted = now («predicted_counts» .entry); order = now (order .entry) } in
-        let after : Buffers = record { weights = now (weights .exit); beside = now («running_sums» .exit); truly = now («true_counts» .exit); predicted = now («predicted_counts» .exit); order = now (order .exit) } in
-        ⌜ Trains (passiveAggressive parameters) given before (record { answer = r; after = after }) ⌝ }
+        let given : Given = record {
+          model = modelWas labels counts kinds destinations sources «attribute_starts» «attribute_entries» «label_starts» «label_entries»;
+          corpus = dataWas totals «line_starts» «word_starts» ids values references «instance_weights»;
+        } in
+        let before = buffersWere weights «running_sums» «true_counts» «predicted_counts» order in
+        let after = buffersAre weights «running_sums» «true_counts» «predicted_counts» order in
+        ⌜ Trains (Method.PassiveAggressive parameters) given before (record { answer = r; after = after }) ⌝ }
 {
-    let answer = trainers::passive_aggressive(
-        parameters,
+    let answer = trainers::train(
+        Method::PassiveAggressive(parameters),
         labels,
         counts,
         kinds,
@@ -155,13 +164,16 @@ pub extern "C" fn bodkinbloom_arow(
     order: &mut [u32],
 ) -> Trained
     ensures { λ r.
-        let given : Given = record { model = modelWas labels counts kinds destinations sources «attribute_starts» «attribute_entries» «label_starts» «label_entries»; corpus = dataWas totals «line_starts» «word_starts» ids values references «instance_weights» } in
-        let before : Buffers = record { weights = now (weights .entry); beside = now (covariance .entry); truly = now («true_counts» .entry); predicted = now («predicted_counts» .entry); order = now (order .entry) } in
-        let after : Buffers = record { weights = now (weights .exit); beside = now (covariance .exit); truly = now («true_counts» .exit); predicted = now («predicted_counts» .exit); order = now (order .exit) } in
-        ⌜ Trains (adaptive parameters) given before (record { answer = r; after = after }) ⌝ }
+        let given : Given = record {
+          model = modelWas labels counts kinds destinations sources «attribute_starts» «attribute_entries» «label_starts» «label_entries»;
+          corpus = dataWas totals «line_starts» «word_starts» ids values references «instance_weights»;
+        } in
+        let before = buffersWere weights covariance «true_counts» «predicted_counts» order in
+        let after = buffersAre weights covariance «true_counts» «predicted_counts» order in
+        ⌜ Trains (Method.Arow parameters) given before (record { answer = r; after = after }) ⌝ }
 {
-    let trained = trainers::arow(
-        parameters,
+    let trained = trainers::train(
+        Method::Arow(parameters),
         labels,
         counts,
         kinds,

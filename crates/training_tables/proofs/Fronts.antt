@@ -12,7 +12,7 @@ use Rattle.lines.specs.Passes.{through, raised}
 use Rattle.binary64.specs.Numbers.{nought}
 use Rattle.training.specs.Rules.{perceptron, passive, arow, Learned, Mistake, difference, pushed, squared, pulled, spread, narrowed, byPerceptron, byPassive, byArow, updatedBy, averagedAt, averagedBy}
 use Rattle.training_tables.specs.Tables.{Both, Held}
-use Rattle.training_tables.specs.Fronts.{longer, SameLengths, UpdatesFront, UpdatesKeepLengths, AveragesFront}
+use Rattle.training_tables.specs.Fronts.{longer, LengthsKept, UpdatesFront, UpdatesKeepLengths, AveragesFront}
 
 -- ---- a pass: what holds of two states and is kept by two steps holds after two passes of them
 through-both : {S U : Type 0} (Alike : S → U → Type 0) (step : ℕ → S → S) (other : ℕ → U → U) (n : ℕ) (s : S) (u : U)
@@ -38,16 +38,16 @@ raised-long xs j v = length-set xs j _
 
 -- ---- a step keeps the tables' lengths
 module _ (truly predicted : List Float) (j : ℕ) (t : Learned) where
-  pushed-long : (weight counter : Float) → SameLengths t (pushed truly predicted weight counter j t)
+  pushed-long : (weight counter : Float) → LengthsKept t (pushed truly predicted weight counter j t)
   unfolding pushed
   pushed-long weight counter = record { weights = raised-long _ j _; beside = raised-long _ j _ }
 
-  pulled-long : (averaging : Bool) (tau counter : Float) → SameLengths t (pulled truly predicted averaging tau counter j t)
+  pulled-long : (averaging : Bool) (tau counter : Float) → LengthsKept t (pulled truly predicted averaging tau counter j t)
   unfolding pulled
   pulled-long true tau counter = record { weights = raised-long _ j _; beside = raised-long _ j _ }
   pulled-long false tau counter = record { weights = raised-long _ j _; beside = refl }
 
-  narrowed-long : (weight gamma alpha : Float) → SameLengths t (narrowed truly predicted weight gamma alpha j t)
+  narrowed-long : (weight gamma alpha : Float) → LengthsKept t (narrowed truly predicted weight gamma alpha j t)
   unfolding narrowed
   narrowed-long weight gamma alpha = record { weights = raised-long _ j _; beside = simp length-set }
 
@@ -80,7 +80,7 @@ module _ (truly predicted t p : List Float) (n : ℕ) (has : Both n (length trul
     b : j < length (s .beside)
     b = omega arith
 
-    kept : {u : Learned} → SameLengths s u → Both n (length (u .weights)) (length (u .beside))
+    kept : {u : Learned} → LengthsKept s u → Both n (length (u .weights)) (length (u .beside))
     kept l = record { one-long = rw (l .weights) (a .long .one-long); other-long = rw (l .beside) (a .long .other-long) }
 
     pushed-front : (weight counter : Float) → Longer n rest (pushed truly predicted weight counter j s) (pushed (truly ++ t) (predicted ++ p) weight counter j v)
@@ -136,9 +136,9 @@ updates-front (arow variance gamma) features k s rest t p held =
     rw (spreads features k s rest t p held gamma, passed features k s rest t p held _ _ (λ j h u v a. narrowed-front (k .truly) (k .predicted) t p features (has features k s rest t p held) rest j h u v a (k .weight) gamma _))
 
 -- ---- lengths
-same-lengths : (step : ℕ → Learned → Learned) (n : ℕ) (s : Learned) → ((j : ℕ) (t : Learned) → SameLengths t (step j t)) → SameLengths s (through step 0 n s)
+same-lengths : (step : ℕ → Learned → Learned) (n : ℕ) (s : Learned) → ((j : ℕ) (t : Learned) → LengthsKept t (step j t)) → LengthsKept s (through step 0 n s)
 same-lengths step n s h =
-    through-both (λ a b. SameLengths s b) step step n s s (record { weights = refl; beside = refl }) (λ j k t v e.
+    through-both (λ a b. LengthsKept s b) step step n s s (record { weights = refl; beside = refl }) (λ j k t v e.
     record { weights = h j v .weights ∙ e .weights; beside = h j v .beside ∙ e .beside })
 
 pub updates-keep-lengths : UpdatesKeepLengths

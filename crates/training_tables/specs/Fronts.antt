@@ -40,9 +40,9 @@ AveragesFront =
     → averagedBy rule features counter (longer s rest) ≡ averagedBy rule features counter s ++ rest .weights
 
 -- an update keeps the tables' lengths
-pub record SameLengths (before after : Learned) : Type 0 where
+pub record LengthsKept (before after : Learned) : Type 0 where
   pub weights : length (after .weights) ≡ length (before .weights)
   pub beside : length (after .beside) ≡ length (before .beside)
 
 abbrev pub UpdatesKeepLengths : Type 0
-UpdatesKeepLengths = (rule : Rule) (features : ℕ) (k : Mistake) (s : Learned) → SameLengths s (updatedBy rule features k s .learned)
+UpdatesKeepLengths = (rule : Rule) (features : ℕ) (k : Mistake) (s : Learned) → LengthsKept s (updatedBy rule features k s .learned)

@@ -1,8 +1,8 @@
 -- The ways through an update: how the code's tests pick a case of the definition. Assumes nothing.
 use mathlib.Core.Path.{_≡_, sym, ap, _∙_}
-use mathlib.Core.Bool.{Bool, true, false, _&&_, and-assoc, true≢false}
+use mathlib.Core.Bool.{true, false, _&&_, and-assoc, true≢false}
 use mathlib.Core.List.{[]}
-use Prim.Native.Nat.{ℕ, _+_, _-_, _≤_}
+use Prim.Native.Nat.{ℕ, _+_, _≤_}
 use native.Mathlib.Omega.{arith}
 use lib.Ieee.Scale.{finite}
 use Rattle.training.specs.declared.Progress.{Progress}
@@ -16,7 +16,7 @@ use Rattle.training.proofs.FiniteCounts.{weights-tell-counts}
 use Rattle.training_tables.specs.declared.Outcome.{Outcome}
 use Rattle.training_tables.specs.Tables.{Updated}
 use Rattle.judging.proofs.Laws.{both}
-use Rattle.updates.specs.Updating.{Agreed, Counted, settled}
+use Rattle.updates.specs.Updating.{Agreed, VisitCounted, settled}
 
 pub exactly : {made meant : TrainingState} → made ≡ meant → Agreed made meant
 exactly e = record { progress = ap (λ (s : TrainingState). s .progress) e; whole = λ _. e }
@@ -29,7 +29,7 @@ refused number s {meant} e p = record {
   whole = λ h. absurd (true≢false (ap (λ (t : TrainingState). isRefused (t .progress .visit)) (sym e) ∙ h));
 }
 
-pub refused-counted : (number : ℕ) (s r : Progress) → ((l : Learned) → r ≡ (refusedAs number (record { progress = s; learned = l })) .progress) → s .updates ≤ s .visits → Counted s r
+pub refused-counted : (number : ℕ) (s r : Progress) → ((l : Learned) → r ≡ (refusedAs number (record { progress = s; learned = l })) .progress) → s .updates ≤ s .visits → VisitCounted s r
 unfolding refusedAs
 refused-counted number s r e h =
     let none : Learned = record { weights = []; beside = [] } in
@@ -37,7 +37,7 @@ refused-counted number s r e h =
     let u : r .updates ≡ s .updates = ap (λ (t : Progress). t .updates) (e none) in
     record { visits = omega arith; updates = omega arith }
 
-pub unchanged-counted : (s r : Progress) → ((l : Learned) → r ≡ (unchanged (record { progress = s; learned = l })) .progress) → s .updates ≤ s .visits → Counted s r
+pub unchanged-counted : (s r : Progress) → ((l : Learned) → r ≡ (unchanged (record { progress = s; learned = l })) .progress) → s .updates ≤ s .visits → VisitCounted s r
 unfolding unchanged
 unchanged-counted s r e h =
     let none : Learned = record { weights = []; beside = [] } in

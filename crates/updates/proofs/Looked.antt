@@ -6,7 +6,6 @@ use Prim.Native.Nat.{ℕ}
 use native.Mathlib.Omega.{arith}
 use Rattle.training.specs.declared.Progress.{Progress}
 use Rattle.training.specs.Visits.{TrainingState, refusedAs, unchanged}
-use Rattle.updates.specs.declared.Found.{Found}
 use Rattle.updates.specs.declared.Found.the-variants.{Ended, Differ}
 use Rattle.updates.specs.Looked.{looked}
 

@@ -5,7 +5,8 @@ ghost use mathlib.Core.Path.{_≡_};
 ghost use Prim.Native.Nat.{_≤_, _<_, _^_, _+_};
 ghost use lib.Dec.{eqb};
 ghost use lib.Ieee.Scale.{finite};
-ghost use Rattle.training.specs.Rules.{Learned, stops, Mistake};
+ghost use Rattle.refusals.specs.Bounds.{theInstances, most};
+ghost use Rattle.training.specs.Rules.{Learned, stops};
 ghost use Rattle.training.specs.Visits.{refusedAs, unchanged as unchangedIn};
 ghost use Rattle.training.specs.Epochs.{isRefused, endsAfter};
 ghost use Rattle.parameters.specs.Trainers.{ruleOf};
@@ -13,19 +14,28 @@ ghost use Rattle.updates.specs.Looked.{looked};
 ghost use lib.ListN.{length};
 ghost use Rattle.binary64.specs.Numbers.{whole};
 ghost use Rattle.training_tables.specs.Tables.{Held, Updated};
-ghost use Rattle.updates.specs.Updating.{stateOf, Agreed, Counted, settled};
+ghost use Rattle.updates.specs.Updating.{learnedAs, stateOf, mistakeWith, Agreed, VisitCounted, settled};
 use judging::Prediction;
 use parameters::Trainer;
 use training::Progress;
 use training::Visit;
 use training_tables::Outcome;
 
+// The place of 8 and of 9: "visits done".
+fn place(s: Progress) -> u64
+    requires { ⌜ s .visits < 2 ^ 53 ⌝ }
+    ensures { λ r. ⌜ r ≡ s .visits ⌝ }
+{
+    s.visits
+}
+
 // A visit that is refused: the counters stay.
 pub fn refuse(number: u32, s: Progress) -> Progress
+    requires { ⌜ s .visits < 2 ^ 53 ⌝ }
     ensures { λ r. ⌜ ((learned : Learned) → r ≡ (refusedAs number (record { progress = s; learned = learned })) .progress) ⌝ }
 {
     Progress {
-        visit: Visit::Refused(refusals::numbered(number, s.visits)),
+        visit: Visit::Refused(refusals::numbered(number, place(s))),
         visits: s.visits,
         updates: s.updates,
         loss: s.loss,
@@ -65,12 +75,19 @@ fn look_at(scored: bool, agree: bool, s: Progress) -> Found
     Found::Differ
 }
 
-// The labels agree where none is wrong, whichever the epoch.
-pub fn look(scored: bool, wrong: u32, s: Progress) -> Found
+// The labels agree where none is wrong, whichever the epoch: the visits of the first are those below the number of instances.
+fn agree(instances: usize, wrong: u32, visits: u64) -> bool
+    ensures { λ r. ⌜ r ≡ eqb wrong 0 ⌝ }
+{
+    wrong == 0
+}
+
+// What a visit of a training with so many instances finds.
+pub fn look(instances: usize, scored: bool, wrong: u32, s: Progress) -> Found
     requires { ⌜ (s .visits < 2 ^ 53) × (s .updates ≤ s .visits) ⌝ }
     ensures { λ r. ⌜ ((learned : Learned) → r ≡ looked scored (eqb wrong 0) (record { progress = s; learned = learned })) ⌝ }
 {
-    look_at(scored, wrong == 0, s)
+    look_at(scored, agree(instances, wrong, s.visits), s)
 }
 
 // 9: whether the tables that a visit changed are finite, and the epoch's loss.
@@ -103,7 +120,7 @@ fn is_low(trainer: Trainer, epsilon: f64, rate: f64) -> bool
 
 // Whether training ends after an epoch.
 pub fn ends(trainer: Trainer, epsilon: f64, instances: usize, s: Progress) -> bool
-    requires { ⌜ instances ≤ 16384 ⌝ }
+    requires { ⌜ instances ≤ most theInstances ⌝ }
     ensures { λ r. ⌜ r ≡ endsAfter (stops (ruleOf trainer) epsilon) instances s ⌝ }
 {
     let v = s.visit;
@@ -128,7 +145,9 @@ fn update(
     beside: &mut [f64],
 ) -> Outcome
     requires { ⌜ (p .wrong ≤ 128) × Held features (length (now truly)) (length (now predicted)) (length (now weights)) (length (now beside)) ⌝ }
-    ensures { λ r. ⌜ Updated (ruleOf trainer) features (record { words = words; wrong = p .wrong; truly = now (truly .entry); predicted = now (predicted .entry); trueScore = p .wanted; predictedScore = p .reached; weight = weight; counter = counter }) (record { weights = now (weights .entry); beside = now (beside .entry) }) (record { weights = now (weights .exit); beside = now (beside .exit) }) r ⌝ }
+    ensures { λ r.
+        let k = mistakeWith words p (now (truly .entry)) (now (predicted .entry)) weight counter in
+        ⌜ Updated (ruleOf trainer) features k (learnedAs (now (weights .entry)) (now (beside .entry))) (learnedAs (now (weights .exit)) (now (beside .exit))) r ⌝ }
 {
     match trainer {
         Trainer::Perceptron => perceptron_update::update(
@@ -194,8 +213,11 @@ pub fn learn(
 ) -> Progress
     requires { ⌜ (p .wrong ≤ 128) × Held features (length (now truly)) (length (now predicted)) (length (now weights)) (length (now beside)) ⌝ }
     requires { ⌜ (s .visits < 2 ^ 53) × (s .updates ≤ s .visits) ⌝ }
-    ensures { λ r. ⌜ Agreed (stateOf r (now (weights .exit)) (now (beside .exit))) (settled (ruleOf trainer) features (record { words = words; wrong = p .wrong; truly = now (truly .entry); predicted = now (predicted .entry); trueScore = p .wanted; predictedScore = p .reached; weight = weight; counter = whole (s .visits + 1) }) (stateOf s (now (weights .entry)) (now (beside .entry)))) ⌝ }
-    ensures { λ r. ⌜ Counted s r ⌝ }
+    ensures { λ r.
+        let k = mistakeWith words p (now (truly .entry)) (now (predicted .entry)) weight (whole (s .visits + 1)) in
+        let before = stateOf s (now (weights .entry)) (now (beside .entry)) in
+        ⌜ Agreed (stateOf r (now (weights .exit)) (now (beside .exit))) (settled (ruleOf trainer) features k before) ⌝ }
+    ensures { λ r. ⌜ VisitCounted s r ⌝ }
 {
     let visits = s.visits + 1;
     let counter = visits as f64;

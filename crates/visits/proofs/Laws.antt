@@ -7,9 +7,9 @@ use Prim.Native.Nat.{ℕ, _+_, _-_, _≤_, _<_}
 use native.Mathlib.Omega.{arith}
 use borrow.Author.Tests.{eq-eqb, ne-eqb, eqb-true, eqb-false}
 use lib.Dec.{eqb}
-use lib.ListN.{length, getD, take, drop, length-drop, length-append}
+use lib.ListN.{length, getD, take, drop, length-drop}
 use lib.Seq.{length-take-le, take-at, getD-take, getD-drop}
-use lib.Ieee.{nan}
+use lib.Ieee.{Float, nan}
 use lib.Ieee.Scale.{finite}
 use Rattle.lines.specs.Tables.{Model}
 use Rattle.lines.specs.Scored.{statesOf, transitionsOf}
@@ -18,7 +18,6 @@ use Rattle.best_path.specs.Scores.{tabled}
 use Rattle.best_path.specs.Decoded.{decodedPath}
 use Rattle.best_path.specs.PathScore.{pathScore}
 use Rattle.training.specs.declared.Progress.{Progress}
-use Rattle.training.specs.declared.Visit.the-variants.{Unchanged}
 use Rattle.lines.specs.Data.{Data, firstWord, wordsOf, referenceOf}
 use Rattle.binary64.specs.Numbers.{whole}
 use Rattle.training.specs.Wrong.{wrongOf}
@@ -26,20 +25,27 @@ use Rattle.training.specs.Rules.{Rule, Learned, Mistake}
 use Rattle.training.specs.Visits.{TrainingState, refusedAs, unchanged, corrected, compared, visited}
 use Rattle.judging.specs.declared.Prediction.{Prediction}
 use Rattle.training_check.specs.Sound.{SoundData}
-use Rattle.prediction.specs.Tables.{SoundLine}
+use Rattle.prediction.specs.Tables.{SoundInstance}
 use Rattle.judging.specs.Judged.{Judged}
 use Rattle.updates.specs.declared.Found.the-variants.{Ended, Differ}
 use Rattle.updates.specs.Looked.{looked}
 use Rattle.updates.proofs.Looked.{never, same-step, ended, differs}
-use Rattle.updates.specs.Updating.{Agreed, Counted, settled}
+use Rattle.updates.specs.Updating.{Agreed, VisitCounted, settled}
 use Rattle.updates.proofs.Laws.{exactly, refused, refused-counted, unchanged-counted}
+use Rattle.visits.specs.Visitable.{mistakeOf}
 
 -- a visit that ends before it learns is counted once at most
-pub ended-counted : (s r : Progress) (scored agree : Bool) → ((l : Learned) → looked scored agree (record { progress = s; learned = l }) ≡ Ended r) → s .updates ≤ s .visits → Counted s r
+pub ended-counted : (s r : Progress) (scored agree : Bool) → ((l : Learned) → looked scored agree (record { progress = s; learned = l }) ≡ Ended r) → s .updates ≤ s .visits → VisitCounted s r
 unfolding looked
 ended-counted s r false agree e h = refused-counted 8 s r (λ l. same-step (e l)) h
 ended-counted s r true true e h = unchanged-counted s r (λ l. same-step (e l)) h
 ended-counted s r true false e h = absurd (never (sym (e (record { weights = []; beside = [] }))))
+
+-- a mistake's counts are those of two lists that are equal to its own
+pub settled-as : (rule : Rule) (features : ℕ) (k : Mistake) (s : TrainingState) {truly predicted : List Float} {made : TrainingState} → k .truly ≡ truly → k .predicted ≡ predicted → Agreed made (settled rule features k s) →
+    let counted : Mistake = record { words = k .words; wrong = k .wrong; truly = truly; predicted = predicted; trueScore = k .trueScore; predictedScore = k .predictedScore; weight = k .weight; counter = k .counter } in
+    Agreed made (settled rule features counted s)
+settled-as rule features k s e f a = rw (e, f) at a
 
 -- ---- one instance, whose words go from first up to end
 module _ (d : Data) (i first end : ℕ) (f : first ≡ getD (d .starts) i 0) (g : end ≡ getD (d .starts) (i + 1) 0) where
@@ -53,7 +59,7 @@ module _ (d : Data) (i first end : ℕ) (f : first ≡ getD (d .starts) i 0) (g 
     pub all-words : end ≤ d .count
     all-words = omega (arith, v .within i h, v .sized i h .low, f, g)
 
-    pub line-sound : SoundLine labels (d .words) first (end - first) (take (end - first) (drop first (d .references)))
+    pub line-sound : SoundInstance labels (d .words) first (end - first) (take (end - first) (drop first (d .references)))
     line-sound =
         let some = some-words in
         let within = all-words in
@@ -88,16 +94,7 @@ module _ (d : Data) (i first end : ℕ) (f : first ≡ getD (d .starts) i 0) (g 
 
     -- they differ
     abbrev pub seen : Mistake
-    seen = record {
-      words = end - first;
-      wrong = p .wrong;
-      truly = countsOf m (d .words) first (end - first) (take (end - first) (drop first (d .references)));
-      predicted = countsOf m (d .words) first (end - first) after;
-      trueScore = p .wanted;
-      predictedScore = p .reached;
-      weight = getD (d .weights) i nan;
-      counter = whole (s .progress .visits + 1);
-    }
+    seen = mistakeOf m (d .words) first (end - first) (take (end - first) (drop first (d .references))) after p (getD (d .weights) i nan) (s .progress .visits)
 
     abbrev meant : Mistake
     meant =
@@ -129,7 +126,9 @@ module _ (d : Data) (i first end : ℕ) (f : first ≡ getD (d .starts) i 0) (g 
     ended-there e = ⊎-elim (λ w. unscored (w .0) (w .1)) (λ w. same (w .0) (eqb-true _ _ (w .1)) (w .2)) (ended s (p .finite) (eqb (p .wrong) 0) e)
 
     -- or labels differ, and the path stands in the front of an array
-    pub other-front : looked (p .finite) (eqb (p .wrong) 0) s ≡ Differ → length after ≡ end - first → (rest : List ℕ) → {made : TrainingState} → Agreed made (settled rule (m .features .count) (record { words = end - first; wrong = p .wrong; truly = countsOf m (d .words) first (end - first) (take (end - first) (drop first (d .references))); predicted = countsOf m (d .words) first (end - first) (take (end - first) (after ++ rest)); trueScore = p .wanted; predictedScore = p .reached; weight = getD (d .weights) i nan; counter = whole (s .progress .visits + 1) }) s) → Agreed made (visited rule m d i s)
-    other-front e n rest {made} a =
+    pub other-front : {made : TrainingState} → looked (p .finite) (eqb (p .wrong) 0) s ≡ Differ → length after ≡ end - first → (rest : List ℕ) →
+        (let k = mistakeOf m (d .words) first (end - first) (take (end - first) (drop first (d .references))) (take (end - first) (after ++ rest)) p (getD (d .weights) i nan) (s .progress .visits) in
+        Agreed made (settled rule (m .features .count) k s)) → Agreed made (visited rule m d i s)
+    other-front e n rest a =
         let w = differs s (p .finite) (eqb (p .wrong) 0) e in
         other (w .0) (eqb-false _ _ (w .1)) (rw (take-at after rest _ n) at a)

@@ -1,17 +1,10 @@
 // One visit, shared by the three trainers: predict with the present weights, compare with the reference, update. What differs
 // between the trainers is the update alone, in the crate updates.
-ghost use mathlib.Core.Path.{_≡_};
-ghost use Prim.Native.Nat.{_+_, _≤_, _<_, _^_};
-ghost use lib.ListN.{length};
-ghost use Rattle.lines.specs.Counted.{countsOf};
-ghost use Rattle.binary64.specs.Numbers.{whole};
-ghost use Rattle.training.specs.Rules.{Mistake};
 ghost use Rattle.training.specs.Visits.{visited};
-ghost use Rattle.feature_gen.specs.Sound.{SoundModel};
-ghost use Rattle.training_check.specs.Sound.{SoundData};
-ghost use Rattle.prediction.specs.Tables.{modelOf, wordsFrom, dataOf, SoundLine};
+ghost use Rattle.prediction.specs.Tables.{modelAt, modelWas, wordsAt, wordsWas, dataAt, dataWas};
 ghost use Rattle.parameters.specs.Trainers.{ruleOf};
-ghost use Rattle.updates.specs.Updating.{stateOf, Agreed, Counted, settled, Exact};
+ghost use Rattle.updates.specs.Updating.{stateOf, Agreed, VisitCounted, settled};
+ghost use Rattle.visits.specs.Visitable.{Visitable, Correctable, mistakeOf};
 use judging::Prediction;
 use parameters::Trainer;
 use prediction::Sizes;
@@ -44,13 +37,16 @@ fn correct(
     truly: &mut [f64],
     predicted: &mut [f64],
 ) -> Progress
-    requires { ⌜ SoundModel (modelOf sizes (now kinds) (now destinations) (now sources) (now starts) (now entries) (now «label_starts») (now «label_entries»)) ⌝ }
-    requires { ⌜ SoundLine (sizes .labels) (wordsFrom sizes (now begins) (now ids) (now values)) first words (now references) ⌝ }
-    requires { ⌜ Exact (sizes .features) (now weights) (now beside) (now truly) (now predicted) ⌝ }
-    requires { ⌜ (length (now path) ≡ words) × (p .wrong ≤ 128) ⌝ }
-    requires { ⌜ (s .visits < 2 ^ 53) × (s .updates ≤ s .visits) ⌝ }
-    ensures { λ r. ⌜ Agreed (stateOf r (now (weights .exit)) (now (beside .exit))) (settled (ruleOf trainer) (sizes .features) (record { words = words; wrong = p .wrong; truly = countsOf (modelOf sizes (now (kinds .entry)) (now (destinations .entry)) (now (sources .entry)) (now (starts .entry)) (now (entries .entry)) (now («label_starts» .entry)) (now («label_entries» .entry))) (wordsFrom sizes (now (begins .entry)) (now (ids .entry)) (now (values .entry))) first words (now (references .entry)); predicted = countsOf (modelOf sizes (now (kinds .entry)) (now (destinations .entry)) (now (sources .entry)) (now (starts .entry)) (now (entries .entry)) (now («label_starts» .entry)) (now («label_entries» .entry))) (wordsFrom sizes (now (begins .entry)) (now (ids .entry)) (now (values .entry))) first words (now (path .entry)); trueScore = p .wanted; predictedScore = p .reached; weight = weight; counter = whole (s .visits + 1) }) (stateOf s (now (weights .entry)) (now (beside .entry)))) ⌝ }
-    ensures { λ r. ⌜ Counted s r ⌝ }
+    requires { let m = modelAt sizes kinds destinations sources starts entries «label_starts» «label_entries» in
+        let w = wordsAt sizes begins ids values in
+        ⌜ Correctable sizes m w first words (now references) (now path) p s (now weights) (now beside) (now truly) (now predicted) ⌝ }
+    ensures { λ r.
+        let m = modelWas sizes kinds destinations sources starts entries «label_starts» «label_entries» in
+        let w = wordsWas sizes begins ids values in
+        let k = mistakeOf m w first words (now (references .entry)) (now (path .entry)) p weight (s .visits) in
+        let before = stateOf s (now (weights .entry)) (now (beside .entry)) in
+        ⌜ Agreed (stateOf r (now (weights .exit)) (now (beside .exit))) (settled (ruleOf trainer) (sizes .features) k before) ⌝ }
+    ensures { λ r. ⌜ VisitCounted s r ⌝ }
 {
     let features = sizes.features;
     extract_features::count_line(
@@ -129,12 +125,15 @@ pub fn visit(
     truly: &mut [f64],
     predicted: &mut [f64],
 ) -> Progress
-    requires { ⌜ SoundModel (modelOf sizes (now kinds) (now destinations) (now sources) (now starts) (now entries) (now «label_starts») (now «label_entries»)) ⌝ }
-    requires { ⌜ SoundData (sizes .labels) (dataOf sizes (now lines) (now begins) (now ids) (now values) (now references) (now shares)) ⌝ }
-    requires { ⌜ Exact (sizes .features) (now weights) (now beside) (now truly) (now predicted) ⌝ }
-    requires { ⌜ (i < sizes .instances) × (s .visits < 2 ^ 53) × (s .updates ≤ s .visits) ⌝ }
-    ensures { λ r. ⌜ Agreed (stateOf r (now (weights .exit)) (now (beside .exit))) (visited (ruleOf trainer) (modelOf sizes (now (kinds .entry)) (now (destinations .entry)) (now (sources .entry)) (now (starts .entry)) (now (entries .entry)) (now («label_starts» .entry)) (now («label_entries» .entry))) (dataOf sizes (now (lines .entry)) (now (begins .entry)) (now (ids .entry)) (now (values .entry)) (now (references .entry)) (now (shares .entry))) i (stateOf s (now (weights .entry)) (now (beside .entry)))) ⌝ }
-    ensures { λ r. ⌜ Counted s r ⌝ }
+    requires { let m = modelAt sizes kinds destinations sources starts entries «label_starts» «label_entries» in
+        let d = dataAt sizes lines begins ids values references shares in
+        ⌜ Visitable sizes m d i s (now weights) (now beside) (now truly) (now predicted) ⌝ }
+    ensures { λ r.
+        let m = modelWas sizes kinds destinations sources starts entries «label_starts» «label_entries» in
+        let d = dataWas sizes lines begins ids values references shares in
+        let before = stateOf s (now (weights .entry)) (now (beside .entry)) in
+        ⌜ Agreed (stateOf r (now (weights .exit)) (now (beside .exit))) (visited (ruleOf trainer) m d i before) ⌝ }
+    ensures { λ r. ⌜ VisitCounted s r ⌝ }
 {
     let first = lines::at(lines, i);
     let end = lines::at(lines, i + 1);
@@ -146,6 +145,7 @@ pub fn visit(
         kinds,
         destinations,
         sources,
+        weights,
         starts,
         entries,
         label_starts,
@@ -153,13 +153,12 @@ pub fn visit(
         begins,
         ids,
         values,
-        weights,
         first,
         words,
         reference,
         &mut path[..words],
     );
-    let found = updates::look(p.finite, p.wrong, s);
+    let found = updates::look(sizes.instances, p.finite, p.wrong, s);
     if let Found::Ended(progress) = found {
         return progress;
     }

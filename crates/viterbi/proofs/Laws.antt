@@ -10,6 +10,7 @@ use borrow.Author.Tests.{ltb-true}
 use lib.Dec.{ltb}
 use lib.ListN.{length, replicate}
 use lib.Ieee.{Float, nan, ofBits, binary64}
+use Rattle.refusals.specs.Bounds.{theLabels, most}
 use Rattle.best_path.specs.Scores.{Scores, tabled}
 use Rattle.best_path.specs.Decoded.{best, lastLabel, decodedPath}
 use Rattle.best_path.specs.Lead.{none, leadBetween, rival, lead}
@@ -32,17 +33,31 @@ one-row rows width h = rw one-mul at (mul-le-mul-right width h)
 
 -- a word is done: the row has its best scores, and the steps back lead from it
 pub record Done (n word : ℕ) (transitions states row : List Float) (steps : List ℕ) : Type 0 where
-  pub wide : length row ≡ 32
+  pub wide : length row ≡ most theLabels
   pub holds : Holds (tabled n transitions states) word row
   pub leads : StepsTo (tabled n transitions states) word steps
 
 -- the first word
-pub first-done : (n : ℕ) (transitions states : List Float) (row : Row) (steps : List ℕ) → n ≤ 32 → row ≡ firstRow n states → Done n 0 transitions states (row .best) steps
-first-done n transitions states row steps few e = record {
-  wide = rw e (written-length 0 _ (replicate 32 (ofBits binary64 0)) n);
-  holds = λ label h. rw (e, best-first (tabled n transitions states) label, zero-mul, zero-add) (front-inside _ (replicate 32 (ofBits binary64 0)) nan n few label h);
+pub first-done : {n : ℕ} {transitions states : List Float} {row : Row} {steps : List ℕ} → n ≤ most theLabels → row ≡ firstRow n states → Done (row .width) 0 transitions states (row .best) steps
+first-done {n} {transitions} {states} few e = rw e (record {
+  wide = written-length 0 _ (replicate (most theLabels) (ofBits binary64 0)) n;
+  holds = λ label h. rw (best-first (tabled n transitions states) label, zero-mul, zero-add) (front-inside _ (replicate (most theLabels) (ofBits binary64 0)) nan n few label h);
   leads = λ earlier label h k. absurd (not-suc-le-zero h);
-}
+})
+
+-- the word at hand, by another name
+pub done-as : {n word at : ℕ} {transitions states row : List Float} {steps : List ℕ} → word ≡ at → Done n word transitions states row steps → Done n at transitions states row steps
+done-as e done = rw e at done
+
+-- the tables have the width of the rows over them, and the steps have room for as many
+pub ready-as : {n width words : ℕ} {transitions states : List Float} {path : List ℕ} → width ≡ n → Ready n words transitions states path → Ready width words transitions states path
+ready-as e ready = rw e ready
+
+pub room-as : {n width room steps : ℕ} (words : ℕ) → width ≡ n → steps ≡ room → words * n ≤ room → words * width ≤ steps
+room-as words e long h = rw (e, long) h
+
+pub answered-as : {n width words : ℕ} {transitions states : List Float} {before after : List ℕ} {found : Found} → width ≡ n → Answered width words transitions states before found after → Answered n words transitions states before found after
+answered-as e made = rw e at made
 
 -- one word more
 pub done-more : {n word : ℕ} {transitions states row next : List Float} {steps : List ℕ} → Before n word transitions states row next steps → Done n word transitions states row steps → (made : List Float) (longer : List ℕ) → After n word transitions states next steps made longer → Done n (word + 1) transitions states made longer
@@ -52,25 +67,36 @@ done-more before done made longer after = record {
   leads = after-leads before made longer after (done .leads);
 }
 
-module _ (n words : ℕ) (transitions states : List Float) (path steps : List ℕ) (ready : Ready n words transitions states path) (long : words * n ≤ length steps) where
+-- a word of accepted tables, with steps that have room for every word: its rows are named by what is known of them
+module _ {n words : ℕ} {transitions states : List Float} {path : List ℕ} (ready : Ready n words transitions states path) where
   -- the rows of the word after `word` are within the tables
   next-within : (word : ℕ) → word + 1 < words → (word + 1) * n + n ≤ words * n
   next-within word h = rw row-after at (mul-le-mul-right n (add-one-le h))
 
-  pub before : (word : ℕ) → word + 1 < words → (row next : List Float) → Done n word transitions states row steps → length next ≡ 32 → Before n word transitions states row next steps
-  before word h row next done wide = record {
+  pub before : {word : ℕ} {row next : List Float} {steps : List ℕ} → Done n word transitions states row steps → words * n ≤ length steps → word + 1 < words → length next ≡ most theLabels → Before n word transitions states row next steps
+  before done long h wide = record {
     some = ready .sized .labels-in .low;
     few = ready .sized .labels-in .high;
-    early = omega (arith, ready .sized .words-in .high);
+    early = omega (arith, h, ready .sized .words-in .high);
     long-transitions = ready .sized .room .long-transitions;
-    long-states = le-trans (next-within word h) (ready .sized .room .long-states);
-    long-steps = le-trans (next-within word h) long;
+    long-states = le-trans (next-within _ h) (ready .sized .room .long-states);
+    long-steps = le-trans (next-within _ h) long;
     wide = wide;
     holds = done .holds;
   }
 
-  pub walk : (row : List Float) → Done n (words - 1) transitions states row steps → Walk n words steps path
-  walk row done = record {
+  -- one word more
+  pub done-next : {word : ℕ} {row next : List Float} {steps : List ℕ} → Done n word transitions states row steps → words * n ≤ length steps → word + 1 < words → length next ≡ most theLabels → {made : List Float} {longer : List ℕ} → After n word transitions states next steps made longer → Done n (word + 1) transitions states made longer
+  done-next done long h wide after = done-more (before done long h wide) done _ _ after
+
+  -- the last word
+  pub done-last : {word : ℕ} {row next : List Float} {steps : List ℕ} → Done n word transitions states row steps → words * n ≤ length steps → word + 1 < words → words ≤ word + 2 → length next ≡ most theLabels → {made : List Float} {longer : List ℕ} → After n word transitions states next steps made longer → Done n (words - 1) transitions states made longer
+  done-last {word} done long h last wide after =
+      let e : word + 1 ≡ words - 1 = omega (arith, h, last) in
+      rw e at (done-next done long h wide after)
+
+  pub walk : {row : List Float} {steps : List ℕ} → Done n (words - 1) transitions states row steps → words * n ≤ length steps → Walk n words steps path
+  walk {steps = steps} done long = record {
     some = ready .sized .labels-in .low;
     few = ready .sized .labels-in .high;
     any = ready .sized .words-in .low;
@@ -80,7 +106,7 @@ module _ (n words : ℕ) (transitions states : List Float) (path steps : List �
   }
 
 -- the last row with the steps back
-module _ (n words : ℕ) (transitions states row : List Float) (steps : List ℕ) (some : 0 < n) (done : Done n (words - 1) transitions states row steps) where
+module _ {n : ℕ} (words : ℕ) {transitions states row : List Float} {steps : List ℕ} (some : 0 < n) (done : Done n (words - 1) transitions states row steps) where
   abbrev s : Scores
   s = tabled n transitions states
 
@@ -95,9 +121,9 @@ module _ (n words : ℕ) (transitions states row : List Float) (steps : List ℕ
       go true h = rw (done .holds (lastLabel s words) (last-label-within s some words)) (ap (leadBetween _) (row-rival s words (scoreAt row) (done .holds) (h refl)))
       go false h = refl
 
-  pub answered : (before after : List ℕ) (found : Found) → Ended row n words steps before found after → Answered n words transitions states before found after
+  pub answered : {before after : List ℕ} {found : Found} → Ended row n words steps before found after → Answered n words transitions states before found after
   unfolding decodedPath
-  answered before after found e = record {
+  answered e = record {
     sum = e .sum ∙ ap (scoreAt row) last-is ∙ row-sum s words (scoreAt row) (done .holds) some;
     lead-is = e .lead ∙ ap (leadOf row n) last-is ∙ lead-is;
     path = e .path ∙ rw (last-is, walked-path s steps some (words - 1) (done .leads) (lastLabel s words) (last-label-within s some words));

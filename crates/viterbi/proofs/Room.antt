@@ -7,10 +7,10 @@ use Rattle.refusals.specs.declared.Checked.{Checked}
 use Rattle.refusals.specs.declared.Checked.the-variants.{Accepted}
 use Rattle.refusals.specs.Refusals.{orNext}
 use Rattle.refusals.proofs.Laws.{both}
-use Rattle.score_tables.specs.Rows.{two}
+use Rattle.score_tables.specs.Rows.{scoresShort}
 use Rattle.score_tables.specs.Sound.{ScoresRoom}
 use Rattle.score_tables.proofs.Laws as tables
 
 -- 2 accepts: the tables have room, whatever was tested around it
-pub room : (bounds last : Checked) (labels words : ℕ) (transitions states : List Float) → orNext (orNext bounds (two labels words transitions states)) last ≡ Accepted → ScoresRoom labels words transitions states
-room bounds last labels words transitions states h = tables.room (both bounds (two labels words transitions states) (both (orNext bounds (two labels words transitions states)) last h .0) .1)
+pub room : (bounds last : Checked) (labels words : ℕ) (transitions states : List Float) → orNext (orNext bounds (scoresShort labels words transitions states)) last ≡ Accepted → ScoresRoom labels words transitions states
+room bounds last labels words transitions states h = tables.room (both bounds (scoresShort labels words transitions states) (both (orNext bounds (scoresShort labels words transitions states)) last h .0) .1)

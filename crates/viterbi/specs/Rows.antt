@@ -6,7 +6,7 @@ use lib.Ieee.{Float}
 use Rattle.refusals.specs.declared.Checked.{Checked}
 use Rattle.refusals.specs.Refusals.{first, refuse}
 use Rattle.refusals.specs.Tables.{short}
-use Rattle.score_tables.specs.Rows.{one, four, two, sixes}
+use Rattle.score_tables.specs.Rows.{one, four, scoresShort, sixes}
 
 -- 2 | "a lent buffer too short": T labels of the path | 0
 abbrev pub pathShort : ℕ → List ℕ → Checked
@@ -18,6 +18,6 @@ decodeChecked labels words transitions states path =
     first
     (one labels
     ∷ four words
-    ∷ two labels words transitions states
+    ∷ scoresShort labels words transitions states
     ∷ pathShort words path
     ∷ sixes labels words transitions states)

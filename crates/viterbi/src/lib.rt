@@ -8,6 +8,7 @@ ghost use Rattle.viterbi.specs.Promise.{Promised};
 use refusals::Checked;
 use refusals::Refusal;
 use viterbi_end::Found;
+use viterbi_steps::ROW_ROOM;
 use viterbi_steps::Row;
 
 // Every refusal of the call.
@@ -47,7 +48,7 @@ fn decode_rows(
     let mut row = viterbi_steps::first_row(labels, states);
     let n = row.width;
     let mut other = Row {
-        best: [0.0; 32],
+        best: [0.0; ROW_ROOM],
         width: n,
     };
     let mut word: usize = 0;
@@ -88,6 +89,9 @@ fn decode_rows(
     }
 }
 
+// So many steps back make a line a short one.
+const SHORT: usize = 256;
+
 // The steps back of a short line, in a small array: clearing a large one would take longer than the line.
 fn decode_short(
     n: usize,
@@ -100,11 +104,11 @@ fn decode_short(
     requires { ⌜ words * n ≤ 256 ⌝ }
     ensures { λ r. ⌜ Answered n words (now (transitions .entry)) (now (states .entry)) (now (path .entry)) r (now (path .exit)) ⌝ }
 {
-    let mut steps = [0u8; 256];
+    let mut steps = [0u8; SHORT];
     decode_rows(n, words, transitions, states, path, &mut steps)
 }
 
-// The steps back of any line: the most words, with the most labels each.
+// The steps back of any line: the most words, with the most labels each, are 128·32.
 fn decode_long(
     n: usize,
     words: usize,
@@ -130,7 +134,7 @@ pub fn decode_tables(
     requires { ⌜ Ready n words (now transitions) (now states) (now path) ⌝ }
     ensures { λ r. ⌜ Answered n words (now (transitions .entry)) (now (states .entry)) (now (path .entry)) r (now (path .exit)) ⌝ }
 {
-    if words * n <= 256 {
+    if words * n <= SHORT {
         decode_short(n, words, transitions, states, path)
     } else {
         decode_long(n, words, transitions, states, path)

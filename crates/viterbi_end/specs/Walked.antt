@@ -2,6 +2,7 @@
 use mathlib.Core.List.{List, [], _∷_, _++_}
 use Prim.Native.Nat.{ℕ, zero, suc, _+_, _*_, _≤_, _<_}
 use lib.ListN.{length, getD}
+use Rattle.refusals.specs.Bounds.{theLabels, most}
 
 -- the labels met from a label of a word back to the first word, in the words' order
 unfoldable pub walked : List ℕ → ℕ → ℕ → ℕ → List ℕ
@@ -15,7 +16,7 @@ StepsWithin steps n words = (earlier label : ℕ) → earlier + 1 < words → la
 -- what the walk may rely on
 pub record Walk (n words : ℕ) (steps path : List ℕ) : Type 0 where
   pub some : 0 < n
-  pub few : n ≤ 32
+  pub few : n ≤ most theLabels
   pub any : 0 < words
   pub long-path : words ≤ length path
   pub long-steps : words * n ≤ length steps

@@ -2,11 +2,13 @@
 ghost use mathlib.Core.Path.{_≡_};
 ghost use mathlib.Core.List.{_++_};
 ghost use Prim.Native.Nat.{_-_, _<_, _≤_};
-ghost use lib.ListN.{length, getD, drop};
+ghost use lib.ListN.{length, getD, set, drop};
 ghost use Rattle.viterbi_end.specs.Walked.{walked, Walk};
+ghost use Rattle.refusals.specs.Bounds.{theLabels, most};
 ghost use Rattle.best_path.specs.Lead.{other, positiveZero, leadBetween};
 ghost use Rattle.viterbi_end.specs.Rival.{rivalOf};
 ghost use Rattle.viterbi_end.specs.Ends.{leadSaid, lastOf, leadOf, Ended};
+use viterbi_steps::ROW_ROOM;
 
 // By how much the best final score is above that of every other last label.
 pub enum Lead {
@@ -21,8 +23,8 @@ pub struct Found {
 }
 
 // The last of the labels with the largest score.
-fn last_largest(row: &[f64; 32], n: usize) -> usize
-    requires { ⌜ (0 < n) × (n ≤ 32) ⌝ }
+fn last_largest(row: &[f64; ROW_ROOM], n: usize) -> usize
+    requires { ⌜ (0 < n) × (n ≤ most theLabels) ⌝ }
     ensures { λ r. ⌜ (r < n) × (r ≡ lastOf (now (row .entry)) n) ⌝ }
 {
     let mut score = row[0];
@@ -39,15 +41,15 @@ fn last_largest(row: &[f64; 32], n: usize) -> usize
 
 // The labels other than `last`, in order.
 fn other_label(last: usize, k: usize) -> usize
-    requires { ⌜ k < 32 ⌝ }
+    requires { ⌜ k < most theLabels ⌝ }
     ensures { λ r. ⌜ r ≡ other last k ⌝ }
 {
     if k < last { k } else { k + 1 }
 }
 
 // The largest score of the labels other than `last`, of which there is at least one.
-pub fn rival(row: &[f64; 32], n: usize, last: usize) -> f64
-    requires { ⌜ (1 < n) × (n ≤ 32) ⌝ }
+pub fn rival(row: &[f64; ROW_ROOM], n: usize, last: usize) -> f64
+    requires { ⌜ (1 < n) × (n ≤ most theLabels) ⌝ }
     ensures { λ r. ⌜ r ≡ rivalOf (now (row .entry)) n last ⌝ }
 {
     let first = other_label(last, 0);
@@ -80,8 +82,8 @@ fn lead_by(best: f64, rival: f64) -> Lead
 }
 
 // "no lead" with L = 1.
-fn lead_of(row: &[f64; 32], n: usize, last: usize) -> Lead
-    requires { ⌜ (last < n) × (n ≤ 32) ⌝ }
+fn lead_of(row: &[f64; ROW_ROOM], n: usize, last: usize) -> Lead
+    requires { ⌜ (last < n) × (n ≤ most theLabels) ⌝ }
     ensures { λ r. ⌜ leadSaid r ≡ leadOf (now (row .entry)) n last ⌝ }
 {
     if 1 < n {
@@ -92,11 +94,19 @@ fn lead_of(row: &[f64; 32], n: usize, last: usize) -> Lead
 }
 
 // The step back that stands at a place.
-fn step(steps: &[u8], place: usize) -> usize
+fn step_back(steps: &[u8], place: usize) -> usize
     requires { ⌜ place < length (now steps) ⌝ }
     ensures { λ r. ⌜ r ≡ getD (now (steps .entry)) place 0 ⌝ }
 {
     steps[place] as usize
+}
+
+// The label of a word: no other entry of the buffer is touched.
+fn put_label(path: &mut [u32], word: usize, label: usize)
+    requires { ⌜ (word < length (now path)) × (label < most theLabels) ⌝ }
+    ensures { λ _. ⌜ now (path .exit) ≡ set (now (path .entry)) word label ⌝ }
+{
+    path[word] = label as u32;
 }
 
 // The path, from its last label back; the rest of the buffer is left alone.
@@ -108,15 +118,21 @@ pub fn walk_back(path: &mut [u32], words: usize, n: usize, last: usize, steps: &
     let mut label = last;
     let mut word = words - 1;
     while 0 < word {
-        path[word] = label as u32;
-        label = step(steps, word * n + label);
+        put_label(path, word, label);
+        label = step_back(steps, word * n + label);
         word -= 1;
     }
-    path[0] = label as u32;
+    put_label(path, 0, label);
 }
 
 // The answer of a line, from its last row of best scores and the steps back.
-pub fn finish(row: &[f64; 32], n: usize, words: usize, steps: &[u8], path: &mut [u32]) -> Found
+pub fn finish(
+    row: &[f64; ROW_ROOM],
+    n: usize,
+    words: usize,
+    steps: &[u8],
+    path: &mut [u32],
+) -> Found
     requires { ⌜ Walk n words (now steps) (now path) ⌝ }
     ensures { λ r. ⌜ Ended (now (row .entry)) n words (now (steps .entry)) (now (path .entry)) r (now (path .exit)) ⌝ }
 {

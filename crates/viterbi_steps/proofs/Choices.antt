@@ -5,11 +5,12 @@ use Prim.Native.Nat.{ℕ, _+_, _-_, _*_, _≤_, _<_}
 use native.Mathlib.Nat.{mul-le-mul, suc-mul}
 use native.Mathlib.Numerals.{add-one}
 use lib.Ieee.{Float, le}
+use Rattle.refusals.specs.Bounds.{theLabels, most}
 use Rattle.best_path.specs.Decoded.{lastLargest}
 use Rattle.best_path.proofs.Laws.{largest-turn, value-turn}
 
--- a table of at most 32 rows and columns
-pub square-small : (n : ℕ) → n ≤ 32 → n * n ≤ 1024
+-- a table of at most 32 rows and columns, 32·32 entries
+pub square-small : (n : ℕ) → n ≤ most theLabels → n * n ≤ 1024
 square-small n h = mul-le-mul h h
 
 -- the row after row k starts where that ends

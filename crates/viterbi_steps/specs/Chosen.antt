@@ -12,5 +12,5 @@ candidate n transitions row label state previous =
     add binary64 (add binary64 (getD row previous nan) (getD transitions (previous * n + label) nan)) state
 
 -- "each later best is the largest of its candidates": the one chosen of n, and where it comes from
-abbrev pub chosen : (ℕ → Float) → ℕ → Choice
-chosen candidates n = record { score = candidates (lastLargest candidates (n - 1)); previous = lastLargest candidates (n - 1) }
+abbrev pub choiceOf : (ℕ → Float) → ℕ → Choice
+choiceOf candidates n = record { score = candidates (lastLargest candidates (n - 1)); previous = lastLargest candidates (n - 1) }

@@ -5,6 +5,7 @@ use mathlib.Core.List.{List}
 use Prim.Native.Nat.{ℕ, _+_, _*_, _≤_, _<_}
 use lib.ListN.{length, getD, replicate}
 use lib.Ieee.{Float, nan, ofBits, binary64, add, le}
+use Rattle.refusals.specs.Bounds.{theLabels, theLineWords, most}
 use Rattle.best_path.specs.Scores.{Scores, tabled}
 use Rattle.best_path.specs.Decoded.{best, back}
 use Rattle.viterbi_steps.specs.declared.Row.{Row}
@@ -21,17 +22,17 @@ StepsTo s word steps =
 
 -- "Decode starts from the first word's states"
 abbrev pub firstRow : ℕ → List Float → Row
-firstRow n states = record { best = written 0 (λ label. getD states label nan) n (replicate 32 (ofBits binary64 0)); width = n }
+firstRow n states = record { best = written 0 (λ label. getD states label nan) n (replicate (most theLabels) (ofBits binary64 0)); width = n }
 
 -- what the word after `word` needs: its part of the tables, the row before it, and room for the next
 pub record Before (n word : ℕ) (transitions states row next : List Float) (steps : List ℕ) : Type 0 where
   pub some : 0 < n
-  pub few : n ≤ 32
-  pub early : word < 128
+  pub few : n ≤ most theLabels
+  pub early : word < most theLineWords
   pub long-transitions : n * n ≤ length transitions
   pub long-states : (word + 1) * n + n ≤ length states
   pub long-steps : (word + 1) * n + n ≤ length steps
-  pub wide : length next ≡ 32
+  pub wide : length next ≡ most theLabels
   pub holds : Holds (tabled n transitions states) word row
 
 -- what it makes: the next row of best scores, and the steps back from it

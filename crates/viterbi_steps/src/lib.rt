@@ -5,9 +5,13 @@ ghost use mathlib.Core.Bool.{cond};
 ghost use Prim.Native.Nat.{_*_, _≤_, _<_, ℕ, _+_};
 ghost use lib.ListN.{length, getD};
 ghost use lib.Ieee.{le};
-ghost use Rattle.viterbi_steps.specs.Chosen.{candidate, chosen};
+ghost use Rattle.refusals.specs.Bounds.{theLabels, most};
+ghost use Rattle.viterbi_steps.specs.Chosen.{candidate, choiceOf};
 ghost use Rattle.viterbi_steps.specs.Written.{written};
 ghost use Rattle.viterbi_steps.specs.Rows.{firstRow, Before, After, onward, scoreTried, markTried};
+
+// Room in a row for the most labels: "Labels L: 1 to 32."
+pub const ROW_ROOM: usize = 32;
 
 // The largest candidate for a label, and the label of the word before that it comes from.
 pub struct Choice {
@@ -30,9 +34,15 @@ pub fn whence(old: f64, new: f64, was: u64, mark: u64) -> u64
 }
 
 // The best candidate for one label of a word with this state score.
-pub fn best_step(row: &[f64; 32], n: usize, transitions: &[f64], label: usize, state: f64) -> Choice
-    requires { ⌜ (label < n) × (n ≤ 32) × (n * n ≤ length (now transitions)) ⌝ }
-    ensures { λ r. ⌜ r ≡ chosen (candidate n (now (transitions .entry)) (now (row .entry)) label state) n ⌝ }
+pub fn best_step(
+    row: &[f64; ROW_ROOM],
+    n: usize,
+    transitions: &[f64],
+    label: usize,
+    state: f64,
+) -> Choice
+    requires { ⌜ (label < n) × (n ≤ most theLabels) × (n * n ≤ length (now transitions)) ⌝ }
+    ensures { λ r. ⌜ r ≡ choiceOf (candidate n (now (transitions .entry)) (now (row .entry)) label state) n ⌝ }
 {
     let mut score = row[0] + transitions[label] + state;
     let mut from: u64 = 0;
@@ -53,17 +63,17 @@ pub fn best_step(row: &[f64; 32], n: usize, transitions: &[f64], label: usize, s
 
 // One row of best scores, with room for the most labels; `width` of them count.
 pub struct Row {
-    pub best: [f64; 32],
+    pub best: [f64; ROW_ROOM],
     pub width: usize,
 }
 
 // "Decode starts from the first word's states."
 pub fn first_row(n: usize, states: &[f64]) -> Row
-    requires { ⌜ (n ≤ 32) × (n ≤ length (now states)) ⌝ }
+    requires { ⌜ (n ≤ most theLabels) × (n ≤ length (now states)) ⌝ }
     ensures { λ r. ⌜ r ≡ firstRow n (now (states .entry)) ⌝ }
 {
     let mut row = Row {
-        best: [0.0; 32],
+        best: [0.0; ROW_ROOM],
         width: n,
     };
     let mut label: usize = 0;
@@ -76,8 +86,8 @@ pub fn first_row(n: usize, states: &[f64]) -> Row
 
 // The next row, label by label: the quicker way for few labels.
 fn next_by_label(
-    row: &[f64; 32],
-    next: &mut [f64; 32],
+    row: &[f64; ROW_ROOM],
+    next: &mut [f64; ROW_ROOM],
     n: usize,
     word: usize,
     transitions: &[f64],
@@ -99,14 +109,14 @@ fn next_by_label(
 
 // The candidates from label 0, for each label.
 fn seed_row(
-    next: &mut [f64; 32],
+    next: &mut [f64; ROW_ROOM],
     n: usize,
     score: f64,
     transitions: &[f64],
     states: &[f64],
     at: usize,
 )
-    requires { ⌜ (n ≤ 32) × (n ≤ length (now transitions)) × (at + n ≤ length (now states)) ⌝ }
+    requires { ⌜ (n ≤ most theLabels) × (n ≤ length (now transitions)) × (at + n ≤ length (now states)) ⌝ }
     ensures { λ _. ⌜ now (next .exit) ≡ written 0 (onward score (now (transitions .entry)) 0 (now (states .entry)) at) n (now (next .entry)) ⌝ }
 {
     let mut label: usize = 0;
@@ -118,8 +128,8 @@ fn seed_row(
 
 // The candidates from one label more, for each label: `base` is where its transitions begin.
 fn fold_previous(
-    next: &mut [f64; 32],
-    from: &mut [u64; 32],
+    next: &mut [f64; ROW_ROOM],
+    from: &mut [u64; ROW_ROOM],
     n: usize,
     score: f64,
     mark: u64,
@@ -128,7 +138,7 @@ fn fold_previous(
     states: &[f64],
     at: usize,
 )
-    requires { ⌜ (n ≤ 32) × (base + n ≤ length (now transitions)) × (at + n ≤ length (now states)) ⌝ }
+    requires { ⌜ (n ≤ most theLabels) × (base + n ≤ length (now transitions)) × (at + n ≤ length (now states)) ⌝ }
     ensures { λ _. ⌜ now (next .exit) ≡ written 0 (scoreTried (onward score (now (transitions .entry)) base (now (states .entry)) at) (now (next .entry))) n (now (next .entry)) ⌝ }
     ensures { λ _. ⌜ now (from .exit) ≡ written 0 (markTried (onward score (now (transitions .entry)) base (now (states .entry)) at) (now (next .entry)) mark (now (from .entry))) n (now (from .entry)) ⌝ }
 {
@@ -143,8 +153,8 @@ fn fold_previous(
 }
 
 // The steps of a word, put in their place.
-fn keep_steps(steps: &mut [u8], at: usize, from: &[u64; 32], n: usize)
-    requires { ⌜ (n ≤ 32) × (at + n ≤ length (now steps)) × ((label : ℕ) → label < n → getD (now from) label 0 < 256) ⌝ }
+fn keep_steps(steps: &mut [u8], at: usize, from: &[u64; ROW_ROOM], n: usize)
+    requires { ⌜ (n ≤ most theLabels) × (at + n ≤ length (now steps)) × ((label : ℕ) → label < n → getD (now from) label 0 < 256) ⌝ }
     ensures { λ _. ⌜ now (steps .exit) ≡ written at (λ label. getD (now (from .entry)) label 0) n (now (steps .entry)) ⌝ }
 {
     let mut label: usize = 0;
@@ -156,8 +166,8 @@ fn keep_steps(steps: &mut [u8], at: usize, from: &[u64; 32], n: usize)
 
 // The next row, from one label of the word before after the other: the quicker way for many labels.
 fn next_by_previous(
-    row: &[f64; 32],
-    next: &mut [f64; 32],
+    row: &[f64; ROW_ROOM],
+    next: &mut [f64; ROW_ROOM],
     n: usize,
     word: usize,
     transitions: &[f64],
@@ -168,7 +178,7 @@ fn next_by_previous(
     ensures { λ _. ⌜ After n word (now (transitions .entry)) (now (states .entry)) (now (next .entry)) (now (steps .entry)) (now (next .exit)) (now (steps .exit)) ⌝ }
 {
     let at = (word + 1) * n;
-    let mut from = [0u64; 32];
+    let mut from = [0u64; ROW_ROOM];
     seed_row(next, n, row[0], transitions, states, at);
     let mut previous: usize = 1;
     let mut base = n;
@@ -193,8 +203,8 @@ fn next_by_previous(
 
 // The row of the word after `word`, and the steps back from it.
 pub fn next_row(
-    row: &[f64; 32],
-    next: &mut [f64; 32],
+    row: &[f64; ROW_ROOM],
+    next: &mut [f64; ROW_ROOM],
     n: usize,
     word: usize,
     transitions: &[f64],

@@ -9,35 +9,51 @@ use Rattle.answer_line.proofs.Laws.{put-then, put-length, put-line, roo
 use Rattle.answer_line.proofs.path_line.Statement.{statement}
 use Rattle.answer_line.proofs.path_line.Tie as tie
 
+-- the places that facts are taken from, each found from the one after it
+abbrev entry : tie.After-put-text → tie.Start
+entry c = search
+
+abbrev named : tie.After-put-digits → tie.After-put-text
+named c = search
+
+abbrev summed : tie.After-put → tie.After-put-digits
+summed c = search
+
+abbrev spaced : tie.After-put-labels → tie.After-put
+spaced c = search
+
+abbrev listed : tie.After-put2 → tie.After-put-labels
+listed c = search
+
 -- what is left to write, and the room for it, after each part
 room-1 : (c : tie.After-put-text) →
-    let a = c .before .before .before .before .before .args in
+    let a = entry c .args in
     RoomFor (sumDigits (a .sum) ++ (space ∷ (joinedLabels (a .labels .now) ++ (lineFeed ∷ [])))) (c .put-text .last .0) (c .put-text .result)
 unfolding pathLine
-room-1 c = room-next _ (c .put-text .ensures) (c .before .before .before .before .before .pre .1 .1)
+room-1 c = room-next _ (c .put-text .ensures) (entry c .pre .1 .1)
 
 room-2 : (c : tie.After-put-digits) →
-    let a = c .before .before .before .before .before .before .before .before .before .args in
+    let a = entry (named c) .args in
     RoomFor (space ∷ (joinedLabels (a .labels .now) ++ (lineFeed ∷ []))) (c .put-digits .last .0) (c .put-digits .result)
-room-2 c = room-next _ (c .put-digits .ensures) (room-1 (c .before .before .before .before))
+room-2 c = room-next _ (c .put-digits .ensures) (room-1 (named c))
 
 room-3 : (c : tie.After-put) →
-    let a = c .before .before .before .before .before .before .before .before .before .before .before .before .before .args in
+    let a = entry (named (summed c)) .args in
     RoomFor (joinedLabels (a .labels .now) ++ (lineFeed ∷ [])) (c .put .last .0) (c .put .result)
-room-3 c = room-next _ (c .put .ensures) (room-2 (c .before .before .before .before))
+room-3 c = room-next _ (c .put .ensures) (room-2 (summed c))
 
 room-4 : (c : tie.After-put-labels) → RoomFor (lineFeed ∷ []) (c .put-labels .last .0) (c .put-labels .result)
-room-4 c = room-next _ (c .put-labels .ensures) (room-3 (c .before .before .before .before))
+room-4 c = room-next _ (c .put-labels .ensures) (room-3 (spaced c))
 
 done : (c : tie.After-put2) →
-    let a = c .before .before .before .before .before .before .before .before .before .before .before .before .before .before .before .before .before .before .before .before .before .args in
+    let a = entry (named (summed (spaced (listed c)))) .args in
     Put (pathLine (a .sum) (a .labels .now)) (a .line .now) 0 (c .put2 .result) (c .put2 .last .0)
 unfolding pathLine
 done c =
-    let l = c .before .before .before .before in
-    let p = l .before .before .before .before in
-    let d = p .before .before .before .before in
-    let t = d .before .before .before .before in
+    let l = listed c in
+    let p = spaced l in
+    let d = summed p in
+    let t = named d in
     put-then (t .put-text .ensures) (put-then (d .put-digits .ensures) (put-then (p .put .ensures) (put-then (l .put-labels .ensures) (c .put2 .ensures))))
 
 slice-aggregate-put-text : tie.Need-slice-aggregate-put-text
@@ -45,32 +61,44 @@ slice-aggregate-put-text c = search needs
 
 put-text-requires : tie.Need-put-text-requires
 unfolding pathLine
-put-text-requires c κs = room-first _ _ (c .before .before .before .before .pre .1 .1)
+put-text-requires c κs =
+    let s : tie.Start = search in
+    room-first _ _ (s .pre .1 .1)
 
 float-to-bits-put-digits : tie.Need-float-to-bits-put-digits
 float-to-bits-put-digits c = search needs
 
 put-digits-requires : tie.Need-put-digits-requires
 put-digits-requires c κs =
-    let t = c .before .before .before in
-    let bits = toBits binary64 (t .before .before .before .before .before .args .sum) in
+    let t : tie.After-put-text = search in
+    let bits = toBits binary64 (entry t .args .sum) in
     let r = room-first (digits 16 16 bits) _ (room-1 t) .room in
     (search needs, omega (arith, length-digits 16 16 bits))
 
 put-requires : tie.Need-put-requires
-put-requires c κs = room-first _ _ (room-2 (c .before .before .before))
+put-requires c κs =
+    let d : tie.After-put-digits = search in
+    room-first _ _ (room-2 d)
 
 put-labels-requires : tie.Need-put-labels-requires
-put-labels-requires c κs = (search needs, room-first _ _ (room-3 (c .before .before .before)))
+put-labels-requires c κs =
+    let p : tie.After-put = search in
+    (entry (named (summed p)) .pre .1 .0, room-first _ _ (room-3 p))
 
 put-requires-2 : tie.Need-put-requires-2
-put-requires-2 c κs = room-4 (c .before .before .before)
+put-requires-2 c κs =
+    let l : tie.After-put-labels = search in
+    room-4 l
 
 same-length : tie.Need-same-length
-same-length c = put-length (done (c .before .before))
+same-length c =
+    let e : tie.After-put2 = search in
+    put-length (done e)
 
 returns : tie.Need-returns
-returns c = put-line (c .before .before .before .before .before .before .before .before .before .before .before .before .before .before .before .before .before .before .before .before .before .before .before .pre .1 .1) (done (c .before .before))
+returns c =
+    let e : tie.After-put2 = search in
+    put-line (entry (named (summed (spaced (listed e)))) .pre .1 .1) (done e)
 
 pub path-line-spec : {M : Type 1} → statement M
 path-line-spec =

@@ -2,19 +2,19 @@
 use Prim.Native.Nat.{_≤_, _<_, _+_, _-_, _^_}
 use mathlib.Core.Path.{_≡_, refl}
 use native.Mathlib.Omega.{arith}
-use Rattle.answer_line.specs.Digits.{placesWithin, places}
+use Rattle.answer_line.specs.Digits.{placesWithin, decimalPlaces}
 use Rattle.answer_line.proofs.Laws.{divided, one-place}
 use Rattle.answer_line.proofs.places.Statement.{statement}
 use Rattle.answer_line.proofs.places.Tie as tie
 
 abbrev Inv-loop : tie.InvT-loop
-Inv-loop n k₀ rest₀ k rest = (0 < k) × (k ≤ 20) × (rest < 10 ^ (21 - k)) × (placesWithin (21 - k) rest + k ≡ places n + 1)
+Inv-loop n k₀ rest₀ k rest = (0 < k) × (k ≤ 20) × (rest < 10 ^ (21 - k)) × (placesWithin (21 - k) rest + k ≡ decimalPlaces n + 1)
 
 abbrev μ-loop : tie.MeasureT-loop
 μ-loop n k₀ rest₀ k rest = rest
 
 loop-holds : tie.Need-loop-holds Inv-loop μ-loop
-unfolding places
+unfolding decimalPlaces
 loop-holds c = (omega arith, omega arith, omega arith, refl)
 
 add-k : tie.Need-add-k Inv-loop μ-loop

@@ -1,10 +1,12 @@
 -- `answer_line::put_labels` meets its contract. The loop's invariant: there is room for the labels that are left, and whatever writes them has written all but the first. Assumes nothing.
-use Prim.Native.Nat.{ℕ, _-_}
-use mathlib.Core.List.{List}
+use mathlib.Core.Path.{sym, ap}
+use mathlib.Core.List.{List, _∷_, _++_}
+use Prim.Native.Nat.{ℕ, _+_, _-_}
 use borrow.Author.Needs.{needs}
-use lib.ListN.{length, drop}
-use Rattle.answer_line.specs.Line.{furtherLabels, joinedLabels, RoomFor, Put}
-use Rattle.answer_line.proofs.Laws.{put-then, put-nothing, put-length, room-first, room-next, first-label, next-label, no-label}
+use lib.ListN.{length, getD, drop}
+use Rattle.answer_line.specs.Digits.{decimal}
+use Rattle.answer_line.specs.Line.{comma, furtherLabels, joinedLabels, RoomFor, Put}
+use Rattle.answer_line.proofs.Laws.{put-then, put-nothing, put-length, put-as, room-first, room-next, room-as, first-label, next-label, no-label}
 use Rattle.answer_line.proofs.put_labels.Statement.{statement}
 use Rattle.answer_line.proofs.put_labels.Tie as tie
 
@@ -16,14 +18,63 @@ Inv-loop line₀ start labels at₀ i₀ line at i =
 abbrev μ-loop : tie.MeasureT-loop
 μ-loop line₀ start labels at₀ i₀ line at i = length labels - i
 
+-- the places that facts are taken from, each found from the one after it
+abbrev entry : tie.After-put-decimal Inv-loop μ-loop → tie.Start Inv-loop μ-loop
+entry c = search
+
+abbrev begun : tie.At-loop Inv-loop μ-loop → tie.After-put-decimal Inv-loop μ-loop
+begun c = search
+
+abbrev turn : tie.In-loop Inv-loop μ-loop → tie.At-loop Inv-loop μ-loop
+turn c = search
+
+abbrev called : tie.After-put Inv-loop μ-loop → tie.In-loop Inv-loop μ-loop
+called c = search
+
+abbrev spaced : tie.After-put-decimal2 Inv-loop μ-loop → tie.After-put Inv-loop μ-loop
+spaced c = search
+
+abbrev left : tie.After-loop Inv-loop μ-loop → tie.At-loop Inv-loop μ-loop
+left c = search
+
+-- the first label
+first : (d : tie.After-put-decimal Inv-loop μ-loop) →
+    let a = entry d .args in
+    Put (decimal (getD (a .labels .now) 0 0)) (a .line .now) (a .start) (d .put-decimal .result) (d .put-decimal .last .0)
+first d =
+    let w : tie.After-wide Inv-loop μ-loop = search in
+    put-as (ap decimal (w .wide .ensures)) (d .put-decimal .ensures)
+
+-- a further one
+further : (d : tie.After-put-decimal2 Inv-loop μ-loop) →
+    let p = spaced d in
+    let l = turn (called p) in
+    Put (decimal (getD (entry (begun l) .args .labels .now) (l .loop .i) 0)) (p .put .last .0) (p .put .result) (d .put-decimal2 .result) (d .put-decimal2 .last .0)
+further d =
+    let w : tie.After-wide2 Inv-loop μ-loop = search in
+    put-as (ap decimal (w .wide2 .ensures)) (d .put-decimal2 .ensures)
+
 -- the first label, then the others
-done : (c : tie.After-loop Inv-loop μ-loop) → let a = c .before .before .before .before .before .before .before .before .before .before .args in Put (joinedLabels (a .labels .now)) (a .line .now) (a .start) (c .before .loop .at) (c .before .loop .line)
-done c =
-    let l = c .before in
-    let d = l .before .before .before in
-    let a = d .before .before .before .before .before .before in
-    rw (first-label (a .args .labels .now) (a .pre .0))
-    (put-then (rw (d .before .wide .ensures) at (d .put-decimal .ensures)) (l .loop .inv .1 _ _ (put-nothing (no-label _ _ (c .loop-test .left)))))
+done : (e : tie.After-loop Inv-loop μ-loop) →
+    let l = left e in
+    let a = entry (begun l) .args in
+    Put (joinedLabels (a .labels .now)) (a .line .now) (a .start) (l .loop .at) (l .loop .line)
+done e =
+    let l = left e in
+    let d = begun l in
+    let s = entry d in
+    put-as (sym (first-label (s .args .labels .now) (s .pre .0)))
+    (put-then (first d) (l .loop .inv .1 _ _ (put-nothing (no-label _ _ (e .loop-test .left)))))
+
+-- the room for the first, and for the next in a turn
+room-1 : (s : tie.Start Inv-loop μ-loop) → RoomFor (decimal (getD (s .args .labels .now) 0 0) ++ furtherLabels (drop 1 (s .args .labels .now))) (s .args .line .now) (s .args .start)
+room-1 s = room-as (first-label (s .args .labels .now) (s .pre .0)) (s .pre .1)
+
+room-2 : (t : tie.In-loop Inv-loop μ-loop) →
+    let l = turn t in
+    let labels = entry (begun l) .args .labels .now in
+    RoomFor (comma ∷ (decimal (getD labels (l .loop .i) 0) ++ furtherLabels (drop (l .loop .i + 1) labels))) (l .loop .line) (l .loop .at)
+room-2 t = room-as (next-label _ _ (t .loop-test .taken)) (turn t .loop .inv .0)
 
 shared-slice-read-wide : tie.Need-shared-slice-read-wide Inv-loop μ-loop
 shared-slice-read-wide c = search needs
@@ -33,20 +84,19 @@ wide-requires c κs = tt
 
 put-decimal-requires : tie.Need-put-decimal-requires Inv-loop μ-loop
 put-decimal-requires c κs =
-    let a = c .before .before .before .before .before in
-    rw (c .wide .ensures) (room-first _ (furtherLabels (drop 1 (a .args .labels .now))) (rw (first-label (a .args .labels .now) (a .pre .0)) at (a .pre .1)))
+    let s : tie.Start Inv-loop μ-loop = search in
+    let w : tie.After-wide Inv-loop μ-loop = search in
+    room-as (ap decimal (sym (w .wide .ensures))) (room-first _ _ (room-1 s))
 
 loop-holds : tie.Need-loop-holds Inv-loop μ-loop
 loop-holds c =
-    let d = c .before .before in
-    let a = d .before .before .before .before .before .before in
-    let r = rw (first-label (a .args .labels .now) (a .pre .0)) at (a .pre .1) in
-    (room-next _ (rw (d .before .wide .ensures) at (d .put-decimal .ensures)) r, λ end after p. p)
+    let d : tie.After-put-decimal Inv-loop μ-loop = search in
+    (room-next _ (first d) (room-1 (entry d)), λ end after p. p)
 
 put-requires : tie.Need-put-requires Inv-loop μ-loop
 put-requires c κs =
-    let l = c .before .before in
-    room-first _ _ (rw (next-label _ _ (c .before .loop-test .taken)) at (l .loop .inv .0))
+    let t : tie.In-loop Inv-loop μ-loop = search in
+    room-first _ _ (room-2 t)
 
 mul-wide : tie.Need-mul-wide Inv-loop μ-loop
 mul-wide c = search needs
@@ -59,9 +109,9 @@ wide-requires-2 c κs = tt
 
 put-decimal-requires-2 : tie.Need-put-decimal-requires-2 Inv-loop μ-loop
 put-decimal-requires-2 c κs =
-    let p = c .before .before .before .before .before in
-    let l = p .before .before .before in
-    rw (c .wide2 .ensures) (room-first _ _ (room-next _ (p .put .ensures) (rw (next-label _ _ (p .before .before .loop-test .taken)) at (l .loop .inv .0))))
+    let w : tie.After-wide2 Inv-loop μ-loop = search in
+    let p : tie.After-put Inv-loop μ-loop = search in
+    room-as (ap decimal (sym (w .wide2 .ensures))) (room-first _ _ (room-next _ (p .put .ensures) (room-2 (called p))))
 
 add-i : tie.Need-add-i Inv-loop μ-loop
 add-i c = search needs
@@ -71,14 +121,13 @@ loop-less c = search needs
 
 loop-again : tie.Need-loop-again Inv-loop μ-loop
 loop-again c =
-    let d = c .before .before in
-    let p = d .before .before .before .before .before .before in
-    let l = p .before .before .before in
-    let labels = l .before .before .before .before .before .before .before .before .before .args .labels .now in
-    let e = next-label labels (l .loop .i) (p .before .before .loop-test .taken) in
-    let one = rw (d .before .wide2 .ensures) at (d .put-decimal2 .ensures) in (
-      room-next _ one (room-next _ (p .put .ensures) (rw e at (l .loop .inv .0))),
-      λ end after q. l .loop .inv .1 end after (rw e (put-then (p .put .ensures) (put-then one q))),
+    let d : tie.After-put-decimal2 Inv-loop μ-loop = search in
+    let p = spaced d in
+    let t = called p in
+    let l = turn t in
+    let e = next-label (entry (begun l) .args .labels .now) (l .loop .i) (t .loop-test .taken) in (
+      room-next _ (further d) (room-next _ (p .put .ensures) (room-2 t)),
+      λ end after q. l .loop .inv .1 end after (put-as (sym e) (put-then (p .put .ensures) (put-then (further d) q))),
     )
 
 same-length : tie.Need-same-length Inv-loop μ-loop

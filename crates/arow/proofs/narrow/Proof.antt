@@ -77,11 +77,12 @@ loop-less c = search needs
 loop-again : tie.Need-loop-again Inv-loop μ-loop
 unfolding narrowed raised ofBits ofInt
 loop-again c =
-    let l = c .before .before .before .before .before .before .before in (
+    let l : tie.At-loop Inv-loop μ-loop = search in
+    let o : tie.After-over Inv-loop μ-loop = search in (
       omega arith,
       search needs,
       search needs,
-      moved-next _ _ _ _ _ (l .loop .inv .3) (rw (c .before .over .ensures)) (c .are-finite .ensures) (finite-stored _ _ _ (search needs)) (finite-stored _ _ _ (search needs)),
+      moved-next _ _ _ _ _ (l .loop .inv .3) (rw (o .over .ensures)) (c .are-finite .ensures) (finite-stored _ _ _ (search needs)) (finite-stored _ _ _ (search needs)),
     )
 
 same-length : tie.Need-same-length Inv-loop μ-loop

@@ -1,7 +1,6 @@
-use mathlib.Core.Path.{_≡_, refl, sym, ap, _∙_}
-use mathlib.Core.Bool.{Bool, true, false, cond}
-use Prim.Native.Nat.{ℕ, _+_, _-_, _*_, _≤_, _<_}
-use native.Mathlib.Omega.{arith}
+-- `begin_and_end::average` meets its contract. Assumes nothing.
+use mathlib.Core.Path.{_≡_, sym, ap, _∙_}
+use mathlib.Core.Bool.{Bool, cond}
 use borrow.Author.Needs.{needs}
 use mathlib.Core.List.{List}
 use lib.Ieee.{Float}
@@ -10,11 +9,6 @@ use Rattle.training.specs.Rules.{averagedAt, averagedBy}
 use Rattle.parameters.specs.Trainers.{ruleOf}
 use Rattle.begin_and_end.proofs.average.Statement.{statement}
 use Rattle.begin_and_end.proofs.average.Tie as tie
-use Rattle.begin_and_end.proofs.average.Reads as reads
-use Rattle.begin_and_end.proofs.average.Lts as lts
-use Rattle.begin_and_end.proofs.is_averaging.Reads as is-averaging-reads
-use Rattle.fronts.proofs.all_finite.Reads as all-finite-reads
-use Rattle.training_tables.proofs.average.Reads as average-reads
 
 -- averaged or not
 abbrev choice : tie.Start → Bool → List Float
@@ -22,7 +16,10 @@ choice s b =
     let a = s .args in
     cond b (through (averagedAt (a .counter) (a .beside .now)) 0 (a .features) (a .weights .now)) (a .weights .now)
 
-picked : (a : tie.After-is-averaging) → let g = a .before .before .before .args in averagedBy (ruleOf (g .trainer)) (g .features) (g .counter) (record { weights = g .weights .now; beside = g .beside .now }) ≡ choice (a .before .before .before) (a .is-averaging .result)
+abbrev entry : tie.After-is-averaging → tie.Start
+entry a = search
+
+picked : (a : tie.After-is-averaging) → let g = entry a .args in averagedBy (ruleOf (g .trainer)) (g .features) (g .counter) (record { weights = g .weights .now; beside = g .beside .now }) ≡ choice (entry a) (a .is-averaging .result)
 picked a = a .is-averaging .ensures _ _ _
 
 is-averaging-requires : tie.Need-is-averaging-requires
@@ -36,8 +33,11 @@ same-length c = search needs
 
 returns : tie.Need-returns
 returns c =
-    let a = c .before .before .average .ensures in
-    record { weights = a .weights ∙ sym (picked (c .before .before .before .before .before) ∙ ap (choice (c .before .before .before .before .before .before .before .before)) (c .before .before .before .before .if1 .taken)); finite = a .finite }
+    let m : tie.After-average = search in
+    let t : tie.Then1 = search in
+    let a : tie.After-is-averaging = search in
+    let made = m .average .ensures in
+    record { weights = made .weights ∙ sym (picked a ∙ ap (choice (entry a)) (t .if1 .taken)); finite = made .finite }
 
 all-finite-requires : tie.Need-all-finite-requires
 all-finite-requires c κs = search needs
@@ -46,7 +46,10 @@ same-length-2 : tie.Need-same-length-2
 same-length-2 c = search needs
 
 returns-2 : tie.Need-returns-2
-returns-2 c = record { weights = sym (picked (c .before .before .before) ∙ ap (choice (c .before .before .before .before .before .before)) (c .before .before .if1 .left)); finite = c .all-finite .ensures }
+returns-2 c =
+    let e : tie.Else1 = search in
+    let a : tie.After-is-averaging = search in
+    record { weights = sym (picked a ∙ ap (choice (entry a)) (e .if1 .left)); finite = c .all-finite .ensures }
 
 pub average-spec : {M : Type 1} → statement M
 average-spec =

@@ -1,18 +1,21 @@
-use mathlib.Core.Path.{_≡_, refl, sym, ap, _∙_}
-use mathlib.Core.Bool.{true, false}
-use Prim.Native.Nat.{ℕ, _+_, _-_, _*_, _≤_, _<_}
-use native.Mathlib.Omega.{arith}
+-- `begin_and_end::begin` meets its contract. Assumes nothing.
+use mathlib.Core.Path.{ap, _∙_}
 use borrow.Author.Needs.{needs}
 use lib.ListN.{replicate}
 use lib.Ieee.{Float, ofBits}
 use Rattle.fronts.proofs.Filled.{all-of}
 use Rattle.begin_and_end.proofs.begin.Statement.{statement}
 use Rattle.begin_and_end.proofs.begin.Tie as tie
-use Rattle.begin_and_end.proofs.begin.Reads as reads
-use Rattle.begin_and_end.proofs.begin.Lts as lts
-use Rattle.begin_and_end.proofs.first_beside.Reads as first-beside-reads
-use Rattle.training_tables.proofs.count_up.Reads as count-up-reads
-use Rattle.fronts.proofs.fill.Reads as fill-reads
+
+-- the places that facts are taken from, each found from the one after it
+abbrev entry : tie.After-count-up → tie.Start
+entry c = search
+
+abbrev ordered : tie.After-fill → tie.After-count-up
+ordered c = search
+
+abbrev weighted : tie.After-first-beside → tie.After-fill
+weighted c = search
 
 cast-count-up : tie.Need-cast-count-up
 cast-count-up c = search needs
@@ -41,11 +44,15 @@ same-length-3 c = search needs
 returns : tie.Need-returns
 unfolding ofBits
 returns c =
-    let s = c .before .before .before .before .before .before .before .before .before .before .before .before .before .before .before .before in
+    let b : tie.After-fill2 = search in
+    let v : tie.After-first-beside = search in
+    let w = weighted v in
+    let o = ordered w in
+    let s = entry o in
     record {
-      order-is = c .before .before .before .before .before .before .before .before .before .before .before .count-up .ensures ∙ all-of _ _ _ (s .pre .1);
-      weights-are = c .before .before .before .before .before .before .before .fill .ensures ∙ all-of _ _ _ (s .pre .2);
-      beside-is = c .before .before .fill2 .ensures ∙ all-of _ _ _ (s .pre .3) ∙ ap (λ (x : Float). replicate (s .args .features) x) (c .before .before .before .first-beside .ensures);
+      order-is = o .count-up .ensures ∙ all-of _ _ _ (s .pre .1);
+      weights-are = w .fill .ensures ∙ all-of _ _ _ (s .pre .2);
+      beside-is = b .fill2 .ensures ∙ all-of _ _ _ (s .pre .3) ∙ ap (λ (x : Float). replicate (s .args .features) x) (v .first-beside .ensures);
     }
 
 pub begin-spec : {M : Type 1} → statement M

@@ -1,5 +1,5 @@
 -- `begin_and_end::conclude` meets its contract: a visit that was refused, the averaged weights, or 9 for the averaging. Assumes nothing.
-use mathlib.Core.Path.{_≡_, _∙_, sym}
+use mathlib.Core.Path.{_∙_}
 use Prim.Native.Nat.{_+_}
 use native.Mathlib.Omega.{arith}
 use borrow.Author.Needs.{needs}

@@ -1,14 +1,9 @@
-use mathlib.Core.Path.{_≡_, refl, sym, ap, _∙_}
-use mathlib.Core.Bool.{true, false}
-use Prim.Native.Nat.{ℕ, _+_, _-_, _*_, _≤_, _<_}
-use native.Mathlib.Omega.{arith}
+-- `begin_and_end::first_beside` meets its contract, trainer by trainer. Assumes nothing.
 use borrow.Author.Needs.{needs}
 use lib.Ieee.{ofBits}
 use Rattle.training.specs.Rules.{besideAtFirst}
 use Rattle.begin_and_end.proofs.first_beside.Statement.{statement}
 use Rattle.begin_and_end.proofs.first_beside.Tie as tie
-use Rattle.begin_and_end.proofs.first_beside.Reads as reads
-use Rattle.begin_and_end.proofs.first_beside.Lts as lts
 
 enum-told : tie.Need-enum-told
 enum-told c = search needs

@@ -1,13 +1,8 @@
-use mathlib.Core.Path.{_≡_, refl, sym, ap, _∙_}
-use mathlib.Core.Bool.{true, false}
-use Prim.Native.Nat.{ℕ, _+_, _-_, _*_, _≤_, _<_}
-use native.Mathlib.Omega.{arith}
+-- `begin_and_end::is_averaging` meets its contract, trainer by trainer. Assumes nothing.
 use borrow.Author.Needs.{needs}
 use Rattle.training.specs.Rules.{averagedBy}
 use Rattle.begin_and_end.proofs.is_averaging.Statement.{statement}
 use Rattle.begin_and_end.proofs.is_averaging.Tie as tie
-use Rattle.begin_and_end.proofs.is_averaging.Reads as reads
-use Rattle.begin_and_end.proofs.is_averaging.Lts as lts
 
 enum-told : tie.Need-enum-told
 enum-told c = search needs

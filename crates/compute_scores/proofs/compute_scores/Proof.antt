@@ -1,8 +1,10 @@
 -- `compute_scores::compute_scores` keeps its promise. Assumes nothing.
 use mathlib.Core.Path.{_≡_, sym, _∙_}
+use native.Mathlib.Omega.{arith}
 use borrow.Author.Needs.{needs}
 use Rattle.refusals.specs.declared.Checked.the-variants.{Accepted}
 use Rattle.feature_gen.specs.Lent.{modelOf}
+use Rattle.line_check.specs.Sound.{SoundScoring}
 use Rattle.line_check.proofs.Meant.{scoring-sound}
 use Rattle.compute_scores.specs.Promise.{Given, Buffers, scoringOf, checkedOf}
 use Rattle.compute_scores.proofs.Kept.{sized, refused-kept, made-kept}
@@ -24,10 +26,19 @@ abbrev lent : tie.Start → Buffers
 lent s = record { transitions = s .args .transitions .now; states = s .args .states .now }
 
 abbrev start : tie.After-enum-told → tie.Start
-start c = c .before .before .before .before .before .before .before .before .before .before .before .before .before .before .before .before
+start c = search
+
+abbrev told : tie.After-fill-scores → tie.After-enum-told
+told c = search
+
+abbrev filled : tie.After-finish-scores → tie.After-fill-scores
+filled c = search
 
 accepted : (c : tie.After-enum-told) → checkedOf (given (start c)) (lent (start c)) ≡ Accepted
 accepted c = sym (c .before .before .check-scoring .ensures) ∙ c .enum-told .given .1
+
+sound : (c : tie.After-enum-told) → SoundScoring (scoringOf (given (start c)) (lent (start c)))
+sound c = scoring-sound (scoringOf (given (start c)) (lent (start c))) (accepted c)
 
 check-scoring-requires : tie.Need-check-scoring-requires
 check-scoring-requires c κs = search needs
@@ -55,15 +66,13 @@ enum-told : tie.Need-enum-told
 enum-told c = search needs
 
 fill-scores-requires : tie.Need-fill-scores-requires
-fill-scores-requires c κs = let t = c .before .before in scoring-sound (scoringOf (given (start t)) (lent (start t))) (accepted t)
+fill-scores-requires c κs = let t : tie.After-enum-told = search in sound t
 
 finish-scores-requires : tie.Need-finish-scores-requires
 finish-scores-requires c κs =
-    let f = c .before .before .before .before .before .before in
-    let t = f .before .before .before in
-    sized (given (start t)) (lent (start t)) (scoring-sound (scoringOf (given (start t)) (lent (start t))) (accepted t)) _ _
-    (f .fill-scores .kept .1 .1 .1 .1 .1 .1 .1 .1 .1 .1 .1 .1 .1 .1 .1 .1 .0)
-    (f .fill-scores .kept .1 .1 .1 .1 .1 .1 .1 .1 .1 .1 .1 .1 .1 .1 .1 .0)
+    let f : tie.After-fill-scores = search in
+    let t = told f in
+    sized (given (start t)) (lent (start t)) (sound t) _ _ (omega (arith, f .fill-scores .kept)) (omega (arith, f .fill-scores .kept))
 
 same-length-3 : tie.Need-same-length-3
 same-length-3 c = search needs
@@ -73,9 +82,9 @@ same-length-4 c = search needs
 
 returns-2 : tie.Need-returns-2
 returns-2 c =
-    let e = c .before .before .before .before in
-    let f = e .before .before .before .before .before .before .before in
-    let t = f .before .before .before in
+    let e : tie.After-finish-scores = search in
+    let f = filled e in
+    let t = told f in
     made-kept (given (start t)) (lent (start t)) (accepted t) (f .fill-scores .ensures .1) (f .fill-scores .ensures .0) (e .finish-scores .ensures .0) (e .finish-scores .ensures .1 .1) (e .finish-scores .ensures .1 .0)
 
 pub compute-scores-spec : {M : Type 1} → statement M

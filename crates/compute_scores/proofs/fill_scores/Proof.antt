@@ -6,8 +6,9 @@ use Rattle.finished.proofs.Laws.{from-first}
 use Rattle.compute_scores.proofs.fill_scores.Statement.{statement}
 use Rattle.compute_scores.proofs.fill_scores.Tie as tie
 
-abbrev start : tie.After-slice-known → tie.Start
-start c = c .before .before .before .before .before .before .before .before .before .before .before .before
+-- where facts are taken from: the call of `score_line`, and what stands before it
+abbrev start : tie.After-score-line → tie.Start
+start c = search
 
 abbrev model : tie.Start → Model
 model s =
@@ -22,7 +23,8 @@ cast-score-line c = search needs
 
 score-line-requires : tie.Need-score-line-requires
 score-line-requires c κs =
-    let s = start (c .before .before .before .before) .pre in
+    let b : tie.Start = search in
+    let s = b .pre in
     (s .model .transitions .states, (s .model .sound .attribute-lists, (from-first _ _ _ _ (s .line .words), s .fits .states)))
 
 cast-score-transitions : tie.Need-cast-score-transitions
@@ -30,7 +32,8 @@ cast-score-transitions c = search needs
 
 score-transitions-requires : tie.Need-score-transitions-requires
 score-transitions-requires c κs =
-    let s = start (c .before .before .before .before .before .before .before .before .before) .pre in
+    let l : tie.After-score-line = search in
+    let s = start l .pre in
     (s .model .transitions, (s .model .sound .label-lists, s .fits .transitions))
 
 same-length : tie.Need-same-length
@@ -41,8 +44,8 @@ same-length-2 c = search needs
 
 returns : tie.Need-returns
 returns c =
-    let l = c .before .before .before .before .before .before .before in
-    let s = start (l .before .before .before .before .before) in
+    let l : tie.After-score-line = search in
+    let s = start l in
     (c .before .before .score-transitions .ensures (model s), l .score-line .ensures (model s) (s .args .attributes))
 
 pub fill-scores-spec : {M : Type 1} → statement M

@@ -3,11 +3,12 @@ use mathlib.Core.Path.{_≡_, refl}
 use mathlib.Core.Bool.{false}
 use Prim.Native.Nat.{_-_, _*_, _≤_, _<_}
 use native.Mathlib.Omega.{arith}
-use borrow.Author.Needs.{needs}
 use lib.ListN.{length}
 use lib.Ieee.{ofBits}
+use Rattle.refusals.specs.Bounds.{theInstances, most}
 use Rattle.lines.specs.Passes.{through}
 use Rattle.lines.proofs.Laws.{through-none}
+use Rattle.training.specs.Counter.{mostVisits}
 use Rattle.training.specs.Rules.{stops}
 use Rattle.training.specs.Visits.{visited}
 use Rattle.training.specs.Epochs.{Run, epochUnlessOver}
@@ -25,7 +26,7 @@ Inv-loop trainer sizes kinds destinations sources starts entries label-starts la
     (e ≤ allowed)
     × (length order ≡ length order₀)
     × Exact (sizes .features) weights beside truly predicted
-    × (progress .visits ≤ e * 16384)
+    × (progress .visits ≤ e * most theInstances)
     × (progress .updates ≤ progress .visits)
     × OrderOf (sizes .instances) order
     × (_≡_ {A = Run} (record { state = stateOf progress weights beside; deal = record { state = g; order = order }; epochs = e; over = false }) (through (epochUnlessOver (visited (ruleOf trainer) (modelOf sizes kinds destinations sources starts entries label-starts label-entries) (dataOf sizes lines begins ids values references shares)) (stops (ruleOf trainer) epsilon) (sizes .instances)) 0 e (record { state = stateOf progress₀ weights₀ beside₀; deal = record { state = seed; order = order₀ }; epochs = 0; over = false })))
@@ -47,22 +48,22 @@ shuffled c = search
 under : (q : tie.After-deal Inv-loop μ-loop) → let l = turn q in l .loop .e < entry l .args .allowed
 under q = let t : tie.In-loop Inv-loop μ-loop = search in t .loop-test .taken
 
-bound : (k : tie.After-epoch Inv-loop μ-loop) → k .epoch .result .visits ≤ 16384000
+bound : (k : tie.After-epoch Inv-loop μ-loop) → k .epoch .result .visits ≤ mostVisits
 bound k =
     let q = shuffled k in
     let l = turn q in
     let s = entry l in
-    omega (arith, l .loop .inv .3, k .epoch .ensures .1 .visits, under q, s .pre .1 .1 .1 .0, s .pre .1 .0 .few)
+    omega (arith, l .loop .inv .3, k .epoch .ensures .1 .visits, under q, s .pre .few, s .pre .corpus .few)
 
 loop-holds : tie.Need-loop-holds Inv-loop μ-loop
 loop-holds c =
     let s : tie.Start Inv-loop μ-loop = search in
-    (omega arith, refl, s .pre .1 .1 .0, omega arith, omega arith, s .pre .1 .1 .1 .1, through-none _ _ _)
+    (omega arith, refl, s .pre .exact, omega arith, omega arith, s .pre .ordered, through-none _ _ _)
 
 deal-requires : tie.Need-deal-requires Inv-loop μ-loop
 deal-requires c κs =
     let l : tie.At-loop Inv-loop μ-loop = search in
-    let d = entry l .pre .1 .0 in
+    let d = entry l .pre .corpus in
     (d .some, d .few, l .loop .inv .5 .long)
 
 -- a shuffled order goes through the same instances
@@ -73,18 +74,26 @@ epoch-requires c κs =
     let s = entry l in
     let i = l .loop .inv in
     let o = dealt-keeps _ _ _ (q .deal .ensures) (i .5) in
-    (s .pre .0, (s .pre .1 .0, (i .2, record { long = o .long; among = places-below _ _ o; room = omega (arith, i .3, under q, s .pre .1 .1 .1 .0, s .pre .1 .0 .few); updates = i .4 })))
+    record {
+      model = s .pre .model;
+      corpus = s .pre .corpus;
+      exact = i .2;
+      long = o .long;
+      among = places-below _ _ o;
+      room = omega (arith, i .3, under q, s .pre .few, s .pre .corpus .few);
+      updates = i .4;
+    }
 
 add-e : tie.Need-add-e Inv-loop μ-loop
 add-e c =
     let k : tie.After-epoch Inv-loop μ-loop = search in
     let q = shuffled k in
-    omega (arith, under q, entry (turn q) .pre .1 .1 .1 .0)
+    omega (arith, under q, entry (turn q) .pre .few)
 
 ends-requires : tie.Need-ends-requires Inv-loop μ-loop
 ends-requires c κs =
     let k : tie.After-epoch Inv-loop μ-loop = search in
-    entry (turn (shuffled k)) .pre .1 .0 .few
+    entry (turn (shuffled k)) .pre .corpus .few
 
 -- the tables keep their lengths
 same-length : tie.Need-same-length Inv-loop μ-loop
@@ -97,25 +106,25 @@ same-length-2 : tie.Need-same-length-2 Inv-loop μ-loop
 same-length-2 c =
     let k : tie.After-epoch Inv-loop μ-loop = search in
     let l = turn (shuffled k) in
-    omega (arith, k .epoch .kept, l .loop .inv .2, entry l .pre .1 .1 .0)
+    omega (arith, k .epoch .kept, l .loop .inv .2, entry l .pre .exact)
 
 same-length-3 : tie.Need-same-length-3 Inv-loop μ-loop
 same-length-3 c =
     let k : tie.After-epoch Inv-loop μ-loop = search in
     let l = turn (shuffled k) in
-    omega (arith, k .epoch .kept, l .loop .inv .2, entry l .pre .1 .1 .0)
+    omega (arith, k .epoch .kept, l .loop .inv .2, entry l .pre .exact)
 
 same-length-4 : tie.Need-same-length-4 Inv-loop μ-loop
 same-length-4 c =
     let k : tie.After-epoch Inv-loop μ-loop = search in
     let l = turn (shuffled k) in
-    omega (arith, k .epoch .kept, l .loop .inv .2, entry l .pre .1 .1 .0)
+    omega (arith, k .epoch .kept, l .loop .inv .2, entry l .pre .exact)
 
 same-length-5 : tie.Need-same-length-5 Inv-loop μ-loop
 same-length-5 c =
     let k : tie.After-epoch Inv-loop μ-loop = search in
     let l = turn (shuffled k) in
-    omega (arith, k .epoch .kept, l .loop .inv .2, entry l .pre .1 .1 .0)
+    omega (arith, k .epoch .kept, l .loop .inv .2, entry l .pre .exact)
 
 returns : tie.Need-returns Inv-loop μ-loop
 unfolding ofBits
@@ -143,7 +152,7 @@ loop-again c =
       omega (arith, under q),
       omega (arith, q .deal .kept, i .1),
       record { weights-long = omega (arith, w, i .2); beside-long = omega (arith, w, i .2); truly-long = omega (arith, w, i .2); predicted-long = omega (arith, w, i .2) },
-      omega (arith, i .3, made .1 .visits, entry l .pre .1 .0 .few),
+      omega (arith, i .3, made .1 .visits, entry l .pre .corpus .few),
       made .1 .updates,
       dealt-keeps _ _ _ (q .deal .ensures) (i .5),
       run-on _ _ _ _ (l .loop .e) (i .6) (q .deal .ensures) (made .0) (n .ends .ensures) (c .if1 .left),
@@ -157,29 +166,29 @@ same-length-6 c =
 same-length-7 : tie.Need-same-length-7 Inv-loop μ-loop
 same-length-7 c =
     let l : tie.At-loop Inv-loop μ-loop = search in
-    omega (arith, l .loop .inv .2, entry l .pre .1 .1 .0)
+    omega (arith, l .loop .inv .2, entry l .pre .exact)
 
 same-length-8 : tie.Need-same-length-8 Inv-loop μ-loop
 same-length-8 c =
     let l : tie.At-loop Inv-loop μ-loop = search in
-    omega (arith, l .loop .inv .2, entry l .pre .1 .1 .0)
+    omega (arith, l .loop .inv .2, entry l .pre .exact)
 
 same-length-9 : tie.Need-same-length-9 Inv-loop μ-loop
 same-length-9 c =
     let l : tie.At-loop Inv-loop μ-loop = search in
-    omega (arith, l .loop .inv .2, entry l .pre .1 .1 .0)
+    omega (arith, l .loop .inv .2, entry l .pre .exact)
 
 same-length-10 : tie.Need-same-length-10 Inv-loop μ-loop
 same-length-10 c =
     let l : tie.At-loop Inv-loop μ-loop = search in
-    omega (arith, l .loop .inv .2, entry l .pre .1 .1 .0)
+    omega (arith, l .loop .inv .2, entry l .pre .exact)
 
 returns-2 : tie.Need-returns-2 Inv-loop μ-loop
 unfolding ofBits
 returns-2 c =
     let l : tie.At-loop Inv-loop μ-loop = search in
     let i = l .loop .inv in
-    all-run _ _ _ _ (l .loop .e) _ (stateOf (l .loop .progress) (l .loop .weights) (l .loop .beside)) (record { state = l .loop .g; order = l .loop .order }) (i .0) (c .loop-test .left) (omega (arith, i .3, i .0, entry l .pre .1 .1 .1 .0)) (i .6)
+    all-run _ _ _ _ (l .loop .e) _ (stateOf (l .loop .progress) (l .loop .weights) (l .loop .beside)) (record { state = l .loop .g; order = l .loop .order }) (i .0) (c .loop-test .left) (omega (arith, i .3, i .0, entry l .pre .few)) (i .6)
 
 pub run-spec : {M : Type 1} → statement M
 run-spec =

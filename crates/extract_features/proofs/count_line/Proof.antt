@@ -7,22 +7,28 @@ use Rattle.extract_features.proofs.count_line.Statement.{statement}
 use Rattle.extract_features.proofs.count_line.Tie as tie
 
 abbrev start : tie.After-fill → tie.Start
-start k = k .before .before .before .before .before .before .before .before .before .before .before .before .before .before
+start k = search
+
+abbrev cleared : tie.After-count-words → tie.After-fill
+cleared w = search
+
+abbrev worded : tie.After-count-transitions → tie.After-count-words
+worded t = search
 
 fill-requires : tie.Need-fill-requires
 fill-requires c κs = search needs
 
 count-words-requires : tie.Need-count-words-requires
 count-words-requires c κs =
-    let k = c .before .before .before in
+    let k : tie.After-fill = search in
     let p = start k .pre in
     let q = p .1 .1 .1 .1 in
     (p .0, (p .1 .1 .0, (q .0, (q .1 .0, omega (arith, q .1 .1, k .fill .kept)))))
 
 count-transitions-requires : tie.Need-count-transitions-requires
 count-transitions-requires c κs =
-    let w = c .before .before .before in
-    let k = w .before .before .before .before in
+    let w : tie.After-count-words = search in
+    let k = cleared w in
     let p = start k .pre in
     let q = p .1 .1 .1 .1 in
     (p .0, (p .1 .0, (p .1 .1 .1 .0, (q .1 .0, omega (arith, q .1 .1, k .fill .kept, w .count-words .kept)))))
@@ -34,9 +40,9 @@ returns : tie.Need-returns
 unfolding ofBits
 returns c =
     λ rest size.
-    let t = c .before .before in
-    let w = t .before .before .before .before in
-    let k = w .before .before .before .before in
+    let t : tie.After-count-transitions = search in
+    let w = worded t in
+    let k = cleared w in
     let p = start k .pre in
     line-end _ _ _ _ _ _ (p .1 .1 .0) (p .1 .1 .1 .0) (k .fill .ensures) (w .count-words .ensures) (t .count-transitions .ensures)
 

@@ -24,7 +24,13 @@ given s =
     }
 
 abbrev start : tie.After-enum-told → tie.Start
-start c = c .before .before .before .before .before .before .before .before .before .before .before .before .before .before .before .before
+start c = search
+
+abbrev told : tie.After-count-line → tie.After-enum-told
+told c = search
+
+abbrev counted : tie.After-finish-counts → tie.After-count-line
+counted c = search
 
 accepted : (c : tie.After-enum-told) → checkedOf (given (start c)) (start c .args .amounts .now) ≡ Accepted
 accepted c = sym (c .before .before .check-counting .ensures) ∙ c .enum-told .given .1
@@ -64,22 +70,23 @@ cast-count-line-2 c = search needs
 
 count-line-requires : tie.Need-count-line-requires
 count-line-requires c κs =
-    let s = sound (c .before .before .before) in
+    let t : tie.After-enum-told = search in
+    let s = sound t in
     (s .model .counts, (s .model .sized .sources, (s .model .attribute-lists, (s .model .label-lists, (from-first _ _ _ _ (s .line .words), (s .fits .path, s .fits .features))))))
 
 finish-counts-requires : tie.Need-finish-counts-requires
 finish-counts-requires c κs =
-    let f = c .before .before .before in
-    omega (arith, f .count-line .kept .1 .1 .1 .1 .1 .1 .1 .1 .1 .1 .1 .1 .1 .1 .1 .1 .0, sound (f .before .before .before .before) .fits .features)
+    let f : tie.After-count-line = search in
+    omega (arith, f .count-line .kept, sound (told f) .fits .features)
 
 same-length-2 : tie.Need-same-length-2
 same-length-2 c = search needs
 
 returns-2 : tie.Need-returns-2
 returns-2 c =
-    let e = c .before .before in
-    let f = e .before .before .before .before in
-    let t = f .before .before .before .before in
+    let e : tie.After-finish-counts = search in
+    let f = counted e in
+    let t = told f in
     let g = given (start t) in
     made-kept g (start t .args .amounts .now) (accepted t) (f .count-line .ensures (g .model) (g .line .size)) (e .finish-counts .ensures .0) (e .finish-counts .ensures .1)
 

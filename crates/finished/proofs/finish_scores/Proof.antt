@@ -7,8 +7,12 @@ use Rattle.finished.proofs.Laws.{cleared-to}
 use Rattle.finished.proofs.finish_scores.Statement.{statement}
 use Rattle.finished.proofs.finish_scores.Tie as tie
 
+-- where facts are taken from
+abbrev entry : tie.After-check-scores → tie.Start
+entry c = search
+
 check-scores-requires : tie.Need-check-scores-requires
-check-scores-requires c κs = c .before .before .before .before .pre
+check-scores-requires c κs = let s : tie.Start = search in s .pre
 
 enum-known-finished : tie.Need-enum-known-finished
 enum-known-finished c = search needs
@@ -18,15 +22,16 @@ entries-requires c κs = search needs
 
 fill-requires : tie.Need-fill-requires
 fill-requires c κs =
-    omega (arith, c .entries .ensures, c .before .before .before .before .before .before .before .before .before .before .pre .room .long-states)
+    let k : tie.After-check-scores = search in
+    omega (arith, c .entries .ensures, entry k .pre .room .long-states)
 
 entries-requires-2 : tie.Need-entries-requires-2
 entries-requires-2 c κs = search needs
 
 fill-requires-2 : tie.Need-fill-requires-2
 fill-requires-2 c κs =
-    let s = c .before .before .before .before .before in
-    omega (arith, c .entries2 .ensures, s .before .before .before .before .before .before .before .before .before .before .pre .room .long-transitions)
+    let k : tie.After-check-scores = search in
+    omega (arith, c .entries2 .ensures, entry k .pre .room .long-transitions)
 
 same-length : tie.Need-same-length
 same-length c = search needs
@@ -37,11 +42,14 @@ same-length-2 c = search needs
 returns : tie.Need-returns
 unfolding ofBits
 returns c =
-    let t = c .before .before in
-    let s = t .before .before .before .before .before in
-    let f = s .before .before .before .before in (
-      sym (f .finished .given .1) ∙ f .before .before .check-scores .ensures,
-      (cleared-to _ _ (t .before .entries2 .ensures) (t .fill2 .ensures), cleared-to _ _ (s .before .entries .ensures) (s .fill .ensures)),
+    let t : tie.After-fill2 = search in
+    let m : tie.After-entries2 = search in
+    let s : tie.After-fill = search in
+    let n : tie.After-entries = search in
+    let f : tie.After-finished = search in
+    let k : tie.After-check-scores = search in (
+      sym (f .finished .given .1) ∙ k .check-scores .ensures,
+      (cleared-to _ _ (m .entries2 .ensures) (t .fill2 .ensures), cleared-to _ _ (n .entries .ensures) (s .fill .ensures)),
     )
 
 enum-told : tie.Need-enum-told

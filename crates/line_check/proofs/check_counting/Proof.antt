@@ -1,51 +1,85 @@
--- `line_check::check_counting` meets its contract: where the sizes are accepted, every table has room for its test. Assumes nothing.
-use mathlib.Core.Path.{sym, _∙_}
+-- `line_check::check_counting` meets its contract. Assumes nothing.
+use mathlib.Core.Path.{_∙_, ap}
+use mathlib.Core.Bool.{Bool}
 use borrow.Author.Needs.{needs}
-use Rattle.line_check.proofs.Laws.{counting-stopped, counting-fits, counting-answered}
+use Rattle.refusals.specs.declared.Checked.the-variants.{Accepted}
+use Rattle.refusals.specs.Refusals.{refuse, orNext}
+use Rattle.line_check.proofs.Laws.{counting-answered}
 use Rattle.line_check.proofs.check_counting.Statement.{statement}
 use Rattle.line_check.proofs.check_counting.Tie as tie
 
-counting-sizes-requires : tie.Need-counting-sizes-requires
-counting-sizes-requires c κs = search needs
+-- the places that facts are taken from, each found from the one after it
+abbrev labelled : tie.After-check-labels → tie.After-sooner
+labelled c = search
 
-enum-known-sizes : tie.Need-enum-known-sizes
-enum-known-sizes c = search needs
+abbrev lined : tie.After-sooner → tie.After-check-line
+lined c = search
+
+abbrev modelled : tie.After-check-line → tie.After-check-tables
+modelled c = search
+
+abbrev bounded : tie.After-check-tables → tie.After-check-bounds
+bounded c = search
+
+check-bounds-requires : tie.Need-check-bounds-requires
+check-bounds-requires c κs = search needs
+
+check-tables-requires : tie.Need-check-tables-requires
+check-tables-requires c κs = search needs
+
+check-line-requires : tie.Need-check-line-requires
+check-line-requires c κs = search needs
+
+sooner-requires : tie.Need-sooner-requires
+sooner-requires c κs = search needs
+
+check-labels-requires : tie.Need-check-labels-requires
+check-labels-requires c κs = search needs
+
+sooner-requires-2 : tie.Need-sooner-requires-2
+sooner-requires-2 c κs = search needs
+
+cast-is-short : tie.Need-cast-is-short
+cast-is-short c = search needs
+
+is-short-requires : tie.Need-is-short-requires
+is-short-requires c κs = search needs
+
+refuse-if-requires : tie.Need-refuse-if-requires
+refuse-if-requires c κs = search needs
+
+sooner-requires-3 : tie.Need-sooner-requires-3
+sooner-requires-3 c κs = search needs
+
+or-next-requires : tie.Need-or-next-requires
+or-next-requires c κs = search needs
 
 returns : tie.Need-returns
-returns c = counting-stopped _ _ (sym (c .before .before .before .counting-sizes .ensures) ∙ c .before .sizes .given .1)
-
-enum-told : tie.Need-enum-told
-enum-told c = search needs
-
-check-lists-requires : tie.Need-check-lists-requires
-check-lists-requires c κs =
-    let f = counting-fits _ _ (c .before .before .counting-sizes .ensures) (c .enum-told .given .1) in
-    (f .model, f .line .starts)
-
-check-ids-requires : tie.Need-check-ids-requires
-check-ids-requires c κs =
-    let e = c .before in
-    counting-fits _ _ (e .before .before .counting-sizes .ensures) (e .enum-told .given .1) .path
-
-check-numbers-requires : tie.Need-check-numbers-requires
-check-numbers-requires c κs =
-    let e = c .before .before in
-    counting-fits _ _ (e .before .before .counting-sizes .ensures) (e .enum-told .given .1) .line .values
-
-returns-2 : tie.Need-returns-2
-returns-2 c =
-    let l = c .before .before in
-    counting-answered _ (l .before .before .before .counting-sizes .ensures) (l .check-lists .ensures) (c .before .check-ids .ensures) (c .check-numbers .ensures)
+returns c =
+    let a : tie.After-sooner3 = search in
+    let z : tie.After-refuse-if = search in
+    let s : tie.After-is-short = search in
+    let q : tie.After-sooner2 = search in
+    let p : tie.After-check-labels = search in
+    let t = labelled p in
+    let l = lined t in
+    let m = modelled l in
+    let b = bounded m in
+    counting-answered _ (b .check-bounds .ensures) (m .check-tables .ensures) (l .check-line .ensures) (t .sooner .ensures) (p .check-labels .ensures) (q .sooner2 .ensures) (z .refuse-if .ensures ∙ ap (λ (t : Bool). orNext Accepted (refuse 2 0 t)) (s .is-short .ensures)) (a .sooner3 .ensures) (c .or-next .ensures)
 
 pub check-counting-spec : {M : Type 1} → statement M
 check-counting-spec =
     tie.close
     (tie.spec
-    counting-sizes-requires
-    enum-known-sizes
-    returns
-    enum-told
-    check-lists-requires
-    check-ids-requires
-    check-numbers-requires
-    returns-2)
+    check-bounds-requires
+    check-tables-requires
+    check-line-requires
+    sooner-requires
+    check-labels-requires
+    sooner-requires-2
+    cast-is-short
+    is-short-requires
+    refuse-if-requires
+    sooner-requires-3
+    or-next-requires
+    returns)

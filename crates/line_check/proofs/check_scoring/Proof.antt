@@ -1,55 +1,58 @@
--- `line_check::check_scoring` meets its contract: where the sizes are accepted, every table has room for its test. Assumes nothing.
-use mathlib.Core.Path.{sym, _∙_}
+-- `line_check::check_scoring` meets its contract. Assumes nothing.
+use mathlib.Core.Path.{_∙_, ap}
+use mathlib.Core.Bool.{Bool}
 use borrow.Author.Needs.{needs}
-use Rattle.line_check.proofs.Laws.{scoring-stopped, scoring-fits, scoring-answered}
+use Rattle.refusals.specs.declared.Checked.the-variants.{Accepted}
+use Rattle.refusals.specs.Refusals.{refuse, orNext}
+use Rattle.line_check.proofs.Laws.{scoring-answered}
 use Rattle.line_check.proofs.check_scoring.Statement.{statement}
 use Rattle.line_check.proofs.check_scoring.Tie as tie
 
-scoring-sizes-requires : tie.Need-scoring-sizes-requires
-scoring-sizes-requires c κs = search needs
+check-bounds-requires : tie.Need-check-bounds-requires
+check-bounds-requires c κs = search needs
 
-enum-known-sizes : tie.Need-enum-known-sizes
-enum-known-sizes c = search needs
+check-weighted-requires : tie.Need-check-weighted-requires
+check-weighted-requires c κs = search needs
+
+check-line-requires : tie.Need-check-line-requires
+check-line-requires c κs = search needs
+
+sooner-requires : tie.Need-sooner-requires
+sooner-requires c κs = search needs
+
+lacks-scores-requires : tie.Need-lacks-scores-requires
+lacks-scores-requires c κs = search needs
+
+refuse-if-requires : tie.Need-refuse-if-requires
+refuse-if-requires c κs = search needs
+
+sooner-requires-2 : tie.Need-sooner-requires-2
+sooner-requires-2 c κs = search needs
+
+or-next-requires : tie.Need-or-next-requires
+or-next-requires c κs = search needs
 
 returns : tie.Need-returns
-returns c = scoring-stopped _ _ (sym (c .before .before .before .scoring-sizes .ensures) ∙ c .before .sizes .given .1)
-
-enum-told : tie.Need-enum-told
-enum-told c = search needs
-
-check-lists-requires : tie.Need-check-lists-requires
-check-lists-requires c κs =
-    let f = scoring-fits _ _ (c .before .before .scoring-sizes .ensures) (c .enum-told .given .1) in
-    (f .model, f .line .starts)
-
-cast-check-numbers : tie.Need-cast-check-numbers
-cast-check-numbers c = search needs
-
-check-numbers-requires : tie.Need-check-numbers-requires
-check-numbers-requires c κs =
-    let e = c .before .before in
-    scoring-fits _ _ (e .before .before .scoring-sizes .ensures) (e .enum-told .given .1) .weights
-
-check-numbers-requires-2 : tie.Need-check-numbers-requires-2
-check-numbers-requires-2 c κs =
-    let e = c .before .before .before in
-    scoring-fits _ _ (e .before .before .scoring-sizes .ensures) (e .enum-told .given .1) .line .values
-
-returns-2 : tie.Need-returns-2
-returns-2 c =
-    let l = c .before .before .before in
-    scoring-answered _ (l .before .before .before .scoring-sizes .ensures) (l .check-lists .ensures) (c .before .check-numbers .ensures) (c .check-numbers2 .ensures)
+returns c =
+    let b : tie.After-check-bounds = search in
+    let m : tie.After-check-weighted = search in
+    let l : tie.After-check-line = search in
+    let t : tie.After-sooner = search in
+    let s : tie.After-lacks-scores = search in
+    let z : tie.After-refuse-if = search in
+    let a : tie.After-sooner2 = search in
+    scoring-answered _ (b .check-bounds .ensures) (m .check-weighted .ensures) (l .check-line .ensures) (t .sooner .ensures) (z .refuse-if .ensures ∙ ap (λ (p : Bool). orNext Accepted (refuse 2 0 p)) (s .lacks-scores .ensures)) (a .sooner2 .ensures) (c .or-next .ensures)
 
 pub check-scoring-spec : {M : Type 1} → statement M
 check-scoring-spec =
     tie.close
     (tie.spec
-    scoring-sizes-requires
-    enum-known-sizes
-    returns
-    enum-told
-    check-lists-requires
-    cast-check-numbers
-    check-numbers-requires
-    check-numbers-requires-2
-    returns-2)
+    check-bounds-requires
+    check-weighted-requires
+    check-line-requires
+    sooner-requires
+    lacks-scores-requires
+    refuse-if-requires
+    sooner-requires-2
+    or-next-requires
+    returns)

@@ -51,12 +51,12 @@ under a = let t : tie.In-loop Inv-loop μ-loop = search in t .loop-test .taken
 loop-holds : tie.Need-loop-holds Inv-loop μ-loop
 loop-holds c =
     let s : tie.Start Inv-loop μ-loop = search in
-    (omega arith, s .pre .1 .1 .0, omega arith, s .pre .1 .1 .1 .updates, refl, through-none _ _ _)
+    (omega arith, s .pre .exact, omega arith, s .pre .updates, refl, through-none _ _ _)
 
 at-requires : tie.Need-at-requires Inv-loop μ-loop
 at-requires c κs =
     let l : tie.At-loop Inv-loop μ-loop = search in
-    omega (arith, c .loop-test .taken, entry l .pre .1 .1 .1 .long)
+    omega (arith, c .loop-test .taken, entry l .pre .long)
 
 visit-requires : tie.Need-visit-requires Inv-loop μ-loop
 visit-requires c κs =
@@ -64,8 +64,15 @@ visit-requires c κs =
     let l = turn a in
     let s = entry l in
     let i = l .loop .inv in
-    let h = s .pre .1 .1 .1 .among (l .loop .j) (under a) in
-    (s .pre .0, (s .pre .1 .0, (i .1, (omega (arith, h, a .at .ensures), omega (arith, i .2, under a, s .pre .1 .1 .1 .room), i .3))))
+    let h = s .pre .among (l .loop .j) (under a) in
+    record {
+      model = s .pre .model;
+      corpus = s .pre .corpus;
+      exact = i .1;
+      among = omega (arith, h, a .at .ensures);
+      visits = omega (arith, i .2, under a, s .pre .room);
+      updates = i .3;
+    }
 
 is-refused-requires : tie.Need-is-refused-requires Inv-loop μ-loop
 is-refused-requires c κs = search needs
@@ -75,25 +82,25 @@ same-length : tie.Need-same-length Inv-loop μ-loop
 same-length c =
     let v : tie.After-visit Inv-loop μ-loop = search in
     let l = turn (called v) in
-    omega (arith, v .visit .kept, l .loop .inv .1, entry l .pre .1 .1 .0)
+    omega (arith, v .visit .kept, l .loop .inv .1, entry l .pre .exact)
 
 same-length-2 : tie.Need-same-length-2 Inv-loop μ-loop
 same-length-2 c =
     let v : tie.After-visit Inv-loop μ-loop = search in
     let l = turn (called v) in
-    omega (arith, v .visit .kept, l .loop .inv .1, entry l .pre .1 .1 .0)
+    omega (arith, v .visit .kept, l .loop .inv .1, entry l .pre .exact)
 
 same-length-3 : tie.Need-same-length-3 Inv-loop μ-loop
 same-length-3 c =
     let v : tie.After-visit Inv-loop μ-loop = search in
     let l = turn (called v) in
-    omega (arith, v .visit .kept, l .loop .inv .1, entry l .pre .1 .1 .0)
+    omega (arith, v .visit .kept, l .loop .inv .1, entry l .pre .exact)
 
 same-length-4 : tie.Need-same-length-4 Inv-loop μ-loop
 same-length-4 c =
     let v : tie.After-visit Inv-loop μ-loop = search in
     let l = turn (called v) in
-    omega (arith, v .visit .kept, l .loop .inv .1, entry l .pre .1 .1 .0)
+    omega (arith, v .visit .kept, l .loop .inv .1, entry l .pre .exact)
 
 returns : tie.Need-returns Inv-loop μ-loop
 unfolding opened ofBits
@@ -112,7 +119,7 @@ add-j : tie.Need-add-j Inv-loop μ-loop
 add-j c =
     let v : tie.After-visit Inv-loop μ-loop = search in
     let a = called v in
-    omega (arith, under a, entry (turn a) .pre .1 .0 .few)
+    omega (arith, under a, entry (turn a) .pre .corpus .few)
 
 loop-less : tie.Need-loop-less Inv-loop μ-loop
 loop-less c =
@@ -141,22 +148,22 @@ loop-again c =
 same-length-5 : tie.Need-same-length-5 Inv-loop μ-loop
 same-length-5 c =
     let l : tie.At-loop Inv-loop μ-loop = search in
-    omega (arith, l .loop .inv .1, entry l .pre .1 .1 .0)
+    omega (arith, l .loop .inv .1, entry l .pre .exact)
 
 same-length-6 : tie.Need-same-length-6 Inv-loop μ-loop
 same-length-6 c =
     let l : tie.At-loop Inv-loop μ-loop = search in
-    omega (arith, l .loop .inv .1, entry l .pre .1 .1 .0)
+    omega (arith, l .loop .inv .1, entry l .pre .exact)
 
 same-length-7 : tie.Need-same-length-7 Inv-loop μ-loop
 same-length-7 c =
     let l : tie.At-loop Inv-loop μ-loop = search in
-    omega (arith, l .loop .inv .1, entry l .pre .1 .1 .0)
+    omega (arith, l .loop .inv .1, entry l .pre .exact)
 
 same-length-8 : tie.Need-same-length-8 Inv-loop μ-loop
 same-length-8 c =
     let l : tie.At-loop Inv-loop μ-loop = search in
-    omega (arith, l .loop .inv .1, entry l .pre .1 .1 .0)
+    omega (arith, l .loop .inv .1, entry l .pre .exact)
 
 returns-2 : tie.Need-returns-2 Inv-loop μ-loop
 unfolding opened ofBits

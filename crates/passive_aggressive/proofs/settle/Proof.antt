@@ -18,6 +18,13 @@ Inv-loop features truly predicted who noted sum s₀ j₀ s j = (j ≤ noted) ×
 abbrev μ-loop : tie.MeasureT-loop
 μ-loop features truly predicted who noted sum s₀ j₀ s j = noted - j
 
+-- the places that facts are taken from, each found from the one after it
+abbrev entry : tie.At-loop Inv-loop μ-loop → tie.Start Inv-loop μ-loop
+entry c = search
+
+abbrev turn : tie.In-loop Inv-loop μ-loop → tie.At-loop Inv-loop μ-loop
+turn c = search
+
 loop-holds : tie.Need-loop-holds Inv-loop μ-loop
 loop-holds c = (omega arith, through-none _ _ _)
 
@@ -28,16 +35,19 @@ shared-slice-read-first : tie.Need-shared-slice-read-first Inv-loop μ-loop
 shared-slice-read-first c = search needs
 
 -- a note is of four features
-four : (t : tie.In-loop Inv-loop μ-loop) → (let s = t .before .before .before .before .before in getD (now (s .args .who)) (t .before .loop .j) 0 + 4 ≤ s .args .features)
-four t = t .before .before .before .before .before .pre .1 .fours _ (t .loop-test .taken)
+four : (t : tie.In-loop Inv-loop μ-loop) → (let l = turn t in let s = entry l in getD (now (s .args .who)) (l .loop .j) 0 + 4 ≤ s .args .features)
+four t = entry (turn t) .pre .1 .fours _ (t .loop-test .taken)
 
 add-add-up : tie.Need-add-add-up Inv-loop μ-loop
-add-add-up c = search (needs, four (c .before))
+add-add-up c =
+    let t : tie.In-loop Inv-loop μ-loop = search in
+    search (needs, four t)
 
 add-up-requires : tie.Need-add-up-requires Inv-loop μ-loop
 add-up-requires c κs =
-    let b = c .before .before .before .before .before .before .pre .0 in
-    let f = four (c .before) in
+    let t : tie.In-loop Inv-loop μ-loop = search in
+    let b = entry (turn t) .pre .0 in
+    let f = four t in
     record { one-long = omega (arith, f, b .one-long); other-long = omega (arith, f, b .other-long) }
 
 add-j : tie.Need-add-j Inv-loop μ-loop
@@ -49,8 +59,8 @@ loop-less c = search needs
 loop-again : tie.Need-loop-again Inv-loop μ-loop
 unfolding fourAdded
 loop-again c =
-    let t = c .before .before in
-    (omega (arith, t .loop-test .taken), through-next _ _ _ (t .before .loop .inv .1) (c .add-up .ensures ∙ by-four _ _ _))
+    let t : tie.In-loop Inv-loop μ-loop = search in
+    (omega (arith, t .loop-test .taken), through-next _ _ _ (turn t .loop .inv .1) (c .add-up .ensures ∙ by-four _ _ _))
 
 returns : tie.Need-returns Inv-loop μ-loop
 unfolding foursAdded

@@ -73,7 +73,7 @@ loop-less c = search needs
 loop-again : tie.Need-loop-again Inv-loop μ-loop
 unfolding pushed raised
 loop-again c =
-    let l = c .before .before .before .before .before .before in (
+    let l : tie.At-loop Inv-loop μ-loop = search in (
       omega arith,
       search needs,
       search needs,

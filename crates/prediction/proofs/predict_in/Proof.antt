@@ -1,10 +1,11 @@
--- `prediction::predict_in` meets its contract: the two passes score the line, and what is judged is their scores. Assumes nothing.
+-- `prediction::predict_in` meets its contract: the line is labelled by its scores, and what is judged is its labels. Assumes nothing.
 use mathlib.Core.Path.{_∙_}
 use native.Mathlib.Omega.{arith}
 use borrow.Author.Needs.{needs}
 use Rattle.lines.specs.Tables.{Model, Words}
-use Rattle.prediction.specs.Tables.{modelOf, wordsFrom}
 use Rattle.fronts.proofs.Filled.{all-of}
+use Rattle.labelling.proofs.Laws.{labelled-in}
+use Rattle.prediction.specs.Tables.{modelOf, wordsFrom}
 use Rattle.prediction.proofs.Laws.{transitions-sound, judged-as}
 use Rattle.prediction.proofs.predict_in.Statement.{statement}
 use Rattle.prediction.proofs.predict_in.Tie as tie
@@ -22,7 +23,7 @@ line s = wordsFrom (s .args .sizes) (s .args .begins .now) (s .args .ids .now) (
 abbrev entry : tie.After-score-transitions → tie.Start
 entry c = search
 
-abbrev linked : tie.After-score-line → tie.After-score-transitions
+abbrev linked : tie.After-label-at → tie.After-score-transitions
 linked c = search
 
 score-transitions-requires : tie.Need-score-transitions-requires
@@ -31,26 +32,43 @@ score-transitions-requires c κs =
     let m = s .pre .0 in
     (transitions-sound m _ (omega (arith, s .pre .1 .1)), (m .label-lists, omega (arith, s .pre .1 .1)))
 
-score-line-requires : tie.Need-score-line-requires
-score-line-requires c κs =
+label-at-requires : tie.Need-label-at-requires
+label-at-requires c κs =
     let d : tie.After-score-transitions = search in
     let s = entry d in
     let m = s .pre .0 in
-    (transitions-sound m (s .args .weights .now) (omega (arith, s .pre .1 .1)) .states, (m .attribute-lists, (s .pre .1 .0 .worded, omega (arith, s .pre .1 .1))))
+    let line = s .pre .1 .0 in (
+      transitions-sound m (s .args .weights .now) (omega (arith, s .pre .1 .1)) .states,
+      (
+        m .attribute-lists,
+        (
+          line .worded,
+          record {
+            labels-in = m .labels-in;
+            words-in = line .sized;
+            long-transitions = omega (arith, d .score-transitions .kept, s .pre .1 .1);
+            long-states = s .pre .1 .1 .1 .1;
+            long-path = omega (arith, s .pre .1 .1 .0);
+          },
+        ),
+      ),
+    )
 
 judge-requires : tie.Need-judge-requires
 judge-requires c κs =
-    let l : tie.After-score-line = search in
+    let l : tie.After-label-at = search in
     let d = linked l in
     let s = entry d in
     record {
-      labelled = s .pre .0 .labels-in;
-      sized = s .pre .1 .0 .sized;
-      long-transitions = omega (arith, d .score-transitions .kept, s .pre .1 .1);
-      long-states = omega (arith, l .score-line .kept, s .pre .1 .1);
+      labels-in = s .pre .0 .labels-in;
+      words-in = s .pre .1 .0 .sized;
       referenced = s .pre .1 .0 .referenced;
       below = s .pre .1 .0 .below;
-      long-path = s .pre .1 .1 .0 .1;
+      long-transitions = omega (arith, d .score-transitions .kept, s .pre .1 .1);
+      long-states = omega (arith, l .label-at .kept, s .pre .1 .1);
+      before = s .args .path .now;
+      long-before = s .pre .1 .1 .0 .1;
+      labelled = labelled-in (model s) (s .args .weights .now) (line s) (s .args .first) (l .label-at .ensures (model s) (s .args .sizes .attributes));
     }
 
 same-length : tie.Need-same-length
@@ -65,18 +83,17 @@ same-length-3 c = search needs
 returns : tie.Need-returns
 returns c =
     let j : tie.After-judge = search in
-    let l : tie.After-score-line = search in
+    let l : tie.After-label-at = search in
     let d = linked l in
     let s = entry d in
-    let long = s .pre .1 .1 .1 in
-    judged-as (model s) (s .args .weights .now) (line s) (s .args .first) (d .score-transitions .ensures (model s) ∙ all-of _ _ _ (long .0)) (l .score-line .ensures (model s) (s .args .sizes .attributes) ∙ all-of _ _ _ (long .1)) (j .judge .ensures)
+    judged-as (model s) (s .args .weights .now) (line s) (s .args .first) (d .score-transitions .ensures (model s) ∙ all-of _ _ _ (s .pre .1 .1 .1 .0)) (l .label-at .ensures (model s) (s .args .sizes .attributes) .scored) (j .judge .ensures)
 
 pub predict-in-spec : {M : Type 1} → statement M
 predict-in-spec =
     tie.close
     (tie.spec
     score-transitions-requires
-    score-line-requires
+    label-at-requires
     judge-requires
     same-length
     same-length-2

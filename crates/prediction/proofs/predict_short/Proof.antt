@@ -1,9 +1,8 @@
-use mathlib.Core.Path.{_≡_, refl, sym, ap, _∙_}
-use Prim.Native.Nat.{_*_, _≤_}
+-- `prediction::predict_short` meets its contract: small arrays have room for a short line. Assumes nothing.
+use mathlib.Core.Path.{sym}
 use native.Mathlib.Omega.{arith}
 use borrow.Author.Needs.{needs}
 use lib.Seq.{length-take-le}
-use Rattle.prediction.proofs.Laws.{square-small, rows-small}
 use Rattle.prediction.proofs.predict_short.Statement.{statement}
 use Rattle.prediction.proofs.predict_short.Tie as tie
 

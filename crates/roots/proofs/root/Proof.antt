@@ -5,7 +5,7 @@ use Prim.Native.Nat.{ℕ, suc-le-suc}
 use borrow.Author.Needs.{needs}
 use borrow.Fn.Function.{resV}
 use lib.Ieee.{Float, ofBits, fits, size}
-use Rattle.binary64.specs.Units.{one}
+use Rattle.binary64.specs.Units.{unitsInOne}
 use Rattle.roots.proofs.Nearest.{passes, passes-nearest}
 use Rattle.roots.proofs.Each.{each-at}
 use Rattle.roots.proofs.root.Statement.{statement}
@@ -24,7 +24,7 @@ array-read-result : tie.Need-array-read-result
 array-read-result c = search needs
 
 returns : tie.Need-returns
-unfolding answer ofBits fits size one
+unfolding answer ofBits fits size unitsInOne
 returns c =
     let n = c .args .n in
     passes-nearest n (answer (c .blocks) n)

@@ -20,7 +20,9 @@ entries-requires c κs = search needs
 
 check-numbers-requires : tie.Need-check-numbers-requires
 check-numbers-requires c κs =
-    let room = c .before .before .before .before .before .pre (c .before .enum-told .given .1) in
+    let s : tie.Start = search in
+    let e : tie.After-enum-told = search in
+    let room = s .pre (e .enum-told .given .1) in
     omega (arith, c .entries .ensures, room .long-transitions, room .long-states)
 
 entries-requires-2 : tie.Need-entries-requires-2
@@ -28,11 +30,17 @@ entries-requires-2 c κs = search needs
 
 check-numbers-requires-2 : tie.Need-check-numbers-requires-2
 check-numbers-requires-2 c κs =
-    let room = c .before .before .before .before .before .before .before .pre (c .before .before .before .enum-told .given .1) in
+    let s : tie.Start = search in
+    let e : tie.After-enum-told = search in
+    let room = s .pre (e .enum-told .given .1) in
     omega (arith, c .entries2 .ensures, room .long-transitions, room .long-states)
 
 returns-2 : tie.Need-returns-2
-returns-2 c = rw (c .check-numbers2 .ensures, c .before .entries2 .ensures, c .before .before .check-numbers .ensures, c .before .before .before .entries .ensures)
+returns-2 c =
+    let k : tie.After-entries2 = search in
+    let t : tie.After-check-numbers = search in
+    let e : tie.After-entries = search in
+    rw (c .check-numbers2 .ensures, k .entries2 .ensures, t .check-numbers .ensures, e .entries .ensures)
 
 pub check-finite-spec : {M : Type 1} → statement M
 check-finite-spec =

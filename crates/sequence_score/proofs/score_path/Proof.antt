@@ -15,8 +15,12 @@ Inv-loop labels transitions states path count before₀ score₀ word₀ before 
 abbrev μ-loop : tie.MeasureT-loop
 μ-loop labels transitions states path count before₀ score₀ word₀ before score word = count - word
 
-abbrev start : tie.At-loop Inv-loop μ-loop → tie.Start Inv-loop μ-loop
-start c = c .before .before .before .before .before .before .before
+-- the places that facts are taken from, each found from the one after it
+abbrev entry : tie.At-loop Inv-loop μ-loop → tie.Start Inv-loop μ-loop
+entry c = search
+
+abbrev turn : tie.After-label2 Inv-loop μ-loop → tie.At-loop Inv-loop μ-loop
+turn c = search
 
 returns : tie.Need-returns Inv-loop μ-loop
 returns c = none _ _ _ (c .if1 .taken)
@@ -26,8 +30,8 @@ label-requires c κs = search needs
 
 entry-requires : tie.Need-entry-requires Inv-loop μ-loop
 entry-requires c κs =
-    let m = c .before .before .before .before .before .pre in
-    state-within m _ _ (omega arith) (rw (c .label .ensures) (m .below 0 (omega arith)))
+    let s : tie.Start Inv-loop μ-loop = search in
+    state-within (s .pre) _ _ (omega arith) (rw (c .label .ensures) (s .pre .below 0 (omega arith)))
 
 loop-holds : tie.Need-loop-holds Inv-loop μ-loop
 loop-holds c = (omega arith, omega arith, c .before .label .ensures, rw (c .entry .ensures, c .before .label .ensures) (one-word _ _))
@@ -37,14 +41,16 @@ label-requires-2 c κs = search needs
 
 entry-requires-2 : tie.Need-entry-requires-2 Inv-loop μ-loop
 entry-requires-2 c κs =
-    let m = start (c .before .before) .pre in
+    let l : tie.At-loop Inv-loop μ-loop = search in
+    let m = entry l .pre in
     state-within m _ _ (omega arith) (rw (c .label2 .ensures) (m .below _ (omega arith)))
 
 entry-requires-3 : tie.Need-entry-requires-3 Inv-loop μ-loop
 entry-requires-3 c κs =
-    let l = c .before .before .before in
-    let m = start l .pre in
-    transition-within m _ _ (rw (l .loop .inv .2) (m .below _ (omega arith))) (rw (c .before .label2 .ensures) (m .below _ (omega arith)))
+    let d : tie.After-label2 Inv-loop μ-loop = search in
+    let l = turn d in
+    let m = entry l .pre in
+    transition-within m _ _ (rw (l .loop .inv .2) (m .below _ (omega arith))) (rw (d .label2 .ensures) (m .below _ (omega arith)))
 
 add-word : tie.Need-add-word Inv-loop μ-loop
 add-word c = search needs
@@ -54,16 +60,22 @@ loop-less c = search needs
 
 loop-again : tie.Need-loop-again Inv-loop μ-loop
 loop-again c =
-    let l = c .before .before .before .before in
+    let d : tie.After-label2 Inv-loop μ-loop = search in
+    let s : tie.After-entry2 Inv-loop μ-loop = search in
+    let l = turn d in
+    let a = entry l .args in
     let e : l .loop .word + 1 - 1 ≡ l .loop .word = omega arith in (
       omega arith,
       omega arith,
-      rw e (c .before .before .label2 .ensures),
-      rw (c .entry3 .ensures, c .before .entry2 .ensures, c .before .before .label2 .ensures, l .loop .inv .2, l .loop .inv .3) (one-more _ _ _ (l .loop .inv .0)),
+      rw e (d .label2 .ensures),
+      one-more (tabled (a .labels) (a .transitions .now) (a .states .now)) (a .path .now) (l .loop .word) (l .loop .inv .0) (l .loop .inv .2) (d .label2 .ensures) (l .loop .inv .3) (s .entry2 .ensures) (c .entry3 .ensures),
     )
 
 returns-2 : tie.Need-returns-2 Inv-loop μ-loop
-returns-2 c = let e : c .before .loop .word ≡ start (c .before) .args .count = omega arith in rw (← e) (c .before .loop .inv .3)
+returns-2 c =
+    let l : tie.At-loop Inv-loop μ-loop = search in
+    let e : l .loop .word ≡ entry l .args .count = omega arith in
+    rw (← e) (l .loop .inv .3)
 
 pub score-path-spec : {M : Type 1} → statement M
 score-path-spec =

@@ -1,17 +1,11 @@
-use mathlib.Core.Path.{_≡_, refl, sym, ap, _∙_}
-use mathlib.Core.Bool.{true, false}
-use Prim.Native.Nat.{ℕ, _+_, _-_, _*_, _≤_, _<_}
-use native.Mathlib.Nat.{le-trans}
+-- `updates::ends` meets its contract. Assumes nothing.
+use mathlib.Core.Path.{sym, _∙_}
 use native.Mathlib.Omega.{arith}
 use borrow.Author.Needs.{needs}
 use lib.Dec.{le→leb}
 use lib.Ieee.{inFloat}
 use Rattle.updates.proofs.ends.Statement.{statement}
 use Rattle.updates.proofs.ends.Tie as tie
-use Rattle.updates.proofs.ends.Reads as reads
-use Rattle.updates.proofs.ends.Lts as lts
-use Rattle.updates.proofs.is_low.Reads as is-low-reads
-use Rattle.updates.proofs.is_refused.Reads as is-refused-reads
 
 is-refused-requires : tie.Need-is-refused-requires
 is-refused-requires c κs = search needs

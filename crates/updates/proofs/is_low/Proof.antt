@@ -1,14 +1,8 @@
-use mathlib.Core.Path.{_≡_, refl, sym, ap, _∙_}
-use mathlib.Core.Bool.{true, false}
-use Prim.Native.Nat.{ℕ, _+_, _-_, _*_, _≤_, _<_}
-use native.Mathlib.Nat.{le-trans}
-use native.Mathlib.Omega.{arith}
+-- `updates::is_low` meets its contract, trainer by trainer. Assumes nothing.
 use borrow.Author.Needs.{needs}
 use Rattle.training.specs.Rules.{stops}
 use Rattle.updates.proofs.is_low.Statement.{statement}
 use Rattle.updates.proofs.is_low.Tie as tie
-use Rattle.updates.proofs.is_low.Reads as reads
-use Rattle.updates.proofs.is_low.Lts as lts
 
 enum-told : tie.Need-enum-told
 enum-told c = search needs

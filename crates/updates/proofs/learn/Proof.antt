@@ -1,6 +1,6 @@
-use mathlib.Core.Path.{_≡_, refl, sym, ap, _∙_}
-use mathlib.Core.Bool.{true, false, _&&_}
-use Prim.Native.Nat.{_+_, _-_, _*_, _≤_, _<_}
+-- `updates::learn` meets its contract: the update is held, or 9, or 8 for the counts. Assumes nothing.
+use mathlib.Core.Path.{refl, sym, _∙_}
+use Prim.Native.Nat.{_+_}
 use native.Mathlib.Omega.{arith}
 use borrow.Author.Needs.{needs}
 use lib.Dec.{le→leb}
@@ -9,12 +9,6 @@ use Rattle.fronts.proofs.Finite.{flag-next}
 use Rattle.updates.proofs.Laws.{held, not-held, not-counted, refused-counted}
 use Rattle.updates.proofs.learn.Statement.{statement}
 use Rattle.updates.proofs.learn.Tie as tie
-use Rattle.updates.proofs.learn.Reads as reads
-use Rattle.updates.proofs.learn.Lts as lts
-use Rattle.updates.proofs.holds.Reads as holds-reads
-use Rattle.fronts.proofs.all_finite.Reads as all-finite-reads
-use Rattle.updates.proofs.refuse.Reads as refuse-reads
-use Rattle.updates.proofs.update.Reads as update-reads
 
 -- the start, found from the update
 abbrev entry : tie.After-update → tie.Start

@@ -1,20 +1,18 @@
-use mathlib.Core.Path.{_≡_, refl, sym, ap, _∙_}
-use mathlib.Core.Bool.{true, false, _&&_}
-use Prim.Native.Nat.{_+_, _-_, _*_, _≤_, _<_}
-use native.Mathlib.Omega.{arith}
+-- `updates::refuse` meets its contract. Assumes nothing.
 use borrow.Author.Needs.{needs}
 use Rattle.training.specs.Visits.{refusedAs}
 use Rattle.updates.proofs.refuse.Statement.{statement}
 use Rattle.updates.proofs.refuse.Tie as tie
-use Rattle.updates.proofs.refuse.Reads as reads
-use Rattle.updates.proofs.refuse.Lts as lts
+
+place-requires : tie.Need-place-requires
+place-requires c κs = search needs
 
 numbered-requires : tie.Need-numbered-requires
 numbered-requires c κs = search needs
 
 returns : tie.Need-returns
 unfolding refusedAs
-returns c = λ l. rw (c .numbered .ensures)
+returns c = let p : tie.After-place = search in λ l. rw (c .numbered .ensures, p .place .ensures)
 
 pub refuse-spec : {M : Type 1} → statement M
-refuse-spec = tie.close (tie.spec numbered-requires returns)
+refuse-spec = tie.close (tie.spec place-requires numbered-requires returns)

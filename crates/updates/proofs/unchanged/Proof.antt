@@ -1,4 +1,5 @@
-use mathlib.Core.Path.{_≡_, refl}
+-- `updates::unchanged` meets its contract. Assumes nothing.
+use mathlib.Core.Path.{refl}
 use native.Mathlib.Omega.{arith}
 use Rattle.training.specs.Visits.{unchanged}
 use Rattle.updates.proofs.unchanged.Statement.{statement}

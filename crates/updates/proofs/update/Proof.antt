@@ -1,15 +1,7 @@
-use mathlib.Core.Path.{_≡_, refl, sym, ap, _∙_}
-use mathlib.Core.Bool.{true, false, _&&_}
-use Prim.Native.Nat.{_+_, _-_, _*_, _≤_, _<_}
-use native.Mathlib.Omega.{arith}
+-- `updates::update` meets its contract: the update of the trainer's own rule. Assumes nothing.
 use borrow.Author.Needs.{needs}
 use Rattle.updates.proofs.update.Statement.{statement}
 use Rattle.updates.proofs.update.Tie as tie
-use Rattle.updates.proofs.update.Reads as reads
-use Rattle.updates.proofs.update.Lts as lts
-use Rattle.arow.proofs.update.Reads as update-reads
-use Rattle.passive_aggressive.proofs.update.Reads as update-reads′
-use Rattle.perceptron_update.proofs.update.Reads as update-reads′′
 
 enum-told : tie.Need-enum-told
 enum-told c = search needs
@@ -36,7 +28,10 @@ same-length-2 : tie.Need-same-length-2
 same-length-2 c = search needs
 
 returns : tie.Need-returns
-returns c = rw (c .before .before .before .before .before .before .before .enum-told .given .1) (c .before .before .before .before .update .ensures _ _)
+returns c =
+    let u : tie.After-update = search in
+    let t : tie.After-enum-told = search in
+    rw (t .enum-told .given .1) (u .update .ensures _ _)
 
 same-length-3 : tie.Need-same-length-3
 same-length-3 c = search needs
@@ -45,7 +40,10 @@ same-length-4 : tie.Need-same-length-4
 same-length-4 c = search needs
 
 returns-2 : tie.Need-returns-2
-returns-2 c = rw (c .before .before .before .before .before .before .before .before .trainer .given .1) (c .before .before .before .before .update2 .ensures _)
+returns-2 c =
+    let u : tie.After-update2 = search in
+    let t : tie.After-trainer = search in
+    rw (t .trainer .given .1) (u .update2 .ensures _)
 
 same-length-5 : tie.Need-same-length-5
 same-length-5 c = search needs
@@ -54,7 +52,10 @@ same-length-6 : tie.Need-same-length-6
 same-length-6 c = search needs
 
 returns-3 : tie.Need-returns-3
-returns-3 c = rw (c .before .before .before .before .before .before .before .before .trainer2 .given .1) (c .before .before .before .before .update3 .ensures _ _ _)
+returns-3 c =
+    let u : tie.After-update3 = search in
+    let t : tie.After-trainer2 = search in
+    rw (t .trainer2 .given .1) (u .update3 .ensures _ _ _)
 
 pub update-spec : {M : Type 1} → statement M
 update-spec =

@@ -1,67 +1,62 @@
-use mathlib.Core.Path.{_≡_, refl, sym, ap, _∙_}
-use mathlib.Core.Bool.{true, false, _&&_}
-use Prim.Native.Nat.{_+_, _-_, _*_, _≤_, _<_}
+-- `visits::correct` meets its contract: the two passes count, and the update is the definition's on their counts. Assumes nothing.
+use mathlib.Core.Path.{sym, _∙_}
 use native.Mathlib.Nat.{le-of-eq}
 use native.Mathlib.Omega.{arith}
 use borrow.Author.Needs.{needs}
-use Rattle.lines.specs.Tables.{Model, Words}
-use Rattle.lines.specs.Counted.{countsOf}
-use Rattle.prediction.specs.Tables.{modelOf, wordsFrom}
+use Rattle.lines.specs.Tables.{Model}
+use Rattle.prediction.specs.Tables.{modelOf}
 use Rattle.fronts.proofs.Filled.{all-of}
+use Rattle.visits.proofs.Laws.{settled-as}
 use Rattle.visits.proofs.correct.Statement.{statement}
 use Rattle.visits.proofs.correct.Tie as tie
-use Rattle.visits.proofs.correct.Reads as reads
-use Rattle.visits.proofs.correct.Lts as lts
-use Rattle.extract_features.proofs.count_line.Reads as count-line-reads
-use Rattle.updates.proofs.learn.Reads as learn-reads
 
--- the model and the words that the arguments make
+-- the model that the arguments make
 abbrev model : tie.Start → Model
 model s =
     let a = s .args in
     modelOf (a .sizes) (a .kinds .now) (a .destinations .now) (a .sources .now) (a .starts .now) (a .entries .now) (a .label-starts .now) (a .label-entries .now)
 
-abbrev line : tie.Start → Words
-line s = wordsFrom (s .args .sizes) (s .args .begins .now) (s .args .ids .now) (s .args .values .now)
+-- the places that facts are taken from, each found from the one after it
+abbrev entry : tie.After-count-line → tie.Start
+entry c = search
 
--- what the two passes left in the tables of counts
-truly-are : (d : tie.After-count-line) → let s = d .before .before .before .before .before .before .before .before .before .before .before .before .before .before .before .before .before .before in d .count-line .last .1 .1 .1 .1 .1 .1 .1 .1 .1 .1 .1 .1 .1 .1 .1 .1 .0 ≡ countsOf (model s) (line s) (s .args .first) (s .args .words) (s .args .references .now)
-truly-are d = let s = d .before .before .before .before .before .before .before .before .before .before .before .before .before .before .before .before .before .before in d .count-line .ensures (model s) (s .args .sizes .attributes) ∙ all-of _ _ _ (s .pre .1 .1 .0 .truly-long)
-
-predicted-are : (d : tie.After-count-line2) → let s = d .before .before .before .before .before .before .before .before .before .before .before .before .before .before .before .before .before .before .before .before .before .before in d .count-line2 .last .1 .1 .1 .1 .1 .1 .1 .1 .1 .1 .1 .1 .1 .1 .1 .1 .0 ≡ countsOf (model s) (line s) (s .args .first) (s .args .words) (s .args .path .now)
-predicted-are d = let s = d .before .before .before .before .before .before .before .before .before .before .before .before .before .before .before .before .before .before .before .before .before .before in d .count-line2 .ensures (model s) (s .args .sizes .attributes) ∙ all-of _ _ _ (s .pre .1 .1 .0 .predicted-long)
+abbrev counted-truly : tie.After-count-line2 → tie.After-count-line
+counted-truly c = search
 
 count-line-requires : tie.Need-count-line-requires
 count-line-requires c κs =
-    let s = c .before .before .before .before .before .before .before .before .before .before .before .before .before .before .before .before .before in
-    let m = s .pre .0 in
-    let e = s .pre .1 .1 .0 in
-    (m .counts, (m .sized .sources, (m .attribute-lists, (m .label-lists, (s .pre .1 .0 .worded, (le-of-eq (sym (s .pre .1 .0 .referenced)), le-of-eq (sym (e .truly-long))))))))
+    let s : tie.Start = search in
+    let m = s .pre .model in
+    (m .counts, (m .sized .sources, (m .attribute-lists, (m .label-lists, (s .pre .line .worded, (le-of-eq (sym (s .pre .line .referenced)), le-of-eq (sym (s .pre .exact .truly-long))))))))
 
 count-line-requires-2 : tie.Need-count-line-requires-2
 count-line-requires-2 c κs =
-    let s = c .before .before .before .before .before .before .before .before .before .before .before .before .before .before .before .before .before .before .before .before .before in
-    let m = s .pre .0 in
-    let e = s .pre .1 .1 .0 in
-    (m .counts, (m .sized .sources, (m .attribute-lists, (m .label-lists, (s .pre .1 .0 .worded, (le-of-eq (sym (s .pre .1 .1 .1 .0 .0)), le-of-eq (sym (e .predicted-long))))))))
+    let d : tie.After-count-line = search in
+    let s = entry d in
+    let m = s .pre .model in
+    (m .counts, (m .sized .sources, (m .attribute-lists, (m .label-lists, (s .pre .line .worded, (le-of-eq (sym (s .pre .path-long)), le-of-eq (sym (s .pre .exact .predicted-long))))))))
 
 cast-learn : tie.Need-cast-learn
-cast-learn c = omega (arith, c .before .before .before .before .before .before .before .before .before .before .before .before .before .before .before .before .before .before .before .before .before .before .before .before .pre .1 .0 .sized .high)
+cast-learn c =
+    let d : tie.After-count-line2 = search in
+    omega (arith, entry (counted-truly d) .pre .line .sized .high)
 
 learn-requires : tie.Need-learn-requires
 learn-requires c κs =
-    let s = c .before .before .before .before .before .before .before .before .before .before .before .before .before .before .before .before .before .before .before .before .before .before .before .before .before .before .before .before in
-    let e = s .pre .1 .1 .0 in (
+    let p : tie.After-count-line2 = search in
+    let t = counted-truly p in
+    let s = entry t in
+    let e = s .pre .exact in (
       (
-        s .pre .1 .1 .1 .0 .1,
+        s .pre .few,
         record {
-          truly-long = le-of-eq (sym (c .before .before .before .before .before .before .before .before .before .before .count-line .kept .1 .1 .1 .1 .1 .1 .1 .1 .1 .1 .1 .1 .1 .1 .1 .1 .0 ∙ e .truly-long));
-          predicted-long = le-of-eq (sym (c .before .before .before .before .before .before .count-line2 .kept .1 .1 .1 .1 .1 .1 .1 .1 .1 .1 .1 .1 .1 .1 .1 .1 .0 ∙ e .predicted-long));
-          weights-long = le-of-eq (sym (e .weights-long));
-          beside-long = le-of-eq (sym (e .beside-long));
+          truly-long = omega (arith, t .count-line .kept, e);
+          predicted-long = omega (arith, p .count-line2 .kept, e);
+          weights-long = omega (arith, e);
+          beside-long = omega (arith, e);
         },
       ),
-      s .pre .1 .1 .1 .1,
+      (s .pre .visits, s .pre .updates),
     )
 
 same-length : tie.Need-same-length
@@ -78,8 +73,13 @@ same-length-4 c = search needs
 
 returns : tie.Need-returns
 returns c =
-    let made = c .before .before .before .before .learn .ensures in
-    (rw (truly-are (c .before .before .before .before .before .before .before .before .before .before .before .before .before .before .before), predicted-are (c .before .before .before .before .before .before .before .before .before .before .before)) at (made .0), made .1)
+    let l : tie.After-learn = search in
+    let p : tie.After-count-line2 = search in
+    let t = counted-truly p in
+    let s = entry t in
+    let e = s .pre .exact in
+    let made = l .learn .ensures in
+    (settled-as _ _ _ _ (t .count-line .ensures (model s) (s .args .sizes .attributes) ∙ all-of _ _ _ (e .truly-long)) (p .count-line2 .ensures (model s) (s .args .sizes .attributes) ∙ all-of _ _ _ (e .predicted-long)) (made .0), made .1)
 
 pub correct-spec : {M : Type 1} → statement M
 correct-spec =

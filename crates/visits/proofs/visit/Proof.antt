@@ -1,3 +1,4 @@
+-- `visits::visit` meets its contract: predicted, looked at, and corrected where labels differ. Assumes nothing.
 use mathlib.Core.Path.{_≡_, sym, _∙_}
 use Prim.Native.Nat.{ℕ, _-_, _≤_, _<_}
 use native.Mathlib.Nat.{le-trans}
@@ -43,19 +44,19 @@ some : (e : tie.After-at2) → begun e .at .result < e .at2 .result
 some e =
     let f = begun e in
     let s = entry f in
-    some-words (data-of s) _ _ _ (f .at .ensures) (e .at2 .ensures) (s .pre .1 .0) (s .pre .1 .1 .1 .0)
+    some-words (data-of s) _ _ _ (f .at .ensures) (e .at2 .ensures) (s .pre .corpus) (s .pre .among)
 
-few : (e : tie.After-at2) → let f : tie.After-at = search in e .at2 .result - f .at .result ≤ 128
+few : (e : tie.After-at2) → e .at2 .result - begun e .at .result ≤ 128
 few e =
     let f = begun e in
     let s = entry f in
-    few-words (data-of s) _ _ _ (f .at .ensures) (e .at2 .ensures) (s .pre .1 .0) (s .pre .1 .1 .1 .0)
+    few-words (data-of s) _ _ _ (f .at .ensures) (e .at2 .ensures) (s .pre .corpus) (s .pre .among)
 
 all : (e : tie.After-at2) → let s = entry (begun e) in e .at2 .result ≤ length (s .args .references .now)
 all e =
     let f = begun e in
     let s = entry f in
-    le-trans (all-words (data-of s) _ _ _ (f .at .ensures) (e .at2 .ensures) (s .pre .1 .0) (s .pre .1 .1 .1 .0)) (s .pre .1 .0 .referenced)
+    le-trans (all-words (data-of s) _ _ _ (f .at .ensures) (e .at2 .ensures) (s .pre .corpus) (s .pre .among)) (s .pre .corpus .referenced)
 
 -- the front that the prediction is lent is as long as the instance
 front : (d : tie.After-predict) → let e = ended d in let n = e .at2 .result - begun e .at .result in length (take n (replicate {A = ℕ} 128 0)) ≡ n
@@ -98,10 +99,10 @@ predict-requires c κs =
     let e : tie.After-at2 = search in
     let f = begun e in
     let s = entry f in (
-      s .pre .0,
+      s .pre .model,
       (
-        line-sound (data-of s) _ _ _ (f .at .ensures) (e .at2 .ensures) (s .pre .1 .0) (s .pre .1 .1 .1 .0),
-        (s .pre .1 .1 .0 .weights-long, length-take-le _ _ (few e)),
+        line-sound (data-of s) _ _ _ (f .at .ensures) (e .at2 .ensures) (s .pre .corpus) (s .pre .among),
+        (s .pre .exact .weights-long, length-take-le _ _ (few e)),
       ),
     )
 
@@ -109,7 +110,7 @@ look-requires : tie.Need-look-requires
 look-requires c κs =
     let d : tie.After-predict = search in
     let s = entry (begun (ended d)) in
-    (s .pre .1 .1 .1 .1, s .pre .1 .1 .1 .2)
+    (s .pre .visits, s .pre .updates)
 
 enum-known-found : tie.Need-enum-known-found
 enum-known-found c = search needs
@@ -127,7 +128,7 @@ returns c =
     let b : tie.After-found = search in
     let was = b .found .given .1 in (
       ended-there (data-of s) _ _ _ (f .at .ensures) (e .at2 .ensures) _ (model s) (state s) (d .predict .ensures) (sym (k .look .ensures _) ∙ was),
-      ended-counted _ _ _ _ (λ l. sym (k .look .ensures l) ∙ was) (s .pre .1 .1 .1 .2),
+      ended-counted _ _ _ _ (λ l. sym (k .look .ensures l) ∙ was) (s .pre .updates),
     )
 
 enum-told : tie.Need-enum-told
@@ -160,13 +161,16 @@ correct-requires c κs =
     let d : tie.After-predict = search in
     let e = ended d in
     let f = begun e in
-    let s = entry f in (
-      s .pre .0,
-      (
-        line-sound (data-of s) _ _ _ (f .at .ensures) (e .at2 .ensures) (s .pre .1 .0) (s .pre .1 .1 .1 .0),
-        (s .pre .1 .1 .0, ((length-take-le _ _ (simp length-append (omega (arith, d .predict .kept, front d))), d .predict .ensures .few), (s .pre .1 .1 .1 .1, s .pre .1 .1 .1 .2))),
-      ),
-    )
+    let s = entry f in
+    record {
+      model = s .pre .model;
+      line = line-sound (data-of s) _ _ _ (f .at .ensures) (e .at2 .ensures) (s .pre .corpus) (s .pre .among);
+      exact = s .pre .exact;
+      path-long = length-take-le _ _ (simp length-append (omega (arith, d .predict .kept, front d)));
+      few = d .predict .ensures .few;
+      visits = s .pre .visits;
+      updates = s .pre .updates;
+    }
 
 same-length-2 : tie.Need-same-length-2
 same-length-2 c = search needs

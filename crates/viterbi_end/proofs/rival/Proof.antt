@@ -4,6 +4,7 @@ use Prim.Native.Nat.{ℕ, _+_, _-_, _≤_, _<_, zero-le}
 use native.Mathlib.Nat.{lt-of-lt-of-le}
 use native.Mathlib.Omega.{arith}
 use lib.Ieee.{Float}
+use Rattle.refusals.specs.Bounds.{theLabels, most}
 use Rattle.best_path.specs.Decoded.{lastLargest}
 use Rattle.best_path.specs.Lead.{other}
 use Rattle.best_path.proofs.Laws.{largest-first, other-within}
@@ -22,10 +23,10 @@ abbrev μ-loop : tie.MeasureT-loop
 μ-loop row n last first score₀ k₀ score k = n - k
 
 -- the labels that are looked at are within the row
-first-within : (c : tie.After-other-label Inv-loop μ-loop) → c .other-label .result < 32
+first-within : (c : tie.After-other-label Inv-loop μ-loop) → c .other-label .result < most theLabels
 first-within c = rw (c .other-label .ensures) (lt-of-lt-of-le (other-within (c .before .args .last) (c .before .args .n) 0 (c .before .pre .0) zero-le) (c .before .pre .1))
 
-next-within : (c : tie.After-other-label2 Inv-loop μ-loop) → c .other-label2 .result < 32
+next-within : (c : tie.After-other-label2 Inv-loop μ-loop) → c .other-label2 .result < most theLabels
 next-within c =
     let b = c .before .before .before .before .before in
     let h : c .before .before .loop .k ≤ b .args .n - 2 = omega (arith, c .before .loop-test .taken) in

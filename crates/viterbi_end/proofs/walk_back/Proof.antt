@@ -5,9 +5,10 @@ use Prim.Native.Nat.{_+_, _-_, _*_, _<_}
 use native.Mathlib.Nat.{lt-of-lt-of-le}
 use native.Mathlib.Omega.{arith}
 use lib.Arith.{digits-lt}
-use lib.ListN.{length, drop, length-set}
+use lib.ListN.{length, drop}
+use Rattle.refusals.specs.Bounds.{theLabels, most}
 use Rattle.viterbi_end.specs.Walked.{walked}
-use Rattle.viterbi_end.proofs.Laws.{walk-more, walk-end}
+use Rattle.viterbi_end.proofs.Laws.{walk-more, walk-end, step-within}
 use borrow.Author.Needs.{needs}
 use Rattle.viterbi_end.proofs.walk_back.Statement.{statement}
 use Rattle.viterbi_end.proofs.walk_back.Tie as tie
@@ -22,38 +23,51 @@ Inv-loop path₀ words n last steps label₀ word₀ path label word =
 abbrev μ-loop : tie.MeasureT-loop
 μ-loop path₀ words n last steps label₀ word₀ path label word = word
 
+-- the places that facts are taken from, each found from the one after it
+abbrev entry : tie.At-loop Inv-loop μ-loop → tie.Start Inv-loop μ-loop
+entry c = search
+
+abbrev turn : tie.In-loop Inv-loop μ-loop → tie.At-loop Inv-loop μ-loop
+turn c = search
+
+-- a label of the path is one of a row's
+label-few : (l : tie.At-loop Inv-loop μ-loop) → l .loop .label < most theLabels
+label-few l = omega (arith, l .loop .inv .1, entry l .pre .0 .few)
+
+-- the place of a step
+inside : (l : tie.At-loop Inv-loop μ-loop) →
+    let a = entry l .args in
+    l .loop .word * a .n + l .loop .label < length (a .steps .now)
+inside l = lt-of-lt-of-le (digits-lt (l .loop .inv .0) (l .loop .inv .1)) (entry l .pre .0 .long-steps)
+
 sub-word : tie.Need-sub-word Inv-loop μ-loop
 sub-word c = search needs
 
--- the place of a step
-inside : (c : tie.In-loop Inv-loop μ-loop) →
-    let a = c .before .before .before .before .args in
-    c .before .loop .word * a .n + c .before .loop .label < length (a .steps .now)
-inside c = lt-of-lt-of-le (digits-lt (c .before .loop .inv .0) (c .before .loop .inv .1)) (c .before .before .before .before .pre .0 .long-steps)
-
 loop-holds : tie.Need-loop-holds Inv-loop μ-loop
 loop-holds c =
-    let b = c .before .before in
+    let b : tie.Start Inv-loop μ-loop = search in
     let e : b .args .words - 1 + 1 ≡ b .args .words = omega (arith, b .pre .0 .any) in
     (omega (arith, b .pre .0 .any), b .pre .1, refl, rw e)
 
-cast-path : tie.Need-cast-path Inv-loop μ-loop
-cast-path c = search needs
+put-label-requires : tie.Need-put-label-requires Inv-loop μ-loop
+put-label-requires c κs =
+    let l : tie.At-loop Inv-loop μ-loop = search in
+    (omega (arith, l .loop .inv .0, l .loop .inv .2, entry l .pre .0 .long-path), label-few l)
 
-mul-path : tie.Need-mul-path Inv-loop μ-loop
-mul-path c = search needs
+mul-step-back : tie.Need-mul-step-back Inv-loop μ-loop
+mul-step-back c =
+    let l : tie.At-loop Inv-loop μ-loop = search in
+    omega (arith, inside l)
 
-slice-write-path : tie.Need-slice-write-path Inv-loop μ-loop
-slice-write-path c = search needs
+add-step-back : tie.Need-add-step-back Inv-loop μ-loop
+add-step-back c =
+    let l : tie.At-loop Inv-loop μ-loop = search in
+    omega (arith, inside l)
 
-mul-step : tie.Need-mul-step Inv-loop μ-loop
-mul-step c = omega (arith, inside c)
-
-add-step : tie.Need-add-step Inv-loop μ-loop
-add-step c = omega (arith, inside c)
-
-step-requires : tie.Need-step-requires Inv-loop μ-loop
-step-requires c κs = inside c
+step-back-requires : tie.Need-step-back-requires Inv-loop μ-loop
+step-back-requires c κs =
+    let l : tie.At-loop Inv-loop μ-loop = search in
+    inside l
 
 sub-word-2 : tie.Need-sub-word-2 Inv-loop μ-loop
 sub-word-2 c = search needs
@@ -63,33 +77,35 @@ loop-less c = search needs
 
 loop-again : tie.Need-loop-again Inv-loop μ-loop
 loop-again c =
-    let l = c .before .before in
-    let b = l .before .before .before in
+    let t : tie.In-loop Inv-loop μ-loop = search in
+    let p : tie.After-put-label Inv-loop μ-loop = search in
+    let s : tie.After-step-back Inv-loop μ-loop = search in
+    let l = turn t in
+    let b = entry l in
     let a = b .args in
-    let any = c .before .loop-test .taken in
-    let e : l .loop .word - 1 + 1 ≡ l .loop .word = omega arith in (
-      omega arith,
-      rw (c .step .ensures) (rw e at (b .pre .0 .within (l .loop .word - 1) (l .loop .label) (rw e (l .loop .inv .0)) (l .loop .inv .1))),
-      simp length-set (l .loop .inv .2),
-      rw (c .step .ensures) (walk-more (a .steps .now) (a .n) (l .loop .path) (l .loop .label) (l .loop .word) any (omega (arith, b .pre .0 .long-path)) ∙ l .loop .inv .3),
+    let any = t .loop-test .taken in (
+      omega (arith, l .loop .inv .0),
+      step-within (b .pre .0) (l .loop .word) (l .loop .label) any (l .loop .inv .0) (l .loop .inv .1) (s .step-back .ensures),
+      omega (arith, p .put-label .kept, l .loop .inv .2),
+      walk-more (a .steps .now) (a .n) (l .loop .path) (l .loop .label) (l .loop .word) any (omega (arith, l .loop .inv .0, l .loop .inv .2, b .pre .0 .long-path)) (p .put-label .ensures) (s .step-back .ensures) ∙ l .loop .inv .3,
     )
 
-cast-path-2 : tie.Need-cast-path-2 Inv-loop μ-loop
-cast-path-2 c = search needs
-
-slice-write-path-2 : tie.Need-slice-write-path-2 Inv-loop μ-loop
-slice-write-path-2 c = search needs
+put-label-requires-2 : tie.Need-put-label-requires-2 Inv-loop μ-loop
+put-label-requires-2 c κs =
+    let l : tie.At-loop Inv-loop μ-loop = search in
+    (omega (arith, l .loop .inv .0, l .loop .inv .2, entry l .pre .0 .long-path), label-few l)
 
 same-length : tie.Need-same-length Inv-loop μ-loop
 same-length c = search needs
 
 returns : tie.Need-returns Inv-loop μ-loop
 returns c =
-    let l = c .before in
-    let b = l .before .before .before in
+    let p : tie.After-put-label2 Inv-loop μ-loop = search in
+    let e : tie.After-loop Inv-loop μ-loop = search in
+    let l : tie.At-loop Inv-loop μ-loop = search in
+    let b = entry l in
     let a = b .args in
-    let e : l .loop .word ≡ 0 = omega arith in
-    walk-end (a .steps .now) (a .n) (l .loop .path) (l .loop .label) (omega (arith, b .pre .0 .any, b .pre .0 .long-path)) ∙ (rw e at (l .loop .inv .3))
+    walk-end (a .steps .now) (a .n) (l .loop .path) (l .loop .label) (e .loop-test .left) (omega (arith, l .loop .inv .0, l .loop .inv .2, b .pre .0 .long-path)) (p .put-label2 .ensures) ∙ l .loop .inv .3
 
 pub walk-back-spec : {M : Type 1} → statement M
 walk-back-spec =
@@ -99,16 +115,13 @@ walk-back-spec =
     μ-loop
     sub-word
     loop-holds
-    cast-path
-    mul-path
-    slice-write-path
-    mul-step
-    add-step
-    step-requires
+    put-label-requires
+    mul-step-back
+    add-step-back
+    step-back-requires
     sub-word-2
     loop-less
     loop-again
-    cast-path-2
-    slice-write-path-2
+    put-label-requires-2
     same-length
     returns)

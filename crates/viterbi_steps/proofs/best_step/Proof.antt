@@ -1,5 +1,5 @@
 -- `best_step` meets its contract. The loop's invariant: the score and its origin are those chosen of the candidates passed. Assumes nothing.
-use mathlib.Core.Path.{_≡_, sym, _∙_}
+use mathlib.Core.Path.{_≡_, sym, ap, _∙_}
 use Prim.Native.Nat.{_+_, _-_, _*_, _≤_, _<_}
 use native.Mathlib.Nat.{le-antisymm, le-mul-of-pos-right, zero-mul, zero-add, one-mul}
 use native.Mathlib.Omega.{arith}
@@ -22,9 +22,18 @@ Inv-loop row n transitions label state score₀ from₀ tried₀ at₀ score fro
 abbrev μ-loop : tie.MeasureT-loop
 μ-loop row n transitions label state score₀ from₀ tried₀ at₀ score from tried at = n - tried
 
+-- the places that facts are taken from, each found from the one after it
+abbrev entry : tie.At-loop Inv-loop μ-loop → tie.Start Inv-loop μ-loop
+entry c = search
+
+abbrev turn : tie.In-loop Inv-loop μ-loop → tie.At-loop Inv-loop μ-loop
+turn c = search
+
 -- the place of a transition
-inside : (c : tie.In-loop Inv-loop μ-loop) → let n = c .before .before .before .before .before .args .n in c .before .loop .at < n * n
-inside c = rw (c .before .loop .inv .2) (digits-lt (c .loop-test .taken) (c .before .before .before .before .before .pre .0))
+inside : (t : tie.In-loop Inv-loop μ-loop) → let n = entry (turn t) .args .n in turn t .loop .at < n * n
+inside t =
+    let within = digits-lt (t .loop-test .taken) (entry (turn t) .pre .0) in
+    omega (arith, turn t .loop .inv .2, within)
 
 element-copy-out-score : tie.Need-element-copy-out-score Inv-loop μ-loop
 element-copy-out-score c = search needs
@@ -33,7 +42,10 @@ mul-score : tie.Need-mul-score Inv-loop μ-loop
 mul-score c = omega arith
 
 shared-slice-read-score : tie.Need-shared-slice-read-score Inv-loop μ-loop
-shared-slice-read-score c = let n = c .before .before .before .args .n in let l : n ≤ n * n = le-mul-of-pos-right n (omega arith) in omega arith
+shared-slice-read-score c =
+    let s : tie.Start Inv-loop μ-loop = search in
+    let n = s .args .n in
+    let l : n ≤ n * n = le-mul-of-pos-right n (omega arith) in omega arith
 
 add-at : tie.Need-add-at Inv-loop μ-loop
 add-at c = search needs
@@ -48,10 +60,12 @@ element-copy-out-next : tie.Need-element-copy-out-next Inv-loop μ-loop
 element-copy-out-next c = search needs
 
 mul-next-2 : tie.Need-mul-next-2 Inv-loop μ-loop
-mul-next-2 c = let n = c .before .before .before .before .before .before .args .n in omega (arith, inside (c .before), square-small n (omega arith))
+mul-next-2 c =
+    let t : tie.In-loop Inv-loop μ-loop = search in
+    omega (arith, inside t, square-small (entry (turn t) .args .n) (omega arith))
 
 shared-slice-read-next : tie.Need-shared-slice-read-next Inv-loop μ-loop
-shared-slice-read-next c = omega (arith, inside (c .before .before))
+shared-slice-read-next c = let t : tie.In-loop Inv-loop μ-loop = search in omega (arith, inside t)
 
 whence-requires : tie.Need-whence-requires Inv-loop μ-loop
 whence-requires c κs = search needs
@@ -60,7 +74,9 @@ better-requires : tie.Need-better-requires Inv-loop μ-loop
 better-requires c κs = search needs
 
 add-at-2 : tie.Need-add-at-2 Inv-loop μ-loop
-add-at-2 c = let n = c .before .before .before .before .before .before .before .before .before .args .n in omega (arith, inside (c .before .before .before .before), square-small n (omega arith))
+add-at-2 c =
+    let t : tie.In-loop Inv-loop μ-loop = search in
+    omega (arith, inside t, square-small (entry (turn t) .args .n) (omega arith))
 
 add-tried : tie.Need-add-tried Inv-loop μ-loop
 add-tried c = search needs
@@ -70,15 +86,17 @@ loop-less c = search needs
 
 loop-again : tie.Need-loop-again Inv-loop μ-loop
 loop-again c =
-    let l = c .before .before .before .before .before in
-    let a = l .before .before .before .before .args in
+    let t : tie.In-loop Inv-loop μ-loop = search in
+    let w : tie.After-whence Inv-loop μ-loop = search in
+    let l = turn t in
+    let a = entry l .args in
     let g = candidate (a .n) (a .transitions .now) (a .row .now) (a .label) (a .state) in
-    let met : add binary64 (add binary64 (getD (a .row .now) (l .loop .tried) nan) (getD (a .transitions .now) (l .loop .at) nan)) (a .state) ≡ g (l .loop .tried) = rw (l .loop .inv .2) in (
+    let met = ap (λ at. add binary64 (add binary64 (getD (a .row .now) (l .loop .tried) nan) (getD (a .transitions .now) at nan)) (a .state)) (l .loop .inv .2) in (
       omega arith,
       omega arith,
       rw row-after (omega arith),
       c .better .ensures ∙ score-more g (l .loop .tried) (l .loop .inv .0) _ _ (l .loop .from) (l .loop .inv .3) met,
-      c .before .whence .ensures ∙ from-more g (l .loop .tried) (l .loop .inv .0) _ _ _ (l .loop .inv .3) met (l .loop .inv .4),
+      w .whence .ensures ∙ from-more g (l .loop .tried) (l .loop .inv .0) _ _ _ (l .loop .inv .3) met (l .loop .inv .4),
     )
 
 returns : tie.Need-returns Inv-loop μ-loop

@@ -5,19 +5,20 @@ use native.Mathlib.Omega.{arith}
 use borrow.Author.Needs.{needs}
 use lib.ListN.{getD, replicate}
 use lib.Ieee.{nan, ofBits, binary64}
+use Rattle.refusals.specs.Bounds.{theLabels, most}
 use Rattle.viterbi_steps.specs.Written.{written}
 use Rattle.viterbi_steps.proofs.Written.{written-none, front-more, written-end}
 use Rattle.viterbi_steps.proofs.first_row.Statement.{statement}
 use Rattle.viterbi_steps.proofs.first_row.Tie as tie
 
 abbrev Inv-loop : tie.InvT-loop
-Inv-loop n states row₀ label₀ row label = (label ≤ n) × (row .width ≡ n) × (row .best ≡ written 0 (λ k. getD states k nan) label (replicate 32 (ofBits binary64 0)))
+Inv-loop n states row₀ label₀ row label = (label ≤ n) × (row .width ≡ n) × (row .best ≡ written 0 (λ k. getD states k nan) label (replicate (most theLabels) (ofBits binary64 0)))
 
 abbrev μ-loop : tie.MeasureT-loop
 μ-loop n states row₀ label₀ row label = n - label
 
 loop-holds : tie.Need-loop-holds Inv-loop μ-loop
-loop-holds c = (search needs, refl, written-none 0 _ (replicate 32 (ofBits binary64 0)))
+loop-holds c = (search needs, refl, written-none 0 _ (replicate (most theLabels) (ofBits binary64 0)))
 
 mul-row : tie.Need-mul-row Inv-loop μ-loop
 mul-row c = search needs

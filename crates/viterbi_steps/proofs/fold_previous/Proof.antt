@@ -20,6 +20,13 @@ Inv-loop next₀ from₀ n score mark transitions base states at label₀ next f
 abbrev μ-loop : tie.MeasureT-loop
 μ-loop next₀ from₀ n score mark transitions base states at label₀ next from label = n - label
 
+-- the places that facts are taken from, each found from the one after it
+abbrev entry : tie.At-loop Inv-loop μ-loop → tie.Start Inv-loop μ-loop
+entry c = search
+
+abbrev turn : tie.After-better Inv-loop μ-loop → tie.At-loop Inv-loop μ-loop
+turn c = search
+
 loop-holds : tie.Need-loop-holds Inv-loop μ-loop
 loop-holds c = (search needs, written-none _ _ _, written-none _ _ _)
 
@@ -79,13 +86,14 @@ loop-less c = search needs
 
 loop-again : tie.Need-loop-again Inv-loop μ-loop
 loop-again c =
-    let l = c .before .before .before .before .before .before .before in
-    let a = l .before .before .before .args in
+    let l = turn c in
+    let w : tie.After-whence Inv-loop μ-loop = search in
+    let a = entry l .args in
     let score = front-later _ (a .next .now) nan (l .loop .label) (l .loop .next) (l .loop .inv .1) in
     let mark = front-later _ (a .from .now) 0 (l .loop .label) (l .loop .from) (l .loop .inv .2) in (
       omega arith,
       front-more _ _ (l .loop .label) (l .loop .next) _ (l .loop .inv .1) (c .better .ensures ∙ rw score),
-      front-more _ _ (l .loop .label) (l .loop .from) _ (l .loop .inv .2) (c .before .whence .ensures ∙ rw (score, mark)),
+      front-more _ _ (l .loop .label) (l .loop .from) _ (l .loop .inv .2) (w .whence .ensures ∙ rw (score, mark)),
     )
 
 returns : tie.Need-returns Inv-loop μ-loop

@@ -20,6 +20,13 @@ Inv-loop row next₀ n word transitions states steps₀ at label₀ next steps l
 abbrev μ-loop : tie.MeasureT-loop
 μ-loop row next₀ n word transitions states steps₀ at label₀ next steps label = n - label
 
+-- the places that facts are taken from, each found from the one after it
+abbrev entry : tie.At-loop Inv-loop μ-loop → tie.Start Inv-loop μ-loop
+entry c = search
+
+abbrev turn : tie.After-best-step Inv-loop μ-loop → tie.At-loop Inv-loop μ-loop
+turn c = search
+
 add-at : tie.Need-add-at Inv-loop μ-loop
 add-at c = search needs
 
@@ -49,8 +56,9 @@ element-write-next c = search needs
 
 cast-steps : tie.Need-cast-steps Inv-loop μ-loop
 cast-steps c =
-    let b = c .before .before .before .before .before .before .before .before in
-    omega (arith, choice-within _ _ _ (b .pre .some) (c .before .best-step .ensures), b .pre .few)
+    let t : tie.After-best-step Inv-loop μ-loop = search in
+    let b = entry (turn t) in
+    omega (arith, choice-within _ _ _ (b .pre .some) (t .best-step .ensures), b .pre .few)
 
 add-steps : tie.Need-add-steps Inv-loop μ-loop
 add-steps c = search needs
@@ -66,10 +74,11 @@ loop-less c = search needs
 
 loop-again : tie.Need-loop-again Inv-loop μ-loop
 loop-again c =
-    let l = c .before .before .before .before in
-    let b = l .before .before .before .before in
+    let t : tie.After-best-step Inv-loop μ-loop = search in
+    let l = turn t in
+    let b = entry l in
     let a = b .args in
-    let made = c .before .best-step .ensures in (
+    let made = t .best-step .ensures in (
       omega arith,
       simp length-set (l .loop .inv .1),
       front-more _ _ (l .loop .label) (l .loop .next) _ (l .loop .inv .2)

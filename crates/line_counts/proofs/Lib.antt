@@ -1,0 +1,3 @@
+mod Notes
+mod StateTurns
+mod TransitionTurns

@@ -1,0 +1,3 @@
+pub mod Noted
+pub mod StateEntry
+pub mod TransitionEntry

@@ -1,0 +1,2 @@
+mod StateTurns
+mod TransitionTurns

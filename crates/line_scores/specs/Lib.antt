@@ -1,0 +1,2 @@
+pub mod StateEntry
+pub mod TransitionEntry
