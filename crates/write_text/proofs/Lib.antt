@@ -1,0 +1,5 @@
+pub mod Kept
+pub mod Unique
+pub mod Elevens
+pub mod Meant
+pub mod Carries
