@@ -46,8 +46,9 @@ fn with_blank(f: Figures) -> Figures
     requires { ⌜ FewFigures f ⌝ }
     ensures { λ r. ⌜ r ≡ blanked f ⌝ }
 {
+    let sequences = f.sequences;
     Figures {
-        sequences: f.sequences,
+        sequences: sequences,
         words: f.words,
         attributes: f.attributes,
         present: 0,
