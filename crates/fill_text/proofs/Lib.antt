@@ -1,0 +1,5 @@
+mod Laying
+mod Naming
+mod Going
+mod WordsOn
+mod KeptOn
