@@ -7,7 +7,7 @@
 use super::cases::{self, Kind};
 use super::layout;
 use super::writer::{self, Given};
-use super::{Sizes, Tables};
+use super::{Refused, Sizes, Tables};
 use crate::cases::Rng;
 
 /// A text with a name for what it shows.
@@ -173,14 +173,21 @@ fn drawn(count: usize, wanted: impl Fn(&cases::Case) -> bool) -> Vec<Vec<u8>> {
 
 /// The line that is owed for a text.
 pub fn line(text: &[u8]) -> String {
-    match layout::read(text, &[usize::MAX; 12]) {
+    line_of(&layout::read(text, &[usize::MAX; 12]).map(|tables| {
+        let written = writer::write(&Given::of(tables.clone(), usize::MAX)).expect("what was read can be written");
+        (tables, written)
+    }))
+}
+
+/// The line for an answer: what was read, and what was written of it.
+pub fn line_of(answer: &Result<(Tables, Vec<u8>), Refused>) -> String {
+    match answer {
         Err((number, place)) => format!("REFUSED {number} {place}\n"),
-        Ok(tables) => accepted(&tables),
+        Ok((tables, written)) => accepted(tables, written),
     }
 }
 
-fn accepted(tables: &Tables) -> String {
-    let written = writer::write(&Given::of(tables.clone(), usize::MAX)).expect("what was read can be written");
+fn accepted(tables: &Tables, written: &[u8]) -> String {
     let Sizes { labels, attribute_names, instances, words, attributes, .. } = tables.sizes();
     let Sizes { label_bytes, attribute_bytes, scale_bytes, .. } = tables.sizes();
     let sizes = [labels, attribute_names, instances, words, attributes, label_bytes, attribute_bytes, scale_bytes]
@@ -202,7 +209,7 @@ fn accepted(tables: &Tables) -> String {
         bytes(&tables.attribute_names),
         numbers(&tables.scale_starts),
         bytes(&tables.scales),
-        bytes(&written),
+        bytes(written),
     ];
     format!("TEXT {}\n", fields.join(" "))
 }
