@@ -6,10 +6,12 @@
 //! - `plain`: a reader and a writer as one would write them for speed, in one pass: the yardstick of the bench.
 //! - `cases`: seeded texts and tables, good and damaged, each with what it is.
 //! - `stored`: the fixed texts that the repository replays, with the answer that is owed for each.
+//! - `report`: what the C program that reads a text has to print.
 
 pub mod cases;
 pub mod layout;
 pub mod plain;
+pub mod report;
 pub mod stored;
 pub mod writer;
 
