@@ -6,7 +6,7 @@
 # make example           builds the C example of examples/ and runs it: learns from log lines, labels another
 # make text              builds the C program of examples/ that reads a training text, and reads those in samples/
 # make text FILE=FILE    reads a training text of one's own
-# make bench             times beside the Rust: decoding, scoring, counting, training
+# make bench             times beside the Rust: decoding, scoring, counting, training; reading training texts
 # make compare ROUNDS=N  the comparison with the Rust, with N times as many random cases as in make test
 # make list              writes anew, from the oracle, the answers that the gate replays, and the samples
 # make archive           the static library for C and Rust, in build/

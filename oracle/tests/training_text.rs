@@ -224,6 +224,21 @@ fn drawn_texts_are_what_they_were_drawn_as() {
     mix.finish();
 }
 
+/// Two written texts, one behind the other, are the text of both.
+#[test]
+fn written_texts_join() {
+    for number in 0..500 {
+        let mut rng = Rng::of_case(0x301E, number);
+        let [one, other] = [(); 2].map(|()| {
+            let sequences = layout::sequences(&cases::sound(&mut rng)).expect("a sound text");
+            let text = writer::write(&Given::of(layout::tables(&sequences), usize::MAX)).expect("it can be written");
+            (sequences, text)
+        });
+        let joined = layout::sequences(&[one.1, other.1].concat()).expect("a sound text");
+        assert_eq!(joined, [one.0, other.0].concat(), "case {number}");
+    }
+}
+
 /// Whatever the writer takes, what it writes is well-formed and holds the same names and kept texts.
 #[test]
 fn what_is_written_is_a_text() {

@@ -2,14 +2,13 @@
 //! which test the same of a text, and nothing of tables. Lent tables and the vectors of the plain reader are there before, and
 //! used again. The answers are compared first. A time is never part of a test.
 
-use std::collections::BTreeSet;
 use std::hint::black_box;
 use std::time::Instant;
 
 use compare::text::{Lent, STAND_IN, read_text, write_text};
 use oracle::cases::Rng;
 use oracle::training_text::writer::Given;
-use oracle::training_text::{Tables, plain};
+use oracle::training_text::{Tables, cases, plain};
 
 use crate::times::median;
 
@@ -20,44 +19,25 @@ const WORDS: u32 = 20;
 /// Bytes that a row goes through, about, in all its passes.
 const BYTES: usize = 60_000_000;
 
-/// Where the search for a name begins, in so many slots: the library's rule (`home`, crates/distinct).
-const SLOTS: u64 = 131_072;
-
-fn home(name: &[u8]) -> u64 {
-    let hash = name.iter().fold(0u32, |hash, byte| hash.wrapping_mul(16_777_619).wrapping_add(u32::from(*byte)));
-    u64::from(hash.wrapping_mul(2_654_435_769)) * SLOTS >> 32
-}
-
 pub fn print() {
     if STAND_IN && std::env::var_os("STAND_IN").is_none() {
         println!("training texts: the archive has no calls for them yet (STAND_IN=1 times what stands in)");
         return;
     }
     println!("training texts, nanoseconds a byte, medians; ratio: plain Rust over library");
-    let plain_names = |count: u32| (0..count).map(|name| format!("n{name:05}")).collect::<Vec<_>>();
+    let plain_names = |count: u32| (0..count).map(|name| format!("n{name:05}").into_bytes()).collect::<Vec<_>>();
     for (bytes, names) in
         [(100_000, 10_000), (1_000_000, 10_000), (10_000_000, 10_000), (1_000_000, 100), (1_000_000, 60_000)]
     {
         row(&format!("{names:6} names"), &text(&plain_names(names), bytes));
     }
-    row("10,000 names that collide", &text(&colliding(10_000), 100_000));
-}
-
-/// Names whose searches begin in the same sixteen slots.
-fn colliding(count: usize) -> Vec<String> {
-    let mut rng = Rng::new(0xC011);
-    let mut names = BTreeSet::new();
-    while names.len() < count {
-        let name: String = (0..6).map(|_| char::from(b'a' + rng.below(26) as u8)).collect();
-        if home(name.as_bytes()) < 16 {
-            names.insert(name);
-        }
-    }
-    names.into_iter().collect()
+    // their searches begin in the same sixteen slots
+    let colliding = cases::names_at(&mut Rng::new(0xC011), 0..16, 10_000);
+    row(" 10000 names that collide", &text(&colliding, 100_000));
 }
 
 /// So many bytes or a line more. Each name comes once, in a drawn order, then any; a third have a scale.
-fn text(names: &[String], bytes: usize) -> Vec<u8> {
+fn text(names: &[Vec<u8>], bytes: usize) -> Vec<u8> {
     let mut rng = Rng::new(names.len() as u64);
     let mut order: Vec<usize> = (0..names.len()).collect();
     for i in (1..order.len()).rev() {
@@ -70,7 +50,7 @@ fn text(names: &[String], bytes: usize) -> Vec<u8> {
         for _ in 0..ATTRIBUTES {
             text.push(b'\t');
             let name = first.next().unwrap_or_else(|| rng.below(names.len() as u32) as usize);
-            text.extend_from_slice(names[name].as_bytes());
+            text.extend_from_slice(&names[name]);
             if rng.below(3) == 0 {
                 text.extend_from_slice(format!(":{}", f64::from(rng.below(1_000)) / 100.0).as_bytes());
             }

@@ -332,6 +332,30 @@ fn large_texts() {
     }
 }
 
+/// Names that meet in the library's slots: a run of them, one that goes on from the last slot to the first, and pairs of the same
+/// hash; each seen again, in every order of the first.
+#[test]
+fn names_that_meet() {
+    let mut rng = Rng::new(0x3EE7);
+    let wrapped = cases::names_at(&mut rng, cases::SLOTS - 4..cases::SLOTS, 120);
+    let first = cases::names_at(&mut rng, 0..100, 200);
+    let run = cases::names_at(&mut rng, 70_000..70_016, 1_000);
+    let twins = cases::twins(&mut rng, 8);
+    let all = [&wrapped[..], &first, &run, &twins].concat();
+    for (name, names) in [("wrapped", wrapped), ("run", run), ("twins", twins), ("all", all)] {
+        for turn in 0..4 {
+            let mut names = names.clone();
+            for i in (1..names.len()).rev().filter(|_| turn > 0) {
+                names.swap(i, rng.below(i as u32 + 1) as usize);
+            }
+            let text = cases::text_of(&mut rng, &names, 2_000);
+            let owed = layout::read(&text, &[usize::MAX; 12]).expect("a sound text");
+            assert_eq!(owed.sizes().attribute_names as usize, names.len(), "{name}");
+            assert_eq!(read_differs(&read_text, &text, &owed.rooms(), &mut rng), None, "{name}, turn {turn}");
+        }
+    }
+}
+
 // ---- the stored texts
 
 /// What the archive says of each, as a line, against the line that is stored.

@@ -1,6 +1,9 @@
 //! Seeded texts and tables. A text that is damaged on purpose comes with the fault that was put in and its byte, which the
 //! reading has to find.
 
+use std::collections::{BTreeMap, BTreeSet};
+use std::ops::Range;
+
 use super::layout::{self, FAULTS, Fault};
 use super::writer::{self, Given};
 use super::{LABELS, LONGEST, Tables};
@@ -212,6 +215,62 @@ fn at_a_bound(rng: &mut Rng) -> Vec<u8> {
     }
     if rng.chance(25) {
         text.extend(rng.pick(&["A:", "\\", "\t", "L0\ta:", "L0\ta:1", "L0\\:\ta"]).bytes());
+    }
+    text
+}
+
+// ---- names that meet in a table of slots
+
+/// The library's slots, and where its search for a name begins among them (`home`, crates/distinct): only to make names that
+/// meet there. What is owed does not depend on it.
+pub const SLOTS: u64 = 131_072;
+
+pub fn hash(name: &[u8]) -> u32 {
+    name.iter().fold(0, |hash: u32, byte| hash.wrapping_mul(16_777_619).wrapping_add(u32::from(*byte)))
+}
+
+pub fn home(name: &[u8]) -> u64 {
+    (u64::from(hash(name).wrapping_mul(2_654_435_769)) * SLOTS) >> 32
+}
+
+fn letters(rng: &mut Rng, length: u32) -> Vec<u8> {
+    (0..length).map(|_| b'a' + rng.below(26) as u8).collect()
+}
+
+/// So many names whose searches begin within these slots.
+pub fn names_at(rng: &mut Rng, slots: Range<u64>, count: usize) -> Vec<Vec<u8>> {
+    let mut names = BTreeSet::new();
+    while names.len() < count {
+        let name = letters(rng, 6);
+        if slots.contains(&home(&name)) {
+            names.insert(name);
+        }
+    }
+    names.into_iter().collect()
+}
+
+/// Pairs of names with the same hash; six letters are too few for that.
+pub fn twins(rng: &mut Rng, count: usize) -> Vec<Vec<u8>> {
+    let (mut seen, mut twins) = (BTreeMap::new(), Vec::new());
+    while twins.len() < 2 * count {
+        let name = letters(rng, 12);
+        match seen.insert(hash(&name), name.clone()) {
+            Some(other) if other != name => twins.extend([other, name]),
+            _ => {}
+        }
+    }
+    twins
+}
+
+/// A text of these names: each once, in this order, then so many drawn.
+pub fn text_of(rng: &mut Rng, names: &[Vec<u8>], drawn: usize) -> Vec<u8> {
+    let mut text = Vec::new();
+    for place in 0..names.len() + drawn {
+        text.extend(if place % 7 == 0 { &b"\nA"[..] } else { b"" });
+        text.extend(if place % 700 == 0 { &b"\n\nA"[..] } else { b"" });
+        text.push(b'\t');
+        let name = if place < names.len() { place } else { rng.below(names.len() as u32) as usize };
+        text.extend(&names[name]);
     }
     text
 }
