@@ -65,7 +65,8 @@ fn begin_line(line_starts: &mut [u32], sequences: usize, words: usize, within: b
     if within {
         return sequences;
     }
-    line_starts[sequences] = words as u32;
+    let start = words as u32;
+    line_starts[sequences] = start;
     sequences + 1
 }
 
