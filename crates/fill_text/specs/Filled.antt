@@ -61,7 +61,7 @@ pub record WordsLaid (t : Tables) (lineStarts₀ wordStarts₀ references₀ : L
 
 -- ---- attributes
 
-pub record AttributesRoom (ss : List (List Word)) (text : Bytes) (slots positions : List ℕ) (count : ℕ) (ids₀ : List ℕ) (values₀ : List Float) (starts₀ scales₀ : List ℕ) : Type 0 where
+pub record AttributesRoom (ss : List (List Word)) (text : Bytes) (positions : List ℕ) (count : ℕ) (ids₀ : List ℕ) (values₀ : List Float) (starts₀ scales₀ : List ℕ) : Type 0 where
   pub knows : Known text positions count (map escaped (distinctNames ss))
   pub ids : length (allAttributes (allWords ss)) ≤ length ids₀
   pub values : length (allAttributes (allWords ss)) ≤ length values₀
@@ -73,7 +73,7 @@ pub record AttributesReady (text : Bytes) (slots positions : List ℕ) (count : 
   pub small : length text ≤ 4294967295
   pub few : count ≤ 4294967295
   pub tabled : Tabled text slots positions count
-  pub room : (h : WellFormed text) → AttributesRoom (sequences (h .lines)) text slots positions count ids₀ values₀ starts₀ scales₀
+  pub room : (h : WellFormed text) → AttributesRoom (sequences (h .lines)) text positions count ids₀ values₀ starts₀ scales₀
 
 pub record AttributesLaid (t : Tables) (ids₀ : List ℕ) (values₀ : List Float) (starts₀ scales₀ ids′ : List ℕ) (values′ : List Float) (starts′ scales′ : List ℕ) : Type 0 where
   pub ids : ids′ ≡ laid (t .corpus .words .ids) ids₀
@@ -84,10 +84,10 @@ pub record AttributesLaid (t : Tables) (ids₀ : List ℕ) (values₀ : List Flo
 -- ---- all of them
 
 -- the names are known and have room in their tables, and so have words and attributes
-pub record TextRoom (ss : List (List Word)) (text : Bytes) (labels : List ℕ) (labelCount : ℕ) (slots positions : List ℕ) (count : ℕ)
+pub record TextRoom (ss : List (List Word)) (text : Bytes) (labels : List ℕ) (labelCount : ℕ) (positions : List ℕ) (count : ℕ)
     (lineStarts₀ wordStarts₀ ids₀ : List ℕ) (values₀ : List Float) (references₀ : List ℕ) (weights₀ : List Float) (labelStarts₀ labelBytes₀ nameStarts₀ nameBytes₀ scaleStarts₀ scales₀ : List ℕ) : Type 0 where
   pub words : WordsRoom ss text labels labelCount lineStarts₀ wordStarts₀ references₀ weights₀
-  pub attributes : AttributesRoom ss text slots positions count ids₀ values₀ scaleStarts₀ scales₀
+  pub attributes : AttributesRoom ss text positions count ids₀ values₀ scaleStarts₀ scales₀
   pub labelStarts : labelCount < length labelStarts₀
   pub labelBytes : length (flatten (distinctLabels ss)) ≤ length labelBytes₀
   pub nameStarts : count < length nameStarts₀
@@ -100,4 +100,4 @@ pub record TextReady (text : Bytes) (labels : List ℕ) (labelCount : ℕ) (slot
   pub labelsFew : labelCount ≤ 4294967295
   pub few : count ≤ 4294967295
   pub tabled : Tabled text slots positions count
-  pub room : (h : WellFormed text) → TextRoom (sequences (h .lines)) text labels labelCount slots positions count lineStarts₀ wordStarts₀ ids₀ values₀ references₀ weights₀ labelStarts₀ labelBytes₀ nameStarts₀ nameBytes₀ scaleStarts₀ scales₀
+  pub room : (h : WellFormed text) → TextRoom (sequences (h .lines)) text labels labelCount positions count lineStarts₀ wordStarts₀ ids₀ values₀ references₀ weights₀ labelStarts₀ labelBytes₀ nameStarts₀ nameBytes₀ scaleStarts₀ scales₀
