@@ -28,7 +28,7 @@ use Rattle.distinct.specs.Names.{nameAt, Known}
 use Rattle.distinct.proofs.Raw.{named-is}
 use Rattle.distinct.proofs.Escaped.{id-escaped}
 use Rattle.fill_text.specs.declared.KeptSoFar.{KeptSoFar}
-use Rattle.fill_text.specs.Filled.{labelsIn, namesIn, AttributesReady, AttributesLaid}
+use Rattle.fill_text.specs.Filled.{distinctLabels, distinctNames, AttributesReady, AttributesLaid}
 use Rattle.fill_text.specs.OnePiece.{AttributeMay, AttributePut, KeptBuilt, KeptPieceMay, KeptPieceTaken}
 use Rattle.fill_text.proofs.Laying.{laid-room, laid-put-in, kept-slice}
 use Rattle.fill_text.proofs.Going.{PieceNow, some-piece, piece-now, passing-on, passing-over, passing-starts, within-lines, attribute-adds, in-text}
@@ -96,7 +96,7 @@ module _ {text : Bytes} {positions : List ℕ} {count : ℕ} {span : Span} {s : 
 -- ---- the loop
 pub record KeptAt (ls : List Line) (text : Bytes) (i₀ : List ℕ) (v₀ : List Float) (s₀ k₀ i : List ℕ) (v : List Float) (t k : List ℕ) (c : Cursor) (s : KeptSoFar) : Type 0 where
   pub b : Built
-  pub passing : Passing (builtOn (labelsIn (sequences ls)) (namesIn (sequences ls))) nothingBuilt (piecesOf ls) text c b
+  pub passing : Passing (builtOn (distinctLabels (sequences ls)) (distinctNames (sequences ls))) nothingBuilt (piecesOf ls) text c b
   pub built : KeptBuilt b i₀ v₀ s₀ k₀ s i v t k
 
 pub record KeptGoing (text : Bytes) (i₀ : List ℕ) (v₀ : List Float) (s₀ k₀ i : List ℕ) (v : List Float) (t k : List ℕ) (c : Cursor) (s : KeptSoFar) : Type 0 where
@@ -133,7 +133,7 @@ module _ {text : Bytes} {slots positions : List ℕ} {count : ℕ} {i₀ : List 
   kept-some l = some-piece (g .at (y .formed) .passing) l
 
   module _ {span : Span} (l : c .at ≤ length text) (f : Finds text c span) where
-    pub kept-now : PieceNow (builtOn (labelsIn (sequences (y .formed .lines))) (namesIn (sequences (y .formed .lines)))) nothingBuilt (piecesOf (y .formed .lines)) text c span (g .at (y .formed) .b)
+    pub kept-now : PieceNow (builtOn (distinctLabels (sequences (y .formed .lines))) (distinctNames (sequences (y .formed .lines)))) nothingBuilt (piecesOf (y .formed .lines)) text c span (g .at (y .formed) .b)
     kept-now = piece-now (g .at (y .formed) .passing) l f
 
     pub kept-may : KeptPieceMay text slots positions count span s i v t k
@@ -145,12 +145,12 @@ module _ {text : Bytes} {slots positions : List ℕ} {count : ℕ} {i₀ : List 
         let o = a .built in
         let m = y .room h in
         let x = in-text h in
-        let w = within-lines (labelsIn ss) (namesIn ss) (a .b) (a .passing .rest) (h .lines) (a .passing .same) in
-        let u = within-lines (labelsIn ss) (namesIn ss) (builtOn (labelsIn ss) (namesIn ss) (a .b) (n .piece)) (n .later) (h .lines) (n .same) in
+        let w = within-lines (distinctLabels ss) (distinctNames ss) (a .b) (a .passing .rest) (h .lines) (a .passing .same) in
+        let u = within-lines (distinctLabels ss) (distinctNames ss) (builtOn (distinctLabels ss) (distinctNames ss) (a .b) (n .piece)) (n .later) (h .lines) (n .same) in
         record {
           attributes = omega (arith, o .id-count, w .ids, x .attributes, y .small);
           may = λ e.
-              let d = attribute-adds (labelsIn ss) (namesIn ss) (a .b) (n .piece) (sym (n .met .stands .kind) ∙ e) in
+              let d = attribute-adds (distinctLabels ss) (distinctNames ss) (a .b) (n .piece) (sym (n .met .stands .kind) ∙ e) in
               let q = ap length (kept-slice (n .met .stands)) in
               record {
                 tabled = y .tabled;
@@ -178,9 +178,9 @@ module _ {text : Bytes} {slots positions : List ℕ} {count : ℕ} {i₀ : List 
           let a = g .at h in
           let j = piece-now (a .passing) l f in
           record {
-            b = builtOn (labelsIn ss) (namesIn ss) (a .b) (j .piece);
+            b = builtOn (distinctLabels ss) (distinctNames ss) (a .b) (j .piece);
             passing = passing-on j n;
-            built = d .on (labelsIn ss) (namesIn ss) (a .b) (j .piece) i₀ v₀ s₀ k₀ (y .room h .knows) (j .met .stands) (a .built);
+            built = d .on (distinctLabels ss) (distinctNames ss) (a .b) (j .piece) i₀ v₀ s₀ k₀ (y .room h .knows) (j .met .stands) (a .built);
           };
     }
 
@@ -198,7 +198,7 @@ module _ {text : Bytes} {slots positions : List ℕ} {count : ℕ} {i₀ : List 
       let o = a .built in
       let m = y .room h in
       let x = in-text h in
-      let w = within-lines (labelsIn ss) (namesIn ss) (a .b) (a .passing .rest) (h .lines) (a .passing .same) in
+      let w = within-lines (distinctLabels ss) (distinctNames ss) (a .b) (a .passing .rest) (h .lines) (a .passing .same) in
       record {
         start = omega (arith, o .start-count, w .scaleStarts, m .starts, g .starts);
         attributes = omega (arith, o .id-count, w .ids, x .attributes, y .small);

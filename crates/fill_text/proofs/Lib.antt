@@ -3,3 +3,4 @@ mod Naming
 mod Going
 mod WordsOn
 mod KeptOn
+mod Filling

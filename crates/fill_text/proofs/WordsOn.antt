@@ -32,7 +32,7 @@ use Rattle.distinct.proofs.Raw.{named-is}
 use Rattle.distinct.proofs.Escaped.{id-escaped}
 use Rattle.distinct.proofs.Learning.{known-count}
 use Rattle.fill_text.specs.declared.WordsSoFar.{WordsSoFar}
-use Rattle.fill_text.specs.Filled.{labelsIn, namesIn, WordsReady, WordsLaid}
+use Rattle.fill_text.specs.Filled.{distinctLabels, distinctNames, WordsReady, WordsLaid}
 use Rattle.fill_text.specs.OnePiece.{WordMay, wordBegun, WordBegun, WordsBuilt, WordPieceMay, WordPieceTaken}
 use Rattle.fill_text.proofs.Laying.{laid-room}
 use Rattle.fill_text.proofs.Going.{PieceNow, some-piece, piece-now, passing-on, passing-over, passing-starts, within-lines, label-adds, in-text}
@@ -154,7 +154,7 @@ starts-many ls = starts-long 0 (map (λ (s : List Word). length s) (sequences ls
 -- ---- the loop
 pub record WordsAt (ls : List Line) (text : Bytes) (l₀ w₀ r₀ l w r : List ℕ) (c : Cursor) (s : WordsSoFar) : Type 0 where
   pub b : Built
-  pub passing : Passing (builtOn (labelsIn (sequences ls)) (namesIn (sequences ls))) nothingBuilt (piecesOf ls) text c b
+  pub passing : Passing (builtOn (distinctLabels (sequences ls)) (distinctNames (sequences ls))) nothingBuilt (piecesOf ls) text c b
   pub built : WordsBuilt b l₀ w₀ r₀ s l w r
 
 pub record WordsGoing (text : Bytes) (l₀ w₀ r₀ l w r : List ℕ) (c : Cursor) (s : WordsSoFar) : Type 0 where
@@ -189,7 +189,7 @@ module _ {text : Bytes} {positions : List ℕ} {count : ℕ} {l₀ w₀ r₀ : L
   words-some k = some-piece (g .at (y .formed) .passing) k
 
   module _ {span : Span} (k : c .at ≤ length text) (f : Finds text c span) where
-    pub words-now : PieceNow (builtOn (labelsIn (sequences (y .formed .lines))) (namesIn (sequences (y .formed .lines)))) nothingBuilt (piecesOf (y .formed .lines)) text c span (g .at (y .formed) .b)
+    pub words-now : PieceNow (builtOn (distinctLabels (sequences (y .formed .lines))) (distinctNames (sequences (y .formed .lines)))) nothingBuilt (piecesOf (y .formed .lines)) text c span (g .at (y .formed) .b)
     words-now = piece-now (g .at (y .formed) .passing) k f
 
     pub words-may : WordPieceMay text positions count span s l w r
@@ -201,8 +201,8 @@ module _ {text : Bytes} {positions : List ℕ} {count : ℕ} {l₀ w₀ r₀ : L
         let o = a .built in
         let m = y .room h in
         let t = in-text h in
-        let v = within-lines (labelsIn ss) (namesIn ss) (a .b) (a .passing .rest) (h .lines) (a .passing .same) in
-        let u = within-lines (labelsIn ss) (namesIn ss) (builtOn (labelsIn ss) (namesIn ss) (a .b) (n .piece)) (n .later) (h .lines) (n .same) in
+        let v = within-lines (distinctLabels ss) (distinctNames ss) (a .b) (a .passing .rest) (h .lines) (a .passing .same) in
+        let u = within-lines (distinctLabels ss) (distinctNames ss) (builtOn (distinctLabels ss) (distinctNames ss) (a .b) (n .piece)) (n .later) (h .lines) (n .same) in
         record {
           listed = m .knows .listed;
           name = (nameIn (n .piece), n .met .stands .name);
@@ -213,7 +213,7 @@ module _ {text : Bytes} {positions : List ℕ} {count : ℕ} {l₀ w₀ r₀ : L
           line = omega (arith, o .sequences, v .lineStarts, m .lineStarts, g .lines);
           start = omega (arith, o .starts, v .wordStarts, m .wordStarts, g .words);
           reference = λ e.
-              let d = label-adds (labelsIn ss) (namesIn ss) (a .b) (n .piece) (sym (n .met .stands .kind) ∙ e) in
+              let d = label-adds (distinctLabels ss) (distinctNames ss) (a .b) (n .piece) (sym (n .met .stands .kind) ∙ e) in
               omega (arith, d, o .words, u .references, m .references, g .references);
         }
 
@@ -228,9 +228,9 @@ module _ {text : Bytes} {positions : List ℕ} {count : ℕ} {l₀ w₀ r₀ : L
           let a = g .at h in
           let i = piece-now (a .passing) k f in
           record {
-            b = builtOn (labelsIn ss) (namesIn ss) (a .b) (i .piece);
+            b = builtOn (distinctLabels ss) (distinctNames ss) (a .b) (i .piece);
             passing = passing-on i n;
-            built = d .on (labelsIn ss) (namesIn ss) (a .b) (i .piece) l₀ w₀ r₀ (y .room h .knows) (i .met .stands) (a .built);
+            built = d .on (distinctLabels ss) (distinctNames ss) (a .b) (i .piece) l₀ w₀ r₀ (y .room h .knows) (i .met .stands) (a .built);
           };
     }
 
@@ -251,7 +251,7 @@ module _ {text : Bytes} {positions : List ℕ} {count : ℕ} {l₀ w₀ r₀ : L
       let o = a .built in
       let m = y .room h in
       let t = in-text h in
-      let v = within-lines (labelsIn ss) (namesIn ss) (a .b) (a .passing .rest) (h .lines) (a .passing .same) in
+      let v = within-lines (distinctLabels ss) (distinctNames ss) (a .b) (a .passing .rest) (h .lines) (a .passing .same) in
       record {
         line = omega (arith, o .sequences, v .lineStarts, m .lineStarts, g .lines);
         start = omega (arith, o .starts, v .wordStarts, m .wordStarts, g .words);

@@ -13,7 +13,7 @@ ghost use Rattle.text_tables.specs.Tables.{flat, tables};
 ghost use Rattle.answer_line.specs.Line.{RoomFor, Put};
 ghost use Rattle.pieces.specs.PieceText.{keptIn};
 ghost use Rattle.pieces.specs.Standing.{Stands};
-ghost use Rattle.fill_text.specs.Filled.{Placed, NamesReady, StringsLaid, WordsReady, WordsLaid, AttributesReady, AttributesLaid};
+ghost use Rattle.fill_text.specs.Filled.{Placed, NamesReady, StringsLaid, WordsReady, WordsLaid, AttributesReady, AttributesLaid, TextReady};
 ghost use Rattle.fill_text.specs.OnePiece.{WordMay, WordBegun, WordPieceMay, WordPieceTaken, AttributeMay, AttributePut, KeptPieceMay, KeptPieceTaken};
 use pieces::Kind;
 use pieces::Span;
@@ -65,7 +65,8 @@ fn begin_line(line_starts: &mut [u32], sequences: usize, words: usize, within: b
     if within {
         return sequences;
     }
-    line_starts[sequences] = words as u32;
+    let start = words as u32;
+    line_starts[sequences] = start;
     sequences + 1
 }
 
@@ -327,4 +328,60 @@ pub fn fill_attributes(
     let attributes = so_far.attributes;
     let end = so_far.bytes;
     starts[attributes] = end as u32;
+}
+
+// All twelve tables of a text, from what was learnt of its names.
+pub fn fill(
+    text: &[u8],
+    labels: &[u32],
+    label_count: usize,
+    slots: &[u32],
+    positions: &[u32],
+    count: usize,
+    line_starts: &mut [u32],
+    word_starts: &mut [u32],
+    ids: &mut [u32],
+    values: &mut [f64],
+    references: &mut [u32],
+    weights: &mut [f64],
+    label_starts: &mut [u32],
+    label_bytes: &mut [u8],
+    name_starts: &mut [u32],
+    name_bytes: &mut [u8],
+    scale_starts: &mut [u32],
+    scales: &mut [u8],
+)
+    requires { ⌜ TextReady (now text) (now labels) «label_count» (now slots) (now positions) count
+        (now «line_starts») (now «word_starts») (now ids) (now values) (now references) (now weights)
+        (now «label_starts») (now «label_bytes») (now «name_starts») (now «name_bytes») (now «scale_starts») (now scales) ⌝ }
+    ensures { λ _. ⌜ ((h : WellFormed (now (text .entry))) →
+        let t = tables (sequences (h .lines)) in
+        StringsLaid (t .labels) (now («label_starts» .entry)) (now («label_bytes» .entry)) (now («label_starts» .exit)) (now («label_bytes» .exit))
+        × StringsLaid (t .names) (now («name_starts» .entry)) (now («name_bytes» .entry)) (now («name_starts» .exit)) (now («name_bytes» .exit))
+        × WordsLaid t (now («line_starts» .entry)) (now («word_starts» .entry)) (now (references .entry)) (now (weights .entry))
+        (now («line_starts» .exit)) (now («word_starts» .exit)) (now (references .exit)) (now (weights .exit))
+        × AttributesLaid t (now (ids .entry)) (now (values .entry)) (now («scale_starts» .entry)) (now (scales .entry))
+        (now (ids .exit)) (now (values .exit)) (now («scale_starts» .exit)) (now (scales .exit))) ⌝ }
+{
+    fill_names(text, labels, label_count, label_starts, label_bytes);
+    fill_names(text, positions, count, name_starts, name_bytes);
+    fill_words(
+        text,
+        labels,
+        label_count,
+        line_starts,
+        word_starts,
+        references,
+        weights,
+    );
+    fill_attributes(
+        text,
+        slots,
+        positions,
+        count,
+        ids,
+        values,
+        scale_starts,
+        scales,
+    );
 }

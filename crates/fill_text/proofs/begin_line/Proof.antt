@@ -7,8 +7,8 @@ use Rattle.fill_text.proofs.begin_line.Tie as tie
 returns : tie.Need-returns
 returns c = (rw (c .if1 .taken) refl, rw (c .if1 .taken) refl)
 
-cast-line-starts : tie.Need-cast-line-starts
-cast-line-starts c = search needs
+cast-start : tie.Need-cast-start
+cast-start c = search needs
 
 mul-line-starts : tie.Need-mul-line-starts
 mul-line-starts c = search needs
@@ -30,7 +30,7 @@ begin-line-spec =
     tie.close
     (tie.spec
     returns
-    cast-line-starts
+    cast-start
     mul-line-starts
     slice-write-line-starts
     add-result

@@ -1,5 +1,5 @@
-use borrow.Author.Needs.{needs}
 -- `fill_text::fill_names` meets its contract. Assumes nothing.
+use borrow.Author.Needs.{needs}
 use Prim.Native.Nat.{_-_}
 use native.Mathlib.Omega.{arith}
 use Rattle.fill_text.proofs.Naming.{name-stands, place-small, NamesSoFar, names-start, unescape-asks, names-again, names-end}

@@ -1,5 +1,5 @@
-use borrow.Author.Needs.{needs}
 -- `fill_text::keep` meets its contract. Assumes nothing.
+use borrow.Author.Needs.{needs}
 use Prim.Native.Nat.{_-_}
 use native.Mathlib.Omega.{arith}
 use Rattle.fill_text.proofs.Laying.{Keeping, keep-starts, keep-room, keep-on, keep-over}
