@@ -21,7 +21,7 @@ fn escaped_length(bytes: &[u8], from: usize, to: usize) -> usize
     while i < to {
         let b = bytes[i];
         i += 1;
-        if (b == 58) | (b == 92) {
+        if text_writing::needs_slash(b) {
             count += 2;
         } else {
             count += 1;

@@ -1,8 +1,10 @@
 // What the writer writes, part by part: each function appends from a place on, leaves the rest as it was, and answers the place after
 // what it wrote. That there is room is known before.
 ghost use mathlib.Core.Path.{_≡_};
+ghost use mathlib.Core.Bool.{_||_};
 ghost use mathlib.Core.List.{[], _∷_};
 ghost use Prim.Native.Nat.{ℕ, _+_, _-_, _≤_, _<_};
+ghost use lib.Dec.{eqb};
 ghost use lib.ListN.{length, getD};
 ghost use lib.Seq.{slice};
 ghost use Rattle.layout.specs.Layout.{escaped, scaleText};
@@ -34,6 +36,13 @@ fn put_bytes(text: &mut [u8], at: usize, bytes: &[u8], from: usize, to: usize) -
     k
 }
 
+// Whether a byte of a name has a backslash before it.
+pub fn needs_slash(b: u8) -> bool
+    ensures { λ r. ⌜ r ≡ (eqb b 58 || eqb b 92) ⌝ }
+{
+    (b == 58) | (b == 92)
+}
+
 // The bytes of a name, a backslash before each colon and each backslash.
 fn put_escaped(text: &mut [u8], at: usize, bytes: &[u8], from: usize, to: usize) -> usize
     requires { ⌜ (from ≤ to) × (to ≤ length (now bytes)) ⌝ }
@@ -45,7 +54,7 @@ fn put_escaped(text: &mut [u8], at: usize, bytes: &[u8], from: usize, to: usize)
     while i < to {
         let b = bytes[i];
         i += 1;
-        if (b == 58) | (b == 92) {
+        if needs_slash(b) {
             text[k] = 92;
             text[k + 1] = b;
             k += 2;
@@ -216,6 +225,14 @@ fn put_words(
     k
 }
 
+// One more line feed, an empty line, ends each sequence.
+fn end_sequence(text: &mut [u8], at: usize) -> usize
+    requires { ⌜ RoomFor (10 ∷ []) (now text) at ⌝ }
+    ensures { λ r. ⌜ Put (10 ∷ []) (now (text .entry)) at r (now (text .exit)) ⌝ }
+{
+    put_byte(text, at, 10)
+}
+
 // All sequences, each with one more line feed behind it.
 pub fn put_sequences(
     text: &mut [u8],
@@ -257,7 +274,7 @@ pub fn put_sequences(
             first,
             end,
         );
-        k = put_byte(text, last, 10);
+        k = end_sequence(text, last);
         i += 1;
     }
     k

@@ -3,3 +3,4 @@ pub mod Unique
 pub mod Elevens
 pub mod Meant
 pub mod Carries
+pub mod Accepts

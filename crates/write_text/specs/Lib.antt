@@ -2,3 +2,4 @@
 pub mod Promise
 pub mod Meaning
 pub mod Carries
+pub mod Accepts

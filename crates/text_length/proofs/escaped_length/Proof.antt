@@ -1,4 +1,5 @@
 -- `text_length::escaped_length` meets its contract. Assumes nothing.
+use mathlib.Core.Path.{sym, _∙_}
 use Prim.Native.Nat.{_-_, _≤_}
 use native.Mathlib.Omega.{arith}
 use borrow.Author.Needs.{needs}
@@ -30,6 +31,9 @@ shared-slice-read-b c =
 add-i : tie.Need-add-i Inv-loop μ-loop
 add-i c = search needs
 
+needs-slash-requires : tie.Need-needs-slash-requires Inv-loop μ-loop
+needs-slash-requires c κs = search needs
+
 -- src/lib.rt:25:13
 add-count : tie.Need-add-count Inv-loop μ-loop
 add-count c =
@@ -45,7 +49,9 @@ loop-again : tie.Need-loop-again Inv-loop μ-loop
 loop-again c =
     let l : tie.At-loop Inv-loop μ-loop = search in
     let t : tie.In-loop Inv-loop μ-loop = search in
-    (counting-two (l .loop .inv .0) (t .loop-test .taken) (c .if1 .taken), l .loop .inv .1)
+    let n : tie.After-needs-slash Inv-loop μ-loop = search in
+    let b : tie.Then1 Inv-loop μ-loop = search in
+    (counting-two (l .loop .inv .0) (t .loop-test .taken) (sym (n .needs-slash .ensures) ∙ b .if1 .taken), l .loop .inv .1)
 
 -- src/lib.rt:27:13
 add-count-2 : tie.Need-add-count-2 Inv-loop μ-loop
@@ -62,7 +68,9 @@ loop-again-2 : tie.Need-loop-again-2 Inv-loop μ-loop
 loop-again-2 c =
     let l : tie.At-loop Inv-loop μ-loop = search in
     let t : tie.In-loop Inv-loop μ-loop = search in
-    (counting-one (l .loop .inv .0) (t .loop-test .taken) (c .if1 .left), l .loop .inv .1)
+    let n : tie.After-needs-slash Inv-loop μ-loop = search in
+    let b : tie.Else1 Inv-loop μ-loop = search in
+    (counting-one (l .loop .inv .0) (t .loop-test .taken) (sym (n .needs-slash .ensures) ∙ b .if1 .left), l .loop .inv .1)
 
 -- src/lib.rt:14:1
 returns : tie.Need-returns Inv-loop μ-loop
@@ -80,6 +88,7 @@ escaped-length-spec =
     loop-holds
     shared-slice-read-b
     add-i
+    needs-slash-requires
     add-count
     loop-less
     loop-again

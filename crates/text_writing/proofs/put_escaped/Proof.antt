@@ -1,4 +1,5 @@
 -- `text_writing::put_escaped` meets its contract. Assumes nothing.
+use mathlib.Core.Path.{sym, _∙_}
 use Prim.Native.Nat.{_-_, _≤_}
 use native.Mathlib.Omega.{arith}
 use borrow.Author.Needs.{needs}
@@ -31,13 +32,17 @@ shared-slice-read-b c = search needs
 add-i : tie.Need-add-i Inv-loop μ-loop
 add-i c = search needs
 
+needs-slash-requires : tie.Need-needs-slash-requires Inv-loop μ-loop
+needs-slash-requires c κs = search needs
+
 -- src/lib.rt:49:13
 slice-write-text : tie.Need-slice-write-text Inv-loop μ-loop
 slice-write-text c =
     let l : tie.At-loop Inv-loop μ-loop = search in
     let t : tie.In-loop Inv-loop μ-loop = search in
+    let n : tie.After-needs-slash Inv-loop μ-loop = search in
     let b : tie.Then1 Inv-loop μ-loop = search in
-    let g = onto-as (name-special _ _ _ (t .loop-test .taken) (l .loop .inv .1) (b .if1 .taken)) (l .loop .inv .2) in
+    let g = onto-as (name-special _ _ _ (t .loop-test .taken) (l .loop .inv .1) (sym (n .needs-slash .ensures) ∙ b .if1 .taken)) (l .loop .inv .2) in
     onto-room g
 
 -- src/lib.rt:50:18
@@ -45,8 +50,9 @@ add-text : tie.Need-add-text Inv-loop μ-loop
 add-text c =
     let l : tie.At-loop Inv-loop μ-loop = search in
     let t : tie.In-loop Inv-loop μ-loop = search in
+    let n : tie.After-needs-slash Inv-loop μ-loop = search in
     let b : tie.Then1 Inv-loop μ-loop = search in
-    let g = onto-as (name-special _ _ _ (t .loop-test .taken) (l .loop .inv .1) (b .if1 .taken)) (l .loop .inv .2) in
+    let g = onto-as (name-special _ _ _ (t .loop-test .taken) (l .loop .inv .1) (sym (n .needs-slash .ensures) ∙ b .if1 .taken)) (l .loop .inv .2) in
     omega (arith, onto-room (onto-byte g))
 
 -- src/lib.rt:50:13
@@ -54,8 +60,9 @@ slice-write-text-2 : tie.Need-slice-write-text-2 Inv-loop μ-loop
 slice-write-text-2 c =
     let l : tie.At-loop Inv-loop μ-loop = search in
     let t : tie.In-loop Inv-loop μ-loop = search in
+    let n : tie.After-needs-slash Inv-loop μ-loop = search in
     let b : tie.Then1 Inv-loop μ-loop = search in
-    let g = onto-as (name-special _ _ _ (t .loop-test .taken) (l .loop .inv .1) (b .if1 .taken)) (l .loop .inv .2) in
+    let g = onto-as (name-special _ _ _ (t .loop-test .taken) (l .loop .inv .1) (sym (n .needs-slash .ensures) ∙ b .if1 .taken)) (l .loop .inv .2) in
     onto-room (onto-byte g)
 
 -- src/lib.rt:51:13
@@ -63,8 +70,9 @@ add-k : tie.Need-add-k Inv-loop μ-loop
 add-k c =
     let l : tie.At-loop Inv-loop μ-loop = search in
     let t : tie.In-loop Inv-loop μ-loop = search in
+    let n : tie.After-needs-slash Inv-loop μ-loop = search in
     let b : tie.Then1 Inv-loop μ-loop = search in
-    let g = onto-as (name-special _ _ _ (t .loop-test .taken) (l .loop .inv .1) (b .if1 .taken)) (l .loop .inv .2) in
+    let g = onto-as (name-special _ _ _ (t .loop-test .taken) (l .loop .inv .1) (sym (n .needs-slash .ensures) ∙ b .if1 .taken)) (l .loop .inv .2) in
     omega (arith, onto-room (onto-byte g))
 
 -- src/lib.rt:45:5
@@ -76,8 +84,9 @@ loop-again : tie.Need-loop-again Inv-loop μ-loop
 loop-again c =
     let l : tie.At-loop Inv-loop μ-loop = search in
     let t : tie.In-loop Inv-loop μ-loop = search in
+    let n : tie.After-needs-slash Inv-loop μ-loop = search in
     let b : tie.Then1 Inv-loop μ-loop = search in
-    let g = onto-as (name-special _ _ _ (t .loop-test .taken) (l .loop .inv .1) (b .if1 .taken)) (l .loop .inv .2) in
+    let g = onto-as (name-special _ _ _ (t .loop-test .taken) (l .loop .inv .1) (sym (n .needs-slash .ensures) ∙ b .if1 .taken)) (l .loop .inv .2) in
     (omega arith, l .loop .inv .1, onto-two g)
 
 -- src/lib.rt:53:13
@@ -85,8 +94,9 @@ slice-write-text-3 : tie.Need-slice-write-text-3 Inv-loop μ-loop
 slice-write-text-3 c =
     let l : tie.At-loop Inv-loop μ-loop = search in
     let t : tie.In-loop Inv-loop μ-loop = search in
+    let n : tie.After-needs-slash Inv-loop μ-loop = search in
     let b : tie.Else1 Inv-loop μ-loop = search in
-    let g = onto-as (name-plain _ _ _ (t .loop-test .taken) (l .loop .inv .1) (b .if1 .left)) (l .loop .inv .2) in
+    let g = onto-as (name-plain _ _ _ (t .loop-test .taken) (l .loop .inv .1) (sym (n .needs-slash .ensures) ∙ b .if1 .left)) (l .loop .inv .2) in
     onto-room g
 
 -- src/lib.rt:54:13
@@ -94,8 +104,9 @@ add-k-2 : tie.Need-add-k-2 Inv-loop μ-loop
 add-k-2 c =
     let l : tie.At-loop Inv-loop μ-loop = search in
     let t : tie.In-loop Inv-loop μ-loop = search in
+    let n : tie.After-needs-slash Inv-loop μ-loop = search in
     let b : tie.Else1 Inv-loop μ-loop = search in
-    let g = onto-as (name-plain _ _ _ (t .loop-test .taken) (l .loop .inv .1) (b .if1 .left)) (l .loop .inv .2) in
+    let g = onto-as (name-plain _ _ _ (t .loop-test .taken) (l .loop .inv .1) (sym (n .needs-slash .ensures) ∙ b .if1 .left)) (l .loop .inv .2) in
     omega (arith, onto-room g)
 
 -- src/lib.rt:45:5
@@ -107,8 +118,9 @@ loop-again-2 : tie.Need-loop-again-2 Inv-loop μ-loop
 loop-again-2 c =
     let l : tie.At-loop Inv-loop μ-loop = search in
     let t : tie.In-loop Inv-loop μ-loop = search in
+    let n : tie.After-needs-slash Inv-loop μ-loop = search in
     let b : tie.Else1 Inv-loop μ-loop = search in
-    let g = onto-as (name-plain _ _ _ (t .loop-test .taken) (l .loop .inv .1) (b .if1 .left)) (l .loop .inv .2) in
+    let g = onto-as (name-plain _ _ _ (t .loop-test .taken) (l .loop .inv .1) (sym (n .needs-slash .ensures) ∙ b .if1 .left)) (l .loop .inv .2) in
     (omega arith, l .loop .inv .1, onto-byte g)
 
 -- src/lib.rt:38:1
@@ -132,6 +144,7 @@ put-escaped-spec =
     loop-holds
     shared-slice-read-b
     add-i
+    needs-slash-requires
     slice-write-text
     add-text
     slice-write-text-2

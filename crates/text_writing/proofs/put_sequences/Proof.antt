@@ -10,7 +10,7 @@ use Rattle.text_writing.proofs.put_sequences.Tie as tie
 use Rattle.text_writing.proofs.put_sequences.Reads as reads
 use Rattle.text_writing.proofs.put_sequences.Lts as lts
 use Rattle.lines.proofs.at.Reads as at-reads
-use Rattle.text_writing.proofs.put_byte.Reads as put-byte-reads
+use Rattle.text_writing.proofs.end_sequence.Reads as end-sequence-reads
 use Rattle.text_writing.proofs.put_words.Reads as put-words-reads
 
 abbrev Inv-loop : tie.InvT-loop
@@ -82,8 +82,8 @@ put-words-requires c κs =
     )
 
 -- src/lib.rt:260:9
-put-byte-requires : tie.Need-put-byte-requires Inv-loop μ-loop
-put-byte-requires c κs =
+end-sequence-requires : tie.Need-end-sequence-requires Inv-loop μ-loop
+end-sequence-requires c κs =
     let p : tie.After-put-words Inv-loop μ-loop = search in
     let e = ended p in
     let b = begun e in
@@ -104,7 +104,7 @@ loop-less c = omega arith
 -- src/lib.rt:242:5
 loop-again : tie.Need-loop-again Inv-loop μ-loop
 loop-again c =
-    let r : tie.After-put-byte Inv-loop μ-loop = search in
+    let r : tie.After-end-sequence Inv-loop μ-loop = search in
     let p : tie.After-put-words Inv-loop μ-loop = search in
     let e = ended p in
     let b = begun e in
@@ -112,7 +112,7 @@ loop-again c =
     let l = at-top t in
     let s = entry l in
     let g = onto-as (sequence-next (tables s) (l .loop .i) (s .args .instances) (t .loop-test .taken)) (l .loop .inv) in
-    onto-put _ _ (r .put-byte .ensures) (onto-put _ _ (put-as (each-list _ (s .args .lines .now) (l .loop .i) (b .at .ensures) (e .at2 .ensures)) (p .put-words .ensures)) g)
+    onto-put _ _ (r .end-sequence .ensures) (onto-put _ _ (put-as (each-list _ (s .args .lines .now) (l .loop .i) (b .at .ensures) (e .at2 .ensures)) (p .put-words .ensures)) g)
 
 -- src/lib.rt:220:1
 same-length : tie.Need-same-length Inv-loop μ-loop
@@ -137,7 +137,7 @@ put-sequences-spec =
     add-at
     at-requires-2
     put-words-requires
-    put-byte-requires
+    end-sequence-requires
     add-i
     loop-less
     loop-again
