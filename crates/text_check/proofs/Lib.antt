@@ -1,0 +1,3 @@
+mod Long
+mod Needed
+pub mod Tells
