@@ -1,3 +1,4 @@
-mod Long
+pub mod Long
 mod Needed
 pub mod Tells
+pub mod Meant

@@ -63,7 +63,7 @@ some-words ((w ∷ ws) ∷ ss) (suc i) n h = some-words ss i n (le-of-suc-le-suc
 -- ---- the first that is too long
 
 module _ (ss : List (List Word)) (full : NoneEmpty ss) where
-  above : (i : ℕ) → i < length ss → Bad (linesFit (tables ss .corpus .starts) (length ss)) i → AboveAt ss i
+  pub above : (i : ℕ) → i < length ss → Bad (linesFit (tables ss .corpus .starts) (length ss)) i → AboveAt ss i
   above i l b = go (ltb 128 (length (getD ss i []))) refl
     where
       go : (x : Bool) → ltb 128 (length (getD ss i [])) ≡ x → AboveAt ss i
@@ -74,10 +74,10 @@ module _ (ss : List (List Word)) (full : NoneEmpty ss) where
           let w = some-words ss i full l in
           absurd (b (record { low = omega (arith, n, w); high = omega (arith, n, h) }))
 
-  bad : (i : ℕ) → i < length ss → AboveAt ss i → Bad (linesFit (tables ss .corpus .starts) (length ss)) i
+  pub bad : (i : ℕ) → i < length ss → AboveAt ss i → Bad (linesFit (tables ss .corpus .starts) (length ss)) i
   bad i l a w = let n = line-length ss i l in let h = w .high in omega (arith, a, n, h)
 
-  first-bad : (i : ℕ) → FirstBad (AboveAt ss) (length ss) i → FirstBad (Bad (linesFit (tables ss .corpus .starts) (length ss))) (length ss) i
+  pub first-bad : (i : ℕ) → FirstBad (AboveAt ss) (length ss) i → FirstBad (Bad (linesFit (tables ss .corpus .starts) (length ss))) (length ss) i
   first-bad i f = record {
     inside = f .inside;
     bad = bad i (f .inside) (f .bad);

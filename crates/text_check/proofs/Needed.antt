@@ -25,7 +25,7 @@ use Rattle.survey.specs.declared.NameSums.{NameSums}
 use Rattle.survey.specs.declared.Survey.{Survey}
 use Rattle.survey.proofs.Named.{front-all}
 use Rattle.text_check.specs.declared.Lengths.{Lengths}
-use Rattle.text_check.specs.Rows.{tooLong, textCounts, textRooms, sizesChecked, textChecked}
+use Rattle.text_check.specs.Rows.{tooLong, textCounts, textRooms, textSized, textChecked}
 use Rattle.text_check.specs.Told.{CountsFront, TellsSequences, surveyCounts, surveyRooms, longRefused}
 use Rattle.text_check.proofs.Long.{long-same}
 
@@ -110,10 +110,10 @@ short-text : (bytes : ℕ) → bytes ≤ 4294967295 → tooLong bytes ≡ Accept
 unfolding refuse
 short-text bytes h = rw (le-ltb 4294967295 bytes h) refl
 
-pub sizes-same : (bytes : ℕ) (ss : List (List Word)) (s : Survey) → bytes ≤ 4294967295 → TellsSequences ss s
-    → orNext (orNext Accepted (refuse 2 0 (anyBroken (surveyCounts s)))) (longRefused (s .figures .long)) ≡ sizesChecked bytes ss
-unfolding sizesChecked
-sizes-same bytes ss s h g = rw (counts-same ss s g, long-same ss s g, short-text bytes h) done
+pub sized-same : (bytes : ℕ) (ss : List (List Word)) (s : Survey) → bytes ≤ 4294967295 → TellsSequences ss s
+    → orNext (orNext Accepted (refuse 2 0 (anyBroken (surveyCounts s)))) (longRefused (s .figures .long)) ≡ textSized bytes ss
+unfolding textSized
+sized-same bytes ss s h g = rw (counts-same ss s g, long-same ss s g, short-text bytes h) done
   where
     done : orNext (orNext Accepted (refuse 2 0 (anyBroken (textCounts ss)))) (lengthsChecked (tables ss .corpus .starts) (length ss)) ≡ orNext (orNext (orNext Accepted Accepted) (two (textCounts ss))) (lengthsChecked (tables ss .corpus .starts) (length ss))
     done = unfold orNext in refl

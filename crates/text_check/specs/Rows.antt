@@ -18,8 +18,8 @@ abbrev pub tooLong : ℕ → Checked
 tooLong bytes = refuse 2 0 (ltb 4294967295 bytes)
 
 -- "The 33rd label and the 65,536th attribute are 2, and not 1; no word at all is 2", charged to the instances; "The other bounds hold as everywhere"
-abbrev pub countLimits : (labels names instances words attributes : ℕ) → List Limit
-countLimits labels names instances words attributes =
+abbrev pub textLimits : (labels names instances words attributes : ℕ) → List Limit
+textLimits labels names instances words attributes =
     atMost theLabels labels
     ∷ count theAttributeLists names
     ∷ count theInstances instances
@@ -31,7 +31,7 @@ abbrev pub textCounts : List (List Word) → List Limit
 textCounts ss =
     let words = allWords ss in
     let attributes = allAttributes words in
-    countLimits (length (distinct (labelsOf words))) (length (distinct (namesOf attributes))) (length ss) (length words) (length attributes)
+    textLimits (length (distinct (labelsOf words))) (length (distinct (namesOf attributes))) (length ss) (length words) (length attributes)
 
 -- "A table is full where the whole answer does not fit", in the order of the call's slices
 abbrev pub textRooms : Tables → Lengths → List Limit
@@ -55,8 +55,8 @@ abbrev pub sequenceTests : List (List Word) → List Test
 sequenceTests ss = linesFit (tables ss .corpus .starts) (length ss) ∷ []
 
 -- "Order: 11, 2, .., 4": of a text of so many bytes with these sequences, without tables to fill, and with tables of these lengths
-unfoldable pub sizesChecked : ℕ → List (List Word) → Checked
-sizesChecked bytes ss = first (tooLong bytes ∷ two (textCounts ss) ∷ checks (sequenceTests ss))
+unfoldable pub textSized : ℕ → List (List Word) → Checked
+textSized bytes ss = first (tooLong bytes ∷ two (textCounts ss) ∷ checks (sequenceTests ss))
 
 unfoldable pub textChecked : ℕ → List (List Word) → Lengths → Checked
 textChecked bytes ss have = first (tooLong bytes ∷ two (textCounts ss) ∷ two (textRooms (tables ss) have) ∷ checks (sequenceTests ss))

@@ -16,7 +16,7 @@ use Rattle.text_tables.specs.Tally.{AboveAt}
 use Rattle.survey.specs.declared.NameSums.{NameSums}
 use Rattle.survey.specs.declared.Survey.{Survey}
 use Rattle.text_check.specs.declared.Lengths.{Lengths}
-use Rattle.text_check.specs.Rows.{countLimits}
+use Rattle.text_check.specs.Rows.{textLimits}
 
 -- of these names the first so many are counted
 pub record CountsFront (most : ℕ) (names : List Bytes) (known : NameSums) : Type 0 where
@@ -37,7 +37,7 @@ pub record TellsSequences (ss : List (List Word)) (s : Survey) : Type 0 where
 -- ---- the rows, in its terms
 
 abbrev pub surveyCounts : Survey → List Limit
-surveyCounts s = countLimits (s .labels .count) (s .names .count) (s .figures .sequences) (s .figures .words) (s .figures .attributes)
+surveyCounts s = textLimits (s .labels .count) (s .names .count) (s .figures .sequences) (s .figures .words) (s .figures .attributes)
 
 abbrev pub surveyRooms : Survey → Lengths → List Limit
 surveyRooms s have =

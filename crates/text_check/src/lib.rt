@@ -8,7 +8,7 @@ ghost use Rattle.refusal_rows.specs.Limits.{anyBroken};
 ghost use lib.ListN.{length};
 ghost use Rattle.layout.specs.Layout.{Word, WellFormed, sequences};
 ghost use Rattle.distinct.specs.Slots.{Filed};
-ghost use Rattle.text_check.specs.Rows.{sizesChecked, textChecked};
+ghost use Rattle.text_check.specs.Rows.{textSized, textChecked};
 ghost use Rattle.text_check.specs.Told.{TellsSequences, surveyCounts, surveyRooms, longRefused, FewSurvey, TextSurveyed};
 use refusals::Checked;
 use survey::Survey;
@@ -82,7 +82,7 @@ fn check_long(answer: Checked, long: usize) -> Checked
 
 // 2 and 4, where nothing is to be filled.
 pub fn check_sizes(survey: Survey) -> Checked
-    ensures { λ r. ⌜ ((bytes : ℕ) (ss : List (List Word)) → bytes ≤ 4294967295 → TellsSequences ss survey → r ≡ sizesChecked bytes ss) ⌝ }
+    ensures { λ r. ⌜ ((bytes : ℕ) (ss : List (List Word)) → bytes ≤ 4294967295 → TellsSequences ss survey → r ≡ textSized bytes ss) ⌝ }
 {
     let figures = survey.figures;
     let counted = refusals::refuse_if(Checked::Accepted, 2, 0, exceeds_text(survey));

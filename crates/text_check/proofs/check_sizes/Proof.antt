@@ -1,6 +1,6 @@
 -- `text_check::check_sizes` meets its contract. Assumes nothing.
 use borrow.Author.Needs.{needs}
-use Rattle.text_check.proofs.Needed.{sizes-same}
+use Rattle.text_check.proofs.Needed.{sized-same}
 use Rattle.text_check.proofs.check_sizes.Statement.{statement}
 use Rattle.text_check.proofs.check_sizes.Tie as tie
 
@@ -17,7 +17,7 @@ returns : tie.Need-returns
 returns c =
     let r : tie.After-refuse-if = search in
     let x : tie.After-exceeds-text = search in
-    λ bytes ss h g. rw (c .check-long .ensures, r .refuse-if .ensures, x .exceeds-text .ensures) (sizes-same bytes ss _ h g)
+    λ bytes ss h g. rw (c .check-long .ensures, r .refuse-if .ensures, x .exceeds-text .ensures) (sized-same bytes ss _ h g)
 
 pub check-sizes-spec : {M : Type 1} → statement M
 check-sizes-spec =
