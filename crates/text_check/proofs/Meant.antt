@@ -63,18 +63,20 @@ text-checks-mean bytes ss have =
     let counts = two-means (textCounts ss) in
     let sizes = pair (long-row bytes) counts in
     let twos = three (long-row bytes) counts (two-means (textRooms (tables ss) have)) in
-    let fours = tested 4 (sequenceTests ss) (refl, tt) in
-    (record {
-      two = λ place. given-first place sizes (fours ∷ []) tt;
-      four = λ place. given-after place (sizes ∷ []) fours [] tt tt;
-      only = λ w. given-only w (sizes ∷ fours ∷ []);
-      accepted = accepted-when (sizes ∷ fours ∷ []);
-    }, record {
-      two = λ place. given-first place twos (fours ∷ []) tt;
-      four = λ place. given-after place (twos ∷ []) fours [] tt tt;
-      only = λ w. given-only w (twos ∷ fours ∷ []);
-      accepted = accepted-when (twos ∷ fours ∷ []);
-    })
+    let fours = tested 4 (sequenceTests ss) (refl, tt) in (
+      record {
+        two = λ place. given-first place sizes (fours ∷ []) tt;
+        four = λ place. given-after place (sizes ∷ []) fours [] tt tt;
+        only = λ w. given-only w (sizes ∷ fours ∷ []);
+        accepted = accepted-when (sizes ∷ fours ∷ []);
+      },
+      record {
+        two = λ place. given-first place twos (fours ∷ []) tt;
+        four = λ place. given-after place (twos ∷ []) fours [] tt tt;
+        only = λ w. given-only w (twos ∷ fours ∷ []);
+        accepted = accepted-when (twos ∷ fours ∷ []);
+      },
+    )
 
 pub long-means : LongMeans
 long-means ss full place = (to, λ f. inl (first-bad ss full place f))
