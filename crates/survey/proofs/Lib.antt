@@ -1,3 +1,3 @@
 mod Figured
-mod Named
-mod Pass
+pub mod Named
+pub mod Pass

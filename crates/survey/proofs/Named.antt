@@ -28,7 +28,7 @@ use Rattle.survey.proofs.Figured.{grown-new, grown-old}
 
 -- ---- fronts
 
-front-all : {A : Type 0} (n : ℕ) (xs : List A) → length (take n xs) < n → take n xs ≡ xs
+pub front-all : {A : Type 0} (n : ℕ) (xs : List A) → length (take n xs) < n → take n xs ≡ xs
 front-all zero xs h = absurd (not-suc-le-zero h)
 front-all (suc n) [] h = refl
 front-all {A} (suc n) (x ∷ xs) h = ap (λ (ys : List A). x ∷ ys) (front-all n xs (le-of-suc-le-suc h))
@@ -38,7 +38,7 @@ front-same zero xs ys h = refl
 front-same (suc n) [] ys h = absurd (not-suc-le-zero h)
 front-same {A} (suc n) (x ∷ xs) ys h = ap (λ (zs : List A). x ∷ zs) (front-same n xs ys (le-of-suc-le-suc h))
 
-front-few : {A : Type 0} (n : ℕ) (xs : List A) → length (take n xs) ≤ length xs
+pub front-few : {A : Type 0} (n : ℕ) (xs : List A) → length (take n xs) ≤ length xs
 front-few n xs =
     let a = length-append (take n xs) (drop n xs) in
     let b = ap length (take-append-drop n xs) in
