@@ -23,7 +23,7 @@ use Rattle.text_check.specs.Meaning.{TextFits, GivenTwoFour}
 use Rattle.text_check.proofs.Meant.{text-checks-mean, long-means}
 use Rattle.read_text.specs.declared.TextSizes.{TextSizes}
 use Rattle.read_text.specs.Promise.{Buffers, Outcome, said, sizesOf, lengthsOf, checkedOf, Promised}
-use Rattle.read_text.specs.Meaning.{sequencesOf, ReadingMeans, PromiseMeans}
+use Rattle.read_text.specs.Meaning.{sequencesOf, TextReadingMeans, PromiseMeans}
 use Rattle.read_text.proofs.Unique.{either}
 
 module _ (text : Bytes) (before : Buffers) (outcome : Outcome) (p : Promised text before outcome) where

@@ -23,7 +23,7 @@ abbrev pub sequencesOf : {text : Bytes} → WellFormed text → List (List Word)
 sequencesOf h = sequences (h .lines)
 
 -- "Order: 11, 2, .., 4": 11 exactly where the text is malformed, with its place; the others only of a well-formed text
-pub record ReadingMeans (text : Bytes) (before : Buffers) (outcome : Outcome) : Type 0 where
+pub record TextReadingMeans (text : Bytes) (before : Buffers) (outcome : Outcome) : Type 0 where
   pub eleven : (place : ℕ) → said (outcome .answer) ≡ refused (numbered 11 place) ↔ PlaceOf text place
   pub two : (place : ℕ) → said (outcome .answer) ≡ refused (numbered 2 place) ↔ ((h : WellFormed text) × AtZero (TextFits (length text) (sequencesOf h) (lengthsOf before)) place)
   pub four : (place : ℕ) → said (outcome .answer) ≡ refused (numbered 4 place)
@@ -34,4 +34,4 @@ pub record ReadingMeans (text : Bytes) (before : Buffers) (outcome : Outcome) : 
       ↔ ((h : WellFormed text) × TextFits (length text) (sequencesOf h) (lengthsOf before) × AllGood (sequenceTests (sequencesOf h)) × (sizes ≡ sizesOf (sequencesOf h)))
 
 abbrev pub PromiseMeans : Type 0
-PromiseMeans = (text : Bytes) (before : Buffers) (outcome : Outcome) → Promised text before outcome → ReadingMeans text before outcome
+PromiseMeans = (text : Bytes) (before : Buffers) (outcome : Outcome) → Promised text before outcome → TextReadingMeans text before outcome
