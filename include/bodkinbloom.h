@@ -25,6 +25,8 @@
  *    viterbi_decode                 12,288    (8,136 were used)
  *    label_line                     49,152    (46,496)
  *    the three trainers             53,248    (51,592)
+ *    read_text, text_sizes       1,048,576    (two tables that find names again are most of it: 786,432)
+ *    write_text                      1,024
  */
 #ifndef BODKINBLOOM_H
 #define BODKINBLOOM_H
@@ -36,8 +38,9 @@
 /* Of what is declared here: it is raised when a call, a struct or the meaning of a number changes. */
 #define BODKINBLOOM_VERSION 1
 
-/* More stack than any call takes. */
+/* More stack than any call takes; and more than those take that read a training text, which are not among the others. */
 #define BODKINBLOOM_STACK 53248
+#define BODKINBLOOM_TEXT_STACK 1048576
 
 #ifdef __cplusplus
 extern "C" {
@@ -94,6 +97,8 @@ static inline int bodkinbloom_environment(void) {
  *    8  a finished score or count is not finite; place: the index
  *    9  training left the finite numbers; place: the visits done
  *   10  a file with a wrong mark, version or length: given by the program `decode`, which reads one, and by no call here
+ *   11  a malformed training text; place: the first byte after which no text is well-formed, or the text's length. To be
+ *       written: a name or a scale that no text can carry; place: the index in its table
  */
 typedef struct {
     uint32_t number;
@@ -111,6 +116,7 @@ typedef struct {
 #define BODKINBLOOM_REFUSED_RESULT 8
 #define BODKINBLOOM_REFUSED_TRAINING 9
 #define BODKINBLOOM_REFUSED_FILE 10 /* the program's */
+#define BODKINBLOOM_REFUSED_TEXT 11
 
 /* ---- the shuffle */
 
@@ -506,6 +512,147 @@ bodkinbloom_trained bodkinbloom_arow(
     double *true_counts, size_t true_counts_length,
     double *predicted_counts, size_t predicted_counts_length,
     uint32_t *order, size_t order_length);
+
+/* ---- the training text: instances as they are exchanged, in the text layout of CRFsuite
+ *
+ * One word a line. Fields are parted by tabs: the label, then any attributes. An attribute is a name, or a name, a colon and
+ * a scale, which is its value; without one the value is 1. An empty line, or the end of the text, ends a sequence, which is an
+ * instance of training; a further empty line changes nothing.
+ *
+ *    text      = line { LF line }          so a last line feed may be there or not
+ *    line      = empty | label { TAB attribute }
+ *    label     = name
+ *    attribute = name | name ":" scale
+ *    name      = one or more of: a plain byte, "\:" for a colon, "\\" for a backslash
+ *    scale     = an optional "-", then 1 to 15 digits with at most one ".", which may be first or last
+ *
+ * A plain byte is any but tab, line feed, colon and backslash: 0, space, 128 to 255, and CR. So in a text whose lines end in CR
+ * LF every last name of a line ends in CR, a line of CR alone is a word, and a scale before a CR is malformed: take the CRs out
+ * first. A name cannot have a tab or a line feed. Nothing is asked of the encoding.
+ *
+ * A scale's value is its fraction rounded once to the nearest binary64, ties to even; "-0" is -0. Beside the value its text is
+ * kept as it was typed, for the writer: b, b:1, b:1. and b:01 have the value 1 and four different texts, the first empty.
+ *
+ * Names get ids by first appearance, labels and attributes apart. Each call starts with no names: the ids of two texts agree only
+ * where names appear first in the same order. */
+
+/* What reading a text answers; all but number and place are 0 after a refusal.
+ *    number           0, or the refusal's
+ *    place            of the refusal, else 0
+ *    labels           how many names of labels, at most 32
+ *    attribute_names  how many names of attributes, at most 65,535
+ *    instances, words_in_all, attributes_in_all    as bodkinbloom_totals has them
+ *    label_bytes, attribute_bytes                  of all those names together, without escapes
+ *    scale_bytes                                   of all kept texts together */
+typedef struct {
+    uint32_t number;
+    uint64_t place;
+    uint32_t labels;
+    uint32_t attribute_names;
+    uint32_t instances;
+    uint32_t words_in_all;
+    uint32_t attributes_in_all;
+    uint32_t label_bytes;
+    uint32_t attribute_bytes;
+    uint32_t scale_bytes;
+} bodkinbloom_text;
+
+/* What is enough for a text of n bytes, whatever is in it. Starts are one more: BODKINBLOOM_STARTS(count). Of label_names,
+ * attribute_names and scales n bytes each are enough, and what a reader's tables are written to has at most
+ * BODKINBLOOM_WRITTEN(n). (`n` is evaluated several times.) */
+#define BODKINBLOOM_MOST_ATTRIBUTE_NAMES 65535
+#define BODKINBLOOM_LESS(count, most) ((size_t)(count) < (size_t)(most) ? (size_t)(count) : (size_t)(most))
+#define BODKINBLOOM_TEXT_INSTANCES(n) BODKINBLOOM_LESS((n) / 3 + ((n) % 3 != 0), BODKINBLOOM_MOST_INSTANCES)
+#define BODKINBLOOM_TEXT_WORDS(n) BODKINBLOOM_LESS((n) / 2 + ((n) % 2 != 0), BODKINBLOOM_MOST_WORDS_IN_ALL)
+#define BODKINBLOOM_TEXT_ATTRIBUTES(n) BODKINBLOOM_LESS((n) / 2, BODKINBLOOM_MOST_ATTRIBUTES_IN_ALL)
+#define BODKINBLOOM_TEXT_LABELS(n) BODKINBLOOM_LESS((n) / 2 + ((n) % 2 != 0), BODKINBLOOM_MOST_LABELS)
+#define BODKINBLOOM_TEXT_ATTRIBUTE_NAMES(n) BODKINBLOOM_LESS((n) / 2, BODKINBLOOM_MOST_ATTRIBUTE_NAMES)
+#define BODKINBLOOM_WRITTEN(n) ((size_t)(n) + 2)
+
+/* Reads a text of `text_length` bytes into tables that the trainers take, the names and the kept texts beside them. How long
+ * the tables have to be, by what the call answers, and what stands in them after an accepted call:
+ *    line_starts            BODKINBLOOM_STARTS(instances)          where the words of each instance begin
+ *    word_starts            BODKINBLOOM_STARTS(words_in_all)       where the attributes of each word begin
+ *    ids                    attributes_in_all                      of each attribute the id of its name
+ *    values                 attributes_in_all                      its value
+ *    references             words_in_all                           of each word the id of its label
+ *    instance_weights       instances                              1, all of them
+ *    label_name_starts      BODKINBLOOM_STARTS(labels)             where the name of each label begins
+ *    label_names            label_bytes                            the names, one behind the other, without escapes
+ *    attribute_name_starts  BODKINBLOOM_STARTS(attribute_names)    where the name of each attribute begins
+ *    attribute_names        attribute_bytes                        the names, likewise
+ *    scale_starts           BODKINBLOOM_STARTS(attributes_in_all)  where the kept text of each attribute of each word begins
+ *    scales                 scale_bytes                            the kept texts; one without a scale has none
+ * Behind these fronts nothing is written. bodkinbloom_text_sizes tells the lengths beforehand; the macros above what is enough.
+ *
+ * Refused, in this order; all twelve tables are then as they were:
+ *   11  the text is malformed; place: the first byte after which no well-formed text is possible, or text_length where only the
+ *       end is at fault. The whole text is looked at for it before anything else
+ *   2   the text has more than 4,294,967,295 bytes; more than 32 labels or 65,535 attribute names; no word at all, or more than
+ *       16,384 sequences; more than 1,048,576 words or 4,194,304 attributes. Or a table is too short for the whole answer.
+ *       Place 0
+ *   4   a sequence has more than 128 words; place: which, from 0 */
+bodkinbloom_text bodkinbloom_read_text(const uint8_t *text, size_t text_length,
+                                       uint32_t *line_starts, size_t line_starts_length,
+                                       uint32_t *word_starts, size_t word_starts_length,
+                                       uint32_t *ids, size_t ids_length,
+                                       double *values, size_t values_length,
+                                       uint32_t *references, size_t references_length,
+                                       double *instance_weights, size_t instance_weights_length,
+                                       uint32_t *label_name_starts, size_t label_name_starts_length,
+                                       uint8_t *label_names, size_t label_names_length,
+                                       uint32_t *attribute_name_starts, size_t attribute_name_starts_length,
+                                       uint8_t *attribute_names, size_t attribute_names_length,
+                                       uint32_t *scale_starts, size_t scale_starts_length,
+                                       uint8_t *scales, size_t scales_length);
+
+/* What bodkinbloom_read_text answers where every table is long enough; nothing is written. Refused: 11, 2, 4, as there. */
+bodkinbloom_text bodkinbloom_text_sizes(const uint8_t *text, size_t text_length);
+
+/* How many names of attributes, and how many bytes the names and the kept texts have. */
+typedef struct {
+    uint32_t attribute_names;
+    uint32_t label_bytes;
+    uint32_t attribute_bytes;
+    uint32_t scale_bytes;
+} bodkinbloom_names;
+
+/* What writing answers: number and place as above, and how many bytes were written, 0 after a refusal. */
+typedef struct {
+    uint32_t number;
+    uint64_t place;
+    uint64_t length;
+} bodkinbloom_written;
+
+/* Writes tables as a text: each word as a line, its label and for each attribute a tab, the name, and, where the kept text is
+ * not empty, a colon and that text. A line feed ends each line, and one more, which makes an empty line, each sequence, the
+ * last too: so two written texts, one behind the other, are a text of both. Values and instance weights are not lent: a text
+ * carries the kept texts, and no weights. The tables and how long they have to be are those of the reader, by `labels`, `totals`
+ * and `names`. Tables that the reader filled read back to the same tables, to the bit.
+ *
+ * Refused, in this order; `text` is then as it was:
+ *   1   `labels` is not 1 to 32; place 0
+ *   2   more than 65,535 attribute names; not 1 to 16,384 instances; more than 1,048,576 words or 4,194,304 attributes. Or a
+ *       table that is read is too short. Place 0
+ *   3   a start breaks its rule; place: its index in line_starts, word_starts, label_name_starts, attribute_name_starts,
+ *       scale_starts
+ *   4   an instance has no words, or more than 128; place: which
+ *   5   an id without a name, in ids; then a label at or above `labels`, in references; place: the index
+ *   2   `text` is too short; place 0
+ *   11  a name that is empty or has a tab or a line feed, or a kept text that is not empty and no scale; place: the index in
+ *       its table: the names of labels, of attributes, the kept texts. All are tested, used or not */
+bodkinbloom_written bodkinbloom_write_text(uint32_t labels, bodkinbloom_totals totals, bodkinbloom_names names,
+                                           const uint32_t *line_starts, size_t line_starts_length,
+                                           const uint32_t *word_starts, size_t word_starts_length,
+                                           const uint32_t *ids, size_t ids_length,
+                                           const uint32_t *references, size_t references_length,
+                                           const uint32_t *label_name_starts, size_t label_name_starts_length,
+                                           const uint8_t *label_names, size_t label_names_length,
+                                           const uint32_t *attribute_name_starts, size_t attribute_name_starts_length,
+                                           const uint8_t *attribute_names, size_t attribute_names_length,
+                                           const uint32_t *scale_starts, size_t scale_starts_length,
+                                           const uint8_t *scales, size_t scales_length,
+                                           uint8_t *text, size_t text_length);
 
 #ifdef __cplusplus
 }

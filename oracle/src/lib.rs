@@ -12,6 +12,7 @@
 //! - `list`: the fixed list of answers that the repository replays without Rust at hand.
 //! - `sheets`: the fixed sheet files, good and damaged, and the samples.
 //! - `log_sheet`: what the C example has to print.
+//! - `training_text`: the training text of document 02, read and written a second time; cases, and the fixed texts.
 
 pub mod cases;
 pub mod desk;
@@ -27,3 +28,4 @@ pub mod sha256;
 pub mod sheets;
 pub mod tables;
 pub mod trace;
+pub mod training_text;

@@ -16,7 +16,7 @@ use Rattle.refusals.proofs.Meant.{exactly, starts-mean, kinds-mean, ids-mean, s
 use Rattle.score_tables.specs.Sound.{WordsIn}
 use Rattle.score_tables.specs.Meaning.{Row}
 use Rattle.score_tables.proofs.Order.{row, Never, not-table, why}
-use Rattle.refusal_rows.specs.Limits.{Limit, count, room, broken, brokenFrom, anyBroken, two, Within, AllWithin}
+use Rattle.refusal_rows.specs.Limits.{Limit, count, atMost, room, broken, brokenFrom, anyBroken, two, Within, AllWithin}
 use Rattle.refusal_rows.specs.Tests.{Test, startsRise, linesFit, kindsKnown, idsBelow, sourcesBelow, numbersFinite, lineLength, badLength, checked, checks, numberOf, places, Bad, Good, AllGood, FirstBadOf}
 
 -- ---- limits
@@ -33,6 +33,7 @@ beyond-means (upTo most) n = (ltb-false most n, le-ltb most n)
 
 limit-means : (limit : Limit) → broken limit ≡ false ↔ Within limit
 limit-means (count which n) = beyond-means (bound which) n
+limit-means (atMost which n) = (ltb-false (most which) n, le-ltb (most which) n)
 limit-means (room have need) = (ltb-false have need, le-ltb have need)
 
 -- the answer so far is no, and no limit is broken

@@ -2,20 +2,22 @@
 use mathlib.Core.Bool.{Bool, true, false, _||_, _&&_}
 use mathlib.Core.List.{List, [], _∷_}
 use Prim.Native.Nat.{ℕ, _+_, _≤_}
-use lib.Dec.{leb}
+use lib.Dec.{ltb, leb}
 use Rattle.refusals.specs.declared.Checked.{Checked}
 use Rattle.refusals.specs.Refusals.{refuse}
 use Rattle.refusals.specs.Tables.{short}
-use Rattle.refusals.specs.Bounds.{Count, position, bound, Inside, outsideIts}
+use Rattle.refusals.specs.Bounds.{Count, position, bound, Inside, most, outsideIts}
 
--- a count that is so large, and a lent table or buffer with what is needed of it
+-- a count that is so large; one of which none is fine too, whatever its bound says; and a lent table or buffer with what is needed of it
 pub data Limit : Type 0 where
   count : (which : Count) (n : ℕ) → Limit
+  atMost : (which : Count) (n : ℕ) → Limit
   room : (have need : ℕ) → Limit
 
 -- "outside its bound", "too short"
 abbrev pub broken : Limit → Bool
 broken (count which n) = outsideIts which n
+broken (atMost which n) = ltb (most which) n
 broken (room have need) = short have need
 
 -- the answer so far, or one of the limits is broken
@@ -30,6 +32,7 @@ anyBroken limits = brokenFrom false limits
 abbrev pub risingFrom : ℕ → List Limit → Bool
 risingFrom least [] = true
 risingFrom least (count which n ∷ limits) = leb least (position which) && risingFrom (position which + 1) limits
+risingFrom least (atMost which n ∷ limits) = leb least (position which) && risingFrom (position which + 1) limits
 risingFrom least (room have need ∷ limits) = false
 
 abbrev pub inOrder : List Limit → Bool
@@ -43,6 +46,7 @@ two limits = refuse 2 0 (anyBroken limits)
 
 abbrev pub Within : Limit → Type 0
 Within (count which n) = Inside (bound which) n
+Within (atMost which n) = n ≤ most which
 Within (room have need) = need ≤ have
 
 abbrev pub AllWithin : List Limit → Type 0

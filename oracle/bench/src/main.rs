@@ -4,14 +4,19 @@
 mod decoding;
 mod flat;
 mod scoring;
+mod texts;
 mod times;
 mod training;
 
 /// Each table, or those that are named.
 fn main() {
     let named: Vec<String> = std::env::args().skip(1).collect();
-    let tables: [(&str, fn()); 3] =
-        [("decoding", decoding::print), ("scoring", scoring::print), ("training", training::print)];
+    let tables: [(&str, fn()); 4] = [
+        ("decoding", decoding::print),
+        ("scoring", scoring::print),
+        ("training", training::print),
+        ("texts", texts::print),
+    ];
     for (name, print) in tables {
         if named.is_empty() || named.iter().any(|given| given == name) {
             print();

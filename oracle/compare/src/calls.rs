@@ -85,6 +85,38 @@ pub struct Trained {
     pub updates: u64,
 }
 
+#[repr(C)]
+#[derive(Debug, Clone, Copy, PartialEq, Eq)]
+pub struct Text {
+    pub number: u32,
+    pub place: u64,
+    pub labels: u32,
+    pub attribute_names: u32,
+    pub instances: u32,
+    pub words_in_all: u32,
+    pub attributes_in_all: u32,
+    pub label_bytes: u32,
+    pub attribute_bytes: u32,
+    pub scale_bytes: u32,
+}
+
+#[repr(C)]
+#[derive(Debug, Clone, Copy, PartialEq, Eq)]
+pub struct Names {
+    pub attribute_names: u32,
+    pub label_bytes: u32,
+    pub attribute_bytes: u32,
+    pub scale_bytes: u32,
+}
+
+#[repr(C)]
+#[derive(Debug, Clone, Copy, PartialEq, Eq)]
+pub struct Written {
+    pub number: u32,
+    pub place: u64,
+    pub length: u64,
+}
+
 impl From<tables::Counts> for Counts {
     fn from(counts: tables::Counts) -> Self {
         let tables::Counts { features, attribute_lists, label_lists, attribute_entries, label_entries } = counts;
@@ -198,4 +230,21 @@ declared! {
         [line_starts: u32, word_starts: u32, ids: u32, values: f64, references: u32, instance_weights: f64];
         mut [weights: f64, covariance: f64, true_counts: f64, predicted_counts: f64, order: u32]
     ) -> Trained;
+
+    fn bodkinbloom_text_sizes(; [text: u8]; ; []; mut []) -> Text;
+
+    fn bodkinbloom_read_text(
+        ; [text: u8]; ; [];
+        mut [line_starts: u32, word_starts: u32, ids: u32, values: f64, references: u32, instance_weights: f64,
+             label_name_starts: u32, label_names: u8, attribute_name_starts: u32, attribute_names: u8,
+             scale_starts: u32, scales: u8]
+    ) -> Text;
+
+    fn bodkinbloom_write_text(
+        labels: u32, totals: Totals, names: Names;
+        [line_starts: u32, word_starts: u32, ids: u32, references: u32, label_name_starts: u32, label_names: u8,
+         attribute_name_starts: u32, attribute_names: u8, scale_starts: u32, scales: u8];
+        ; [];
+        mut [text: u8]
+    ) -> Written;
 }

@@ -8,6 +8,7 @@ pub mod calls;
 pub mod decode;
 pub mod scoring;
 pub mod shuffle;
+pub mod text;
 pub mod training;
 
 /// A refusal's number and place.

@@ -56,6 +56,16 @@ impl Entry for u32 {
     }
 }
 
+impl Entry for u8 {
+    fn drawn(rng: &mut Rng) -> Self {
+        rng.draw() as u8
+    }
+
+    fn bits(self) -> u64 {
+        self.into()
+    }
+}
+
 impl Entry for f64 {
     /// Any bits at all; each fourth is a NaN of any sign and payload, quiet or signalling.
     fn drawn(rng: &mut Rng) -> Self {

@@ -1,0 +1,6 @@
+mod Laying
+mod Naming
+mod Going
+mod WordsOn
+mod KeptOn
+mod Filling

@@ -1,0 +1,112 @@
+// The look through a text for 11, window by window.
+ghost use mathlib.Core.Bool.{true};
+ghost use mathlib.Core.Path.{_≡_};
+ghost use Prim.Native.Nat.{_<_, _≤_};
+ghost use lib.ListN.{length};
+ghost use Rattle.layout.specs.Scan.{look, alive};
+ghost use Prim.Native.Nat.{_+_};
+ghost use Rattle.names.specs.Windows.{Window, nameMode};
+ghost use Rattle.look.specs.Turns.{Onward, Turned};
+use layout::Found;
+use layout::Mode;
+
+// How far a look has come.
+pub struct Reached {
+    pub at: usize,
+    pub mode: Mode,
+}
+
+// Where a window that begins here ends.
+fn window_end(at: usize, n: usize) -> usize
+    requires { ⌜ at < n ⌝ }
+    ensures { λ r. ⌜ (at < r) × (r ≤ n) ⌝ }
+    ensures { λ r. ⌜ r ≤ at + 64 ⌝ }
+{
+    if n - at < 64 { n } else { at + 64 }
+}
+
+// Where a walk through a name stopped.
+fn in_mode(at: usize, slashed: bool, attribute: bool) -> Reached
+    ensures { λ r. ⌜ (r .at ≡ at) × (r .mode ≡ nameMode slashed attribute) ⌝ }
+{
+    if slashed {
+        Reached {
+            at: at,
+            mode: Mode::Slashed(attribute),
+        }
+    } else {
+        Reached {
+            at: at,
+            mode: Mode::Inside(attribute),
+        }
+    }
+}
+
+// To the end of a name, where the place is in one.
+fn through_name(text: &[u8], at: usize, end: usize, mode: Mode) -> Reached
+    requires { ⌜ Window (now text) at end ⌝ }
+    ensures { λ r. ⌜ Onward (now (text .entry)) mode at end r ⌝ }
+{
+    match mode {
+        Mode::Inside(k) => {
+            let i = names::plain_run(text, at, end);
+            let s = names::plain(text, i, end);
+            in_mode(s.at, s.slashed, k)
+        }
+        Mode::Slashed(k) => {
+            let s = names::behind(text, at, end);
+            in_mode(s.at, s.slashed, k)
+        }
+        Mode::Begin => Reached { at: at, mode: mode },
+        Mode::Field => Reached { at: at, mode: mode },
+        Mode::Value => Reached { at: at, mode: mode },
+        Mode::Digits(_, _) => Reached { at: at, mode: mode },
+        Mode::Bad => Reached { at: at, mode: mode },
+    }
+}
+
+// A window: through a name, then one byte.
+fn turn(text: &[u8], at: usize, mode: Mode) -> Reached
+    requires { ⌜ (at < length (now text)) × (alive mode ≡ true) ⌝ }
+    ensures { λ r. ⌜ Turned (now (text .entry)) mode at r ⌝ }
+{
+    let end = window_end(at, text.len());
+    let w = through_name(text, at, end, mode);
+    let i = w.at;
+    if i == end {
+        return w;
+    }
+    let m = w.mode;
+    let next = byte_steps::next_mode(m, byte_steps::class_of(text[i]));
+    if byte_steps::is_alive(next) {
+        return Reached {
+            at: i + 1,
+            mode: next,
+        };
+    }
+    Reached {
+        at: i,
+        mode: Mode::Bad,
+    }
+}
+
+// 11: well-formed, or the first byte after which no well-formed text is possible, or the length at the end.
+pub fn look_through(text: &[u8]) -> Found
+    ensures { λ r. ⌜ r ≡ look (now (text .entry)) ⌝ }
+{
+    let mut at = 0usize;
+    let mut mode = Mode::Begin;
+    while at < text.len() {
+        let w = turn(text, at, mode);
+        at = w.at;
+        mode = w.mode;
+        if !byte_steps::is_alive(mode) {
+            return Found::At(at);
+        }
+    }
+    if byte_steps::may_end(mode) {
+        Found::Whole
+    } else {
+        Found::At(at)
+    }
+}

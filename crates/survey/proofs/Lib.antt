@@ -1,0 +1,3 @@
+mod Figured
+pub mod Named
+pub mod Pass

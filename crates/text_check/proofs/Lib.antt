@@ -1,0 +1,4 @@
+pub mod Long
+mod Needed
+pub mod Tells
+pub mod Meant

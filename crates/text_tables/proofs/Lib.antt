@@ -1,0 +1,15 @@
+pub mod Lists
+pub mod Known
+pub mod Appearance
+pub mod Passed
+pub mod Tallied
+pub mod Built
+pub mod Along
+pub mod Ends
+pub mod Written
+pub mod Parts
+pub mod RoundTrip
+pub mod Carried
+pub mod Tails
+pub mod Places
+pub mod InText

@@ -1,0 +1,298 @@
+// The checks of the writer: 1, 2, 3, 4 and 5 of the tables that it reads, 2 of the text's room, which only sound tables have a need
+// for, and 11 last.
+ghost use mathlib.Core.Path.{_≡_};
+ghost use mathlib.Core.List.{_++_};
+ghost use Prim.Native.Nat.{_+_, _≤_, _<_};
+ghost use lib.ListN.{length};
+ghost use Rattle.refusal_rows.specs.Limits.{anyBroken};
+ghost use Rattle.refusals.specs.Refusals.{firstFrom};
+ghost use Rattle.refusal_rows.specs.Tests.{checks};
+ghost use Rattle.write_check.specs.Rows.{uncheckedOf, uncheckedWas, countLimits, wordLimits, stringLimits, risingTests, writtenStarts, writtenLengths, writtenIds, textRows, writeSized, writeChecked};
+ghost use Rattle.write_check.specs.Sound.{WriteFits, SoundUnwritten};
+use lines::Totals;
+use refusals::Checked;
+
+pub const MOST_ATTRIBUTE_NAMES: u32 = 65535;
+
+// How many attribute names there are, and how many bytes the names of labels, those of attributes and the kept texts have.
+pub struct Names {
+    pub attributes: u32,
+    pub label_bytes: u32,
+    pub attribute_bytes: u32,
+    pub scale_bytes: u32,
+}
+
+// 2: whether a count is outside its bound.
+fn exceeds_written(totals: Totals, attribute_names: u32) -> bool
+    ensures { λ r. ⌜ r ≡ anyBroken (countLimits «attribute_names» totals) ⌝ }
+{
+    (MOST_ATTRIBUTE_NAMES < attribute_names)
+        | refusals::is_outside(1, training_check::MOST_INSTANCES, totals.instances)
+        | (training_check::MOST_WORDS_IN_ALL < totals.words)
+        | (line_check::MOST_ATTRIBUTES < totals.attributes)
+}
+
+// 2: whether a table of the words is too short.
+fn lacks_words(
+    totals: Totals,
+    lines: &[u32],
+    begins: &[u32],
+    ids: &[u32],
+    references: &[u32],
+) -> bool
+    ensures { λ r. ⌜ r ≡ anyBroken (wordLimits totals (length (now (lines .entry))) (length (now (begins .entry))) (length (now (ids .entry))) (length (now (references .entry)))) ⌝ }
+{
+    (lines.len() < totals.instances as usize + 1)
+        | (begins.len() < totals.words as usize + 1)
+        | (ids.len() < totals.attributes as usize)
+        | (references.len() < totals.words as usize)
+}
+
+// 2: whether a table of names or of kept texts is too short.
+fn lacks_strings(
+    labels: u32,
+    attributes: u32,
+    names: Names,
+    label_name_starts: &[u32],
+    label_names: &[u8],
+    attribute_name_starts: &[u32],
+    attribute_names: &[u8],
+    scale_starts: &[u32],
+    scales: &[u8],
+) -> bool
+    ensures { λ r. ⌜ r ≡ anyBroken (stringLimits labels attributes names (length (now («label_name_starts» .entry))) (length (now («label_names» .entry))) (length (now («attribute_name_starts» .entry))) (length (now («attribute_names» .entry))) (length (now («scale_starts» .entry))) (length (now (scales .entry)))) ⌝ }
+{
+    (label_name_starts.len() < labels as usize + 1)
+        | (label_names.len() < names.label_bytes as usize)
+        | (attribute_name_starts.len() < names.attributes as usize + 1)
+        | (attribute_names.len() < names.attribute_bytes as usize)
+        | (scale_starts.len() < attributes as usize + 1)
+        | (scales.len() < names.scale_bytes as usize)
+}
+
+// 1, then 2 of the counts, then 2 of the rooms: what can be said before any table is read.
+fn written_sizes(
+    labels: u32,
+    totals: Totals,
+    names: Names,
+    lines: &[u32],
+    begins: &[u32],
+    ids: &[u32],
+    references: &[u32],
+    label_name_starts: &[u32],
+    label_names: &[u8],
+    attribute_name_starts: &[u32],
+    attribute_names: &[u8],
+    scale_starts: &[u32],
+    scales: &[u8],
+) -> Checked
+    ensures { λ r. ⌜ r ≡ writeSized (uncheckedWas labels totals names lines begins ids references «label_name_starts» «label_names» «attribute_name_starts» «attribute_names» «scale_starts» scales) ⌝ }
+{
+    let outside = refusals::is_outside(1, score_tables::MOST_LABELS, labels);
+    let one = refusals::refuse_if(Checked::Accepted, 1, 0, outside);
+    let many = exceeds_written(totals, names.attributes);
+    let two = refusals::refuse_if(one, 2, 0, many);
+    let words = lacks_words(totals, lines, begins, ids, references);
+    let strings = lacks_strings(
+        labels,
+        totals.attributes,
+        names,
+        label_name_starts,
+        label_names,
+        attribute_name_starts,
+        attribute_names,
+        scale_starts,
+        scales,
+    );
+    refusals::refuse_if(two, 2, 0, words | strings)
+}
+
+// 3 of the five tables of starts.
+fn check_rising(
+    answer: Checked,
+    labels: u32,
+    totals: Totals,
+    names: Names,
+    lines: &[u32],
+    begins: &[u32],
+    label_name_starts: &[u32],
+    attribute_name_starts: &[u32],
+    scale_starts: &[u32],
+) -> Checked
+    requires { ⌜ totals .instances < length (now lines) ⌝ }
+    requires { ⌜ totals .words < length (now begins) ⌝ }
+    requires { ⌜ labels < length (now «label_name_starts») ⌝ }
+    requires { ⌜ names .attributes < length (now «attribute_name_starts») ⌝ }
+    requires { ⌜ totals .attributes < length (now «scale_starts») ⌝ }
+    ensures { λ r. ⌜ r ≡ firstFrom answer (checks (risingTests labels totals names (now (lines .entry)) (now (begins .entry)) (now («label_name_starts» .entry)) (now («attribute_name_starts» .entry)) (now («scale_starts» .entry)))) ⌝ }
+{
+    let words = totals.words;
+    let attributes = totals.attributes;
+    let instances = totals.instances as usize;
+    let opened = table_checks::check_starts(answer, lines, instances, words);
+    let begun = table_checks::check_starts(opened, begins, words as usize, attributes);
+    let label = names.label_bytes;
+    let labelled = table_checks::check_starts(begun, label_name_starts, labels as usize, label);
+    let known = names.attributes as usize;
+    let bytes = names.attribute_bytes;
+    let named = table_checks::check_starts(labelled, attribute_name_starts, known, bytes);
+    table_checks::check_starts(named, scale_starts, attributes as usize, names.scale_bytes)
+}
+
+// 3, 4 and 5: all that is said of the tables before a name is read.
+fn check_lists(
+    answer: Checked,
+    labels: u32,
+    totals: Totals,
+    names: Names,
+    lines: &[u32],
+    begins: &[u32],
+    ids: &[u32],
+    references: &[u32],
+    label_name_starts: &[u32],
+    label_names: &[u8],
+    attribute_name_starts: &[u32],
+    attribute_names: &[u8],
+    scale_starts: &[u32],
+    scales: &[u8],
+) -> Checked
+    requires { ⌜ WriteFits (uncheckedOf labels totals names (now lines) (now begins) (now ids) (now references) (now «label_name_starts») (now «label_names») (now «attribute_name_starts») (now «attribute_names») (now «scale_starts») (now scales)) ⌝ }
+    ensures { λ r.
+        let g = uncheckedWas labels totals names lines begins ids references «label_name_starts» «label_names» «attribute_name_starts» «attribute_names» «scale_starts» scales in
+        ⌜ r ≡ firstFrom answer (checks (writtenStarts g ++ writtenLengths g ++ writtenIds g)) ⌝ }
+{
+    let three = check_rising(
+        answer,
+        labels,
+        totals,
+        names,
+        lines,
+        begins,
+        label_name_starts,
+        attribute_name_starts,
+        scale_starts,
+    );
+    let four = training_check::check_lengths(three, lines, totals.instances as usize);
+    let known = table_checks::check_ids(four, ids, totals.attributes as usize, names.attributes);
+    table_checks::check_ids(known, references, totals.words as usize, labels)
+}
+
+// 2 of the text's room, then 11 of the labels, the attributes and the scales.
+fn check_text(
+    answer: Checked,
+    labels: u32,
+    totals: Totals,
+    names: Names,
+    lines: &[u32],
+    begins: &[u32],
+    ids: &[u32],
+    references: &[u32],
+    label_name_starts: &[u32],
+    label_names: &[u8],
+    attribute_name_starts: &[u32],
+    attribute_names: &[u8],
+    scale_starts: &[u32],
+    scales: &[u8],
+    room: usize,
+) -> Checked
+    requires { ⌜ SoundUnwritten (uncheckedOf labels totals names (now lines) (now begins) (now ids) (now references) (now «label_name_starts») (now «label_names») (now «attribute_name_starts») (now «attribute_names») (now «scale_starts») (now scales)) ⌝ }
+    ensures { λ r. ⌜ r ≡ firstFrom answer (textRows (uncheckedWas labels totals names lines begins ids references «label_name_starts» «label_names» «attribute_name_starts» «attribute_names» «scale_starts» scales) room) ⌝ }
+{
+    let words = totals.words as usize;
+    let attributes = totals.attributes as usize;
+    let need = text_length::written_length(
+        totals.instances as usize,
+        words,
+        attributes,
+        lines,
+        begins,
+        ids,
+        references,
+        label_name_starts,
+        label_names,
+        attribute_name_starts,
+        attribute_names,
+        scale_starts,
+        scales,
+    );
+    let two = refusals::refuse_if(answer, 2, 0, room < need);
+    let labelled = carried::check_names(two, label_name_starts, label_names, labels as usize);
+    let known = names.attributes as usize;
+    let named = carried::check_names(labelled, attribute_name_starts, attribute_names, known);
+    carried::check_scales(named, scale_starts, scales, attributes)
+}
+
+// Every refusal of the writer, into a text with so much room.
+pub fn check_written(
+    labels: u32,
+    totals: Totals,
+    names: Names,
+    lines: &[u32],
+    begins: &[u32],
+    ids: &[u32],
+    references: &[u32],
+    label_name_starts: &[u32],
+    label_names: &[u8],
+    attribute_name_starts: &[u32],
+    attribute_names: &[u8],
+    scale_starts: &[u32],
+    scales: &[u8],
+    room: usize,
+) -> Checked
+    ensures { λ r. ⌜ r ≡ writeChecked (uncheckedWas labels totals names lines begins ids references «label_name_starts» «label_names» «attribute_name_starts» «attribute_names» «scale_starts» scales) room ⌝ }
+{
+    let sizes = written_sizes(
+        labels,
+        totals,
+        names,
+        lines,
+        begins,
+        ids,
+        references,
+        label_name_starts,
+        label_names,
+        attribute_name_starts,
+        attribute_names,
+        scale_starts,
+        scales,
+    );
+    if let Checked::Refused(why) = sizes {
+        return Checked::Refused(why);
+    }
+    let lists = check_lists(
+        sizes,
+        labels,
+        totals,
+        names,
+        lines,
+        begins,
+        ids,
+        references,
+        label_name_starts,
+        label_names,
+        attribute_name_starts,
+        attribute_names,
+        scale_starts,
+        scales,
+    );
+    if let Checked::Refused(why) = lists {
+        return Checked::Refused(why);
+    }
+    check_text(
+        lists,
+        labels,
+        totals,
+        names,
+        lines,
+        begins,
+        ids,
+        references,
+        label_name_starts,
+        label_names,
+        attribute_name_starts,
+        attribute_names,
+        scale_starts,
+        scales,
+        room,
+    )
+}
