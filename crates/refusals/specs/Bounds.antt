@@ -94,6 +94,10 @@ pub data Table : Type 0 where
   instanceWeightTable : Table
   transitionTable : Table
   stateTable : Table
+  -- "in the writer last, its name and scale tables after all others": "labels, then attributes, then scales"
+  labelNameTable : Table
+  attributeNameTable : Table
+  scaleTable : Table
 
 -- a table's position among them, from 0
 abbrev pub tablePosition : Table → ℕ
@@ -109,3 +113,6 @@ tablePosition referenceTable = 8
 tablePosition instanceWeightTable = 9
 tablePosition transitionTable = 10
 tablePosition stateTable = 11
+tablePosition labelNameTable = 12
+tablePosition attributeNameTable = 13
+tablePosition scaleTable = 14

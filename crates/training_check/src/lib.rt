@@ -40,7 +40,7 @@ fn is_bad_length(start: u32, next: u32) -> bool
 }
 
 // 4: an instance has 1 to 128 words.
-fn check_lengths(answer: Checked, lines: &[u32], n: usize) -> Checked
+pub fn check_lengths(answer: Checked, lines: &[u32], n: usize) -> Checked
     requires { ⌜ n < length (now lines) ⌝ }
     ensures { λ r. ⌜ r ≡ orNext answer (lengthsChecked (now (lines .entry)) n) ⌝ }
 {

@@ -1,16 +1,19 @@
 -- Desk case T7, computed: the writer's answers to the tables of T1, and to tables that differ from them in one place. Assumes nothing.
 use mathlib.Core.Path.{_≡_, refl}
+use mathlib.Core.Bool.{true}
 use mathlib.Core.List.{List, [], _∷_, flatten}
 use Prim.Native.Nat.{ℕ}
 use lib.ListN.{length}
 use Rattle.refusals.specs.declared.Checked.the-variants.{Accepted}
 use Rattle.refusals.specs.Refusals.{refusedAt, refuse, orNext, lowest}
+use Rattle.refusal_rows.specs.Limits.{inOrder}
+use Rattle.refusal_rows.specs.Tests.{inTableOrder}
 use Rattle.layout.specs.Layout.{escaped, scaleText, attributesText, lineText, moreLines, textOf}
 use Rattle.text_tables.specs.Tables.{Strings}
 use Rattle.text_tables.specs.Written.{stringAt, placesFrom, allLines}
 use Rattle.text_writing.specs.Ready.{strings, lentTables}
 use Rattle.carried.specs.Carry.{unclean, noScaleFrom, behindMinus}
-use Rattle.write_check.specs.Rows.{Unchecked, writeChecked}
+use Rattle.write_check.specs.Rows.{Unchecked, writtenCounts, writtenStarts, writtenIds, writeChecked}
 
 -- T1's tables with these ids, label names, attribute names and kept texts
 abbrev t1With : List ℕ → Strings → Strings → Strings → Unchecked
@@ -65,3 +68,11 @@ no-scale = refl
 no-name : writeChecked (t1With (0 ∷ 2 ∷ 1 ∷ []) labels1 names1 scales1) 21 ≡ refusedAt 5 1
 unfolding writeChecked lowest orNext refuse unclean noScaleFrom behindMinus stringAt placesFrom allLines textOf moreLines lineText attributesText escaped scaleText flatten
 no-name = refl
+
+-- the counts are tested in the order of "Tables and bounds"
+counts-in-order : (g : Unchecked) → inOrder (writtenCounts g) ≡ true
+counts-in-order g = refl
+
+-- and 3 and 5 in the order of the tables, "its name and scale tables after all others"
+tables-in-order : (g : Unchecked) → (inTableOrder (writtenStarts g) ≡ true) × (inTableOrder (writtenIds g) ≡ true)
+tables-in-order g = (refl, refl)

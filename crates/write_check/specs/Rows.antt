@@ -6,7 +6,7 @@ use denote.Triple.Both.{Both}
 use lib.ListN.{length}
 use Rattle.refusals.specs.declared.Checked.{Checked}
 use Rattle.refusals.specs.Refusals.{first}
-use Rattle.refusals.specs.Bounds.{theAttributeLists, theInstances, theWords, theAttributes}
+use Rattle.refusals.specs.Bounds.{theAttributeLists, theInstances, theWords, theAttributes, wordTable, attributeTable, referenceTable, labelNameTable, attributeNameTable, scaleTable}
 use Rattle.score_tables.specs.Rows.{one}
 use Rattle.refusal_rows.specs.Limits.{Limit, count, room, two}
 use Rattle.refusal_rows.specs.Tests.{Test, startsRise, linesFit, idsBelow, checks}
@@ -99,11 +99,11 @@ writtenRooms g = wordRooms g ++ stringRooms g
 -- ---- 3 | "a rule of starts is broken" | "index of the first bad start": "lines, begins, label name starts, attribute name starts, scale starts"
 abbrev pub risingTests : ℕ → Totals → Names → (lines begins labelStarts nameStarts scaleStarts : List ℕ) → List Test
 risingTests labels totals names lines begins labelStarts nameStarts scaleStarts =
-    startsRise lines (totals .instances) (totals .words)
-    ∷ startsRise begins (totals .words) (totals .attributes)
-    ∷ startsRise labelStarts labels (names .«label_bytes»)
-    ∷ startsRise nameStarts (names .attributes) (names .«attribute_bytes»)
-    ∷ startsRise scaleStarts (totals .attributes) (names .«scale_bytes»)
+    startsRise wordTable lines (totals .instances) (totals .words)
+    ∷ startsRise attributeTable begins (totals .words) (totals .attributes)
+    ∷ startsRise labelNameTable labelStarts labels (names .«label_bytes»)
+    ∷ startsRise attributeNameTable nameStarts (names .attributes) (names .«attribute_bytes»)
+    ∷ startsRise scaleTable scaleStarts (totals .attributes) (names .«scale_bytes»)
     ∷ []
 
 abbrev pub writtenStarts : Unchecked → List Test
@@ -118,8 +118,8 @@ writtenLengths g = linesFit (g .tables .lineStarts) (g .tables .instances) ∷ [
 -- ---- 5: "an id without a name, at or above attribute_names, then a label at or above L"
 abbrev pub writtenIds : Unchecked → List Test
 writtenIds g =
-    idsBelow (g .tables .ids) (g .attributes) (g .names)
-    ∷ idsBelow (g .tables .references) (g .words) (g .labels)
+    idsBelow attributeTable (g .tables .ids) (g .attributes) (g .names)
+    ∷ idsBelow referenceTable (g .tables .references) (g .words) (g .labels)
     ∷ []
 
 -- ---- 2 of the text: "The text's room is tested where its need is known: after 3, 4 and 5 .. and before 11"

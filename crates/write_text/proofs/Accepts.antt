@@ -6,6 +6,7 @@ use native.Mathlib.Omega.{arith}
 use lib.ListN.{length, getD, take, drop, length-map, length-drop, length-append, List·getD-append}
 use lib.Seq.{take-append-le, drop-append-le}
 use Rattle.lines.specs.Passes.{start, size}
+use Rattle.refusals.specs.Bounds.{Table, wordTable, attributeTable, referenceTable, labelNameTable, attributeNameTable, scaleTable}
 use Rattle.refusals.specs.Meaning.{Starts}
 use Rattle.refusals.proofs.Meant.{starts-kept}
 use Rattle.score_tables.specs.Sound.{WordsIn}
@@ -35,11 +36,11 @@ starts-longer xs tail n e s l = record {
   ends = List·getD-append xs tail 0 n l ∙ s .ends;
 }
 
-good-starts : (xs tail : List ℕ) (n e : ℕ) → Starts xs n e → n < length xs → Good (startsRise (xs ++ tail) n e)
-good-starts xs tail n e s l = test-means (startsRise (xs ++ tail) n e) .accepted .0 (starts-kept (xs ++ tail) n e .1 (starts-longer xs tail n e s l))
+good-starts : (which : Table) (xs tail : List ℕ) (n e : ℕ) → Starts xs n e → n < length xs → Good (startsRise which (xs ++ tail) n e)
+good-starts which xs tail n e s l = test-means (startsRise which (xs ++ tail) n e) .accepted .0 (starts-kept (xs ++ tail) n e .1 (starts-longer xs tail n e s l))
 
-good-ids : (xs tail : List ℕ) (n bound : ℕ) → n ≤ length xs → ((i : ℕ) → i < n → getD xs i 0 < bound) → Good (idsBelow (xs ++ tail) n bound)
-good-ids xs tail n bound l below i h bad =
+good-ids : (which : Table) (xs tail : List ℕ) (n bound : ℕ) → n ≤ length xs → ((i : ℕ) → i < n → getD xs i 0 < bound) → Good (idsBelow which (xs ++ tail) n bound)
+good-ids which xs tail n bound l below i h bad =
     let e = List·getD-append xs tail 0 i (omega (arith, l, h)) in
     let b = below i h in
     omega (arith, e, b, bad)
@@ -133,14 +134,14 @@ accepts-the-read ls h b tails before room =
           ),
           (
             (
-              good-starts (t .lineStarts) (tails .lineStarts) (t .instances) (n .words) (w .lines) lines,
+              good-starts wordTable (t .lineStarts) (tails .lineStarts) (t .instances) (n .words) (w .lines) lines,
               (
-                good-starts (t .wordStarts) (tails .wordStarts) (n .words) (n .attributes) (w .words) begins,
+                good-starts attributeTable (t .wordStarts) (tails .wordStarts) (n .words) (n .attributes) (w .words) begins,
                 (
-                  good-starts (t .labels .starts) (tails .labels .starts) (n .labels) (length (t .labels .bytes)) (r .labels) labelStarts,
+                  good-starts labelNameTable (t .labels .starts) (tails .labels .starts) (n .labels) (length (t .labels .bytes)) (r .labels) labelStarts,
                   (
-                    good-starts (t .names .starts) (tails .names .starts) (n .names) (length (t .names .bytes)) (r .names) nameStarts,
-                    (good-starts (t .scales .starts) (tails .scales .starts) (n .attributes) (length (t .scales .bytes)) (r .scales) scaleStarts, tt),
+                    good-starts attributeNameTable (t .names .starts) (tails .names .starts) (n .names) (length (t .names .bytes)) (r .names) nameStarts,
+                    (good-starts scaleTable (t .scales .starts) (tails .scales .starts) (n .attributes) (length (t .scales .bytes)) (r .scales) scaleStarts, tt),
                   ),
                 ),
               ),
@@ -148,8 +149,8 @@ accepts-the-read ls h b tails before room =
             (
               (good-lengths (t .lineStarts) (tails .lineStarts) (t .instances) lines (b .lengths), tt),
               (
-                good-ids (t .ids) (tails .ids) (n .attributes) (n .names) (w .ids) (k .ids),
-                (good-ids (t .references) (tails .references) (n .words) (n .labels) (w .references) (k .references), tt),
+                good-ids attributeTable (t .ids) (tails .ids) (n .attributes) (n .names) (w .ids) (k .ids),
+                (good-ids referenceTable (t .references) (tails .references) (n .words) (n .labels) (w .references) (k .references), tt),
               ),
             ),
           ),
