@@ -15,6 +15,7 @@ use refusals::Checked;
 pub const MOST_ATTRIBUTE_NAMES: u32 = 65535;
 
 // How many attribute names there are, and how many bytes the names of labels, those of attributes and the kept texts have.
+#[repr(C)]
 pub struct Names {
     pub attributes: u32,
     pub label_bytes: u32,

@@ -138,7 +138,7 @@ pub writing-means : WritingMeans
 writing-means = meant
 
 -- another way to answer, which tells the same
-told :
+pub told :
     {Refuses Answers : ℕ → ℕ → Type 0} {Accepts Accepted : Type 0} {g : Unchecked} {have : ℕ} →
     ((number place : ℕ) → Answers number place ↔ Refuses number place) →
     Accepted ↔ Accepts →

@@ -1,0 +1,3 @@
+mod Kept
+mod OnlyOne
+mod Meant
