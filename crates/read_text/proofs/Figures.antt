@@ -7,6 +7,7 @@ use native.Mathlib.Omega.{arith}
 use lib.ListN.{length, take, replicate, length-map, length-replicate}
 use lib.Seq.{take-all}
 use Rattle.binary64.specs.Numbers.{whole}
+use Rattle.refusals.specs.declared.Checked.the-variants.{Accepted}
 use Rattle.refusal_rows.specs.Limits.{Limit, room, AllWithin}
 use Rattle.layout.specs.Layout.{Bytes, TextAttribute, Word, WellFormed, sequences}
 use Rattle.scales.specs.Value.{valueOf}
@@ -17,7 +18,8 @@ use Rattle.text_tables.proofs.InText.{fits-in-text}
 use Rattle.survey.specs.declared.NameSums.{NameSums}
 use Rattle.survey.specs.declared.Survey.{Survey}
 use Rattle.text_check.specs.declared.Lengths.{Lengths}
-use Rattle.text_check.specs.Rows.{textCounts, textRooms}
+use Rattle.text_check.specs.Rows.{textCounts, textRooms, textSized}
+use Rattle.text_check.proofs.Meant.{text-checks-mean}
 use Rattle.text_check.specs.Told.{CountsFront, TellsSequences, FewSurvey, TextSurveyed}
 use Rattle.read_text.specs.Promise.{sizesOf}
 use Rattle.read_text.specs.Sizes.{sizesRooms}
@@ -66,9 +68,9 @@ rooms-are ss have =
 
 -- ---- a survey has counted all names
 
-record CountsAll (names : List Bytes) (known : NameSums) : Type 0 where
-  count : known .count ≡ length names
-  bytes : known .bytes ≡ length (flatten names)
+pub record CountsAll (names : List Bytes) (known : NameSums) : Type 0 where
+  pub count : known .count ≡ length names
+  pub bytes : known .bytes ≡ length (flatten names)
 
 counts-all : {most : ℕ} {names : List Bytes} {known : NameSums} → length names ≤ most → CountsFront most names known → CountsAll names known
 counts-all {most} {names} {known} few c =
@@ -110,3 +112,10 @@ survey-small {text} {s} h small g w =
       nameBytes = omega (arith, n .bytes, f .nameBytes, small);
       scaleBytes = omega (arith, g .tells .scales, f .scaleBytes, small);
     }
+
+-- sizes that are accepted are of counts within their bounds
+pub sized-within : (bytes : ℕ) (ss : List (List Word)) → textSized bytes ss ≡ Accepted → AllWithin (textCounts ss)
+sized-within bytes ss e = text-checks-mean bytes ss none .0 .accepted .0 e .0 .1
+  where
+    none : Lengths
+    none = record { lines = 0; begins = 0; ids = 0; values = 0; references = 0; weights = 0; «label_starts» = 0; «label_bytes» = 0; «name_starts» = 0; «name_bytes» = 0; «scale_starts» = 0; «scale_bytes» = 0 }

@@ -1,6 +1,6 @@
 -- Each way out of the two calls keeps the promise. Assumes nothing.
 use mathlib.Core.Path.{_≡_, refl, sym, ap, subst, _∙_}
-use mathlib.Core.List.{List}
+use mathlib.Core.List.{List, _∷_}
 use Prim.Native.Nat.{ℕ, _≤_}
 use native.Mathlib.Omega.{arith}
 use lib.Dec.{ltb}
@@ -13,6 +13,8 @@ use Rattle.refusals.specs.declared.Checked.the-variants.{Accepted, Refused}
 use Rattle.refusals.specs.Refusals.{numbered, refusedAt, refuse, orNext, firstFrom}
 use Rattle.refusals.specs.Said.{Said, accepted, refused, orRefused}
 use Rattle.refusals.proofs.Laws.{settled, passes, never}
+use Rattle.refusal_rows.specs.Limits.{two}
+use Rattle.refusal_rows.specs.Tests.{checks}
 use Rattle.layout.specs.Layout.{Bytes, Word, Line, WellFormed, sequences}
 use Rattle.layout.specs.Scan.{look, PlaceOf}
 use Rattle.layout.specs.declared.Found.{Found}
@@ -20,7 +22,7 @@ use Rattle.layout.specs.declared.Found.the-variants.{Whole, At}
 use Rattle.layout.proofs.Place.{whole-meant, place-meant}
 use Rattle.text_tables.specs.Tables.{Tables, tables}
 use Rattle.fill_text.specs.Filled.{StringsLaid, WordsLaid, AttributesLaid}
-use Rattle.text_check.specs.Rows.{tooLong, textSized, textChecked}
+use Rattle.text_check.specs.Rows.{tooLong, textCounts, textRooms, sequenceTests, textSized, textChecked}
 use Rattle.text_check.specs.declared.Lengths.{Lengths}
 use Rattle.read_text.specs.declared.TextSizes.{TextSizes}
 use Rattle.read_text.specs.declared.TextReading.{TextReading}
@@ -29,6 +31,9 @@ use Rattle.read_text.specs.Sizes.{sizedOf, SizesPromised}
 use Rattle.read_text.specs.Steps.{malformedAt, bytesChecked, Readable}
 
 -- ---- the bytes
+
+pub bytes-said : (text : Bytes) {found : Found} {formed r : Checked} → found ≡ look text → formed ≡ malformedAt found → r ≡ orNext formed (tooLong (length text)) → r ≡ bytesChecked text
+bytes-said text {found} {formed} {r} l f e = e ∙ ap (λ (c : Checked). orNext c (tooLong (length text))) (f ∙ ap malformedAt l)
 
 pub bytes-accepted : (text : Bytes) → bytesChecked text ≡ Accepted → Readable text
 unfolding orNext
@@ -42,8 +47,10 @@ bytes-accepted text e = go (look text) refl e
 long-first : (bytes : ℕ) (ss : List (List Word)) (have : Lengths) (why : Refusal) → tooLong bytes ≡ Refused why → (textSized bytes ss ≡ Refused why) × (textChecked bytes ss have ≡ Refused why)
 unfolding textSized textChecked
 long-first bytes ss have why e =
-    let f : orNext Accepted (tooLong bytes) ≡ Refused why = unfold orNext in e in
-    (settled (orNext Accepted (tooLong bytes)) _ why f, settled (orNext Accepted (tooLong bytes)) _ why f)
+    let f : orNext Accepted (tooLong bytes) ≡ Refused why = unfold orNext in e in (
+      settled (orNext Accepted (tooLong bytes)) (two (textCounts ss) ∷ checks (sequenceTests ss)) why f,
+      settled (orNext Accepted (tooLong bytes)) (two (textCounts ss) ∷ two (textRooms (tables ss) have) ∷ checks (sequenceTests ss)) why f,
+    )
 
 -- what a refusal of the bytes is
 record BytesRefused (text : Bytes) (why : Refusal) : Type 0 where

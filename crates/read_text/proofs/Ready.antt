@@ -20,7 +20,7 @@ use Rattle.survey.specs.Surveyed.{KnowsFront}
 use Rattle.survey.proofs.Named.{name-tabled}
 use Rattle.fill_text.specs.Filled.{distinctLabels, distinctNames, TextRoom, TextReady}
 use Rattle.text_check.specs.declared.Lengths.{Lengths}
-use Rattle.text_check.specs.Rows.{textCounts, textRooms}
+use Rattle.text_check.specs.Rows.{textCounts, textChecked}
 use Rattle.text_check.specs.Told.{TellsSequences, FewSurvey, TextSurveyed}
 use Rattle.text_check.proofs.Meant.{text-checks-mean}
 use Rattle.text_check.proofs.Tells.{text-surveyed}
@@ -41,6 +41,11 @@ module _ {text : Bytes} {labels slots positions : List ℕ} {s : Survey} (g : Su
   pub few-made : FewSurvey s
   few-made = surveyed (g .readable .formed) .few
 
+  -- what the check said of the survey is what it says of the text's sequences
+  pub checked-as : (before : Buffers) {r : Checked} → ((bytes : ℕ) (ss : List (List Word)) → bytes ≤ 4294967295 → TellsSequences ss s → r ≡ textChecked bytes ss (lengthsOf before))
+      → (h : WellFormed text) → r ≡ checkedOf text (sequences (h .lines)) before
+  checked-as before e h = e (length text) (sequences (h .lines)) (g .readable .small) (surveyed h .tells)
+
   module _ (before : Buffers) (accepted : (h : WellFormed text) → checkedOf text (sequences (h .lines)) before ≡ Accepted) where
     pub within : (h : WellFormed text) → AllWithin (textCounts (sequences (h .lines)))
     within h = text-checks-mean (length text) (sequences (h .lines)) (lengthsOf before) .1 .accepted .0 (accepted h) .0 .1 .0
@@ -60,28 +65,28 @@ module _ {text : Bytes} {labels slots positions : List ℕ} {s : Survey} (g : Su
         let ss : List (List Word) = sequences (h .lines) in
         let m : Tallies ss (tallyOf (piecesOf (h .lines))) = tally-means (h .lines) in
         let w = within h in
-        let (lines, begins, ids, values, references, weights, labelStarts, labelBytes, nameStarts, nameBytes, scaleStarts, scaleBytes, _) = roomy h in
+        let r = roomy h in
         let l = labels-counted ss s (surveyed h .tells) w .count in
         let n = names-counted ss s (surveyed h .tells) w .count in
         record {
           words = record {
             knows = all-known (g .surveys h .labelled) (m .labels) (let few = w .0 in let k = g .labels-long in omega (arith, few, k));
-            lineStarts = omega (arith, lines);
-            wordStarts = omega (arith, begins);
-            references = references;
-            weights = weights;
+            lineStarts = omega (arith, r);
+            wordStarts = omega (arith, r);
+            references = omega (arith, r);
+            weights = omega (arith, r);
           };
           attributes = record {
             knows = all-known (g .surveys h .named .listed) (m .names) (let few = w .1 .0 in let k = g .positions-long in omega (arith, few, k));
-            ids = ids;
-            values = values;
-            starts = omega (arith, scaleStarts);
-            scales = scaleBytes;
+            ids = omega (arith, r);
+            values = omega (arith, r);
+            starts = omega (arith, r);
+            scales = omega (arith, r);
           };
-          labelStarts = omega (arith, labelStarts, l);
-          labelBytes = labelBytes;
-          nameStarts = omega (arith, nameStarts, n);
-          nameBytes = nameBytes;
+          labelStarts = omega (arith, r, l);
+          labelBytes = omega (arith, r);
+          nameStarts = omega (arith, r, n);
+          nameBytes = omega (arith, r);
         }
 
     pub text-ready : TextReady text labels (s .labels .count) slots positions (s .names .count)
