@@ -50,15 +50,15 @@ only-one text before a b p q = go (either text)
 
 -- ---- some outcome does
 
-abbrev readingOf : Said TextSizes → TextReading
+abbrev pub readingOf : Said TextSizes → TextReading
 readingOf (accepted sizes) = TextReading.Read sizes
 readingOf (refused why) = TextReading.Refused why
 
-said-back : (s : Said TextSizes) → said (readingOf s) ≡ s
+pub said-back : (s : Said TextSizes) → said (readingOf s) ≡ s
 said-back (accepted sizes) = refl
 said-back (refused why) = refl
 
-same-place : (text : Bytes) (p r : ℕ) → PlaceOf text p → PlaceOf text r → p ≡ r
+pub same-place : (text : Bytes) (p r : ℕ) → PlaceOf text p → PlaceOf text r → p ≡ r
 same-place text p r g h = let e : At p ≡ At r = sym (place-meant text p .1 g) ∙ place-meant text r .1 h in cc
 
 pub some-outcome : SomeOutcome

@@ -105,14 +105,17 @@ pub record Yields (answer : Said TextSizes) (contents : Buffers) (outcome : Outc
   pub answers : said (outcome .answer) ≡ answer
   pub after : outcome .after ≡ contents
 
--- the promise: 11 with "the first byte after which no well-formed text is possible, or the length at the end"; else, whatever sound lines make the text,
--- 2 and 4 of their sequences, and the tables of these where nothing is refused
+-- what reading a text of these sequences comes to: 2 and 4 of them, and their tables where nothing is refused
+abbrev pub ReadOf : Bytes → List (List Word) → Buffers → Outcome → Type 0
+ReadOf text ss before outcome =
+    let check = checkedOf text ss before in
+    Yields (orRefused check (accepted (sizesOf ss))) (holding check (tables ss) before) outcome
+
+-- the promise: 11 with "the first byte after which no well-formed text is possible, or the length at the end"; else what reading comes to, whatever
+-- sound lines make the text
 pub record Promised (text : Bytes) (before : Buffers) (outcome : Outcome) : Type 0 where
   pub malformed : (place : ℕ) → PlaceOf text place → Yields (refused (numbered 11 place)) before outcome
-  pub whole : (ls : List Line) → SoundText ls → textOf ls ≡ text →
-      let ss = sequences ls in
-      let check = checkedOf text ss before in
-      Yields (orRefused check (accepted (sizesOf ss))) (holding check (tables ss) before) outcome
+  pub whole : (ls : List Line) → SoundText ls → textOf ls ≡ text → ReadOf text (sequences ls) before outcome
 
 -- no two different outcomes satisfy one promise, and some outcome does; proved in proofs/Unique
 abbrev pub OnlyOne : Type 0
