@@ -1,8 +1,6 @@
 -- The line that the program prints, from document 01, "The sheet file". Assumes nothing.
-use Prim.Native.Nat.{ℕ, _+_, _≤_}
-use mathlib.Core.Path.{_≡_}
+use Prim.Native.Nat.{ℕ}
 use mathlib.Core.List.{List, [], _∷_, _++_}
-use lib.ListN.{length, drop, set}
 use lib.Ieee.{Float, binary64, toBits}
 use Rattle.answer_line.specs.Digits.{digits, decimal}
 
@@ -44,25 +42,6 @@ pathLine sum labels = pathWord ++ (sumDigits sum ++ (space ∷ (joinedLabels lab
 unfoldable pub refusedLine : ℕ → ℕ → List ℕ
 refusedLine number place = refusedWord ++ (decimal number ++ (space ∷ (decimal place ++ (lineFeed ∷ []))))
 
--- a text that was written to a lent buffer: how long it is, and the buffer with the text in front and its tail unchanged
-pub record Written (text before : List ℕ) (count : ℕ) (after : List ℕ) : Type 0 where
-  pub counted : count ≡ length text
-  pub written : after ≡ text ++ drop (length text) before
-
--- the bytes of a part of the line, stored one after another from a place on
-unfoldable pub stored : List ℕ → ℕ → List ℕ → List ℕ
-stored line at [] = line
-stored line at (byte ∷ part) = stored (set line at byte) (at + 1) part
-
 -- room for the longest line of a path, `Longest` in specs/Claims
 abbrev pub pathRoom : ℕ
 pathRoom = 406
-
--- there is room for a part of a line from a place on
-pub record RoomFor (part line : List ℕ) (at : ℕ) : Type 0 where
-  pub room : at + length part ≤ length line
-
--- a part of a line that was written from a place on: the place after it, and the buffer
-pub record Put (part before : List ℕ) (at end : ℕ) (after : List ℕ) : Type 0 where
-  pub next : end ≡ at + length part
-  pub line : after ≡ stored before at part

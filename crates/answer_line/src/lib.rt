@@ -7,7 +7,8 @@ ghost use lib.Dec.{T};
 ghost use lib.ListN.{length};
 ghost use lib.Ieee.{isNan};
 ghost use Rattle.answer_line.specs.Digits.{digit as Digits·digit, digits, decimalPlaces, decimal};
-ghost use Rattle.answer_line.specs.Line.{joinedLabels, pathLine, refusedLine, Written, RoomFor, Put};
+ghost use Rattle.byte_buffers.specs.Stored.{RoomFor, Put, Written};
+ghost use Rattle.answer_line.specs.Line.{joinedLabels, pathLine, refusedLine};
 
 // Room for every line of a path of at most 128 labels below 100.
 pub const PATH_ROOM: usize = 406;
@@ -40,24 +41,11 @@ fn places(n: u64) -> usize
 }
 
 // Each of these writes from `at` on and answers the place after what it wrote.
-fn put(line: &mut [u8], at: usize, character: u8) -> usize
-    requires { ⌜ RoomFor (character ∷ []) (now line) at ⌝ }
-    ensures { λ r. ⌜ Put (character ∷ []) (now (line .entry)) at r (now (line .exit)) ⌝ }
-{
-    line[at] = character;
-    at + 1
-}
-
 fn put_text(line: &mut [u8], at: usize, text: &[u8]) -> usize
     requires { ⌜ RoomFor (now text) (now line) at ⌝ }
     ensures { λ r. ⌜ Put (now (text .entry)) (now (line .entry)) at r (now (line .exit)) ⌝ }
 {
-    let mut i = 0usize;
-    while i < text.len() {
-        line[at + i] = text[i];
-        i += 1;
-    }
-    at + i
+    byte_buffers::put_bytes(line, at, text, 0, text.len())
 }
 
 // The last k digits of n in a base, from the last to the first.
@@ -91,7 +79,7 @@ fn put_labels(line: &mut [u8], start: usize, labels: &[u32]) -> usize
     let mut at = put_decimal(line, start, wide(labels[0]));
     let mut i = 1usize;
     while i < labels.len() {
-        let next = put(line, at, b',');
+        let next = byte_buffers::put_byte(line, at, b',');
         at = put_decimal(line, next, wide(labels[i]));
         i += 1;
     }
@@ -107,9 +95,9 @@ pub fn path_line(sum: f64, labels: &[u32], line: &mut [u8]) -> usize
 {
     let word = put_text(line, 0, b"PATH ");
     let bits = put_digits(line, word, f64::to_bits(sum), 16, 16);
-    let gap = put(line, bits, b' ');
+    let gap = byte_buffers::put_byte(line, bits, b' ');
     let end = put_labels(line, gap, labels);
-    put(line, end, b'\n')
+    byte_buffers::put_byte(line, end, b'\n')
 }
 
 // `REFUSED`, a number and a place.
@@ -119,7 +107,7 @@ pub fn refused_line(number: u32, place: u64, line: &mut [u8]) -> usize
 {
     let word = put_text(line, 0, b"REFUSED ");
     let first = put_decimal(line, word, wide(number));
-    let gap = put(line, first, b' ');
+    let gap = byte_buffers::put_byte(line, first, b' ');
     let second = put_decimal(line, gap, place);
-    put(line, second, b'\n')
+    byte_buffers::put_byte(line, second, b'\n')
 }

@@ -13,7 +13,8 @@ use Rattle.layout.specs.Layout.{Bytes}
 use Rattle.text_tables.specs.Tables.{Strings}
 use Rattle.text_tables.specs.Written.{stringAt}
 use Rattle.text_writing.specs.Ready.{StringStands}
-use Rattle.text_writing.proofs.Laws.{part-next, part-over, part-is, part-stands}
+use Rattle.byte_buffers.proofs.Onto.{part-next, part-over}
+use Rattle.text_writing.proofs.Laws.{part-is, part-stands}
 use Rattle.carried.specs.Carry.{unclean, nothing, noName, noScaleFrom, behindMinus, noScale, notKept, Digitwise}
 
 -- ---- tabs and line feeds

@@ -18,6 +18,7 @@ use Rattle.sheet.specs.Promise as reader
 use Rattle.sheet.proofs.Meant.{refused-by}
 use Rattle.sheet.proofs.Rows.{accepts}
 use Rattle.sheet.proofs.RowsMeant.{file-means}
+use Rattle.byte_buffers.specs.Stored as buffer
 use Rattle.answer_line.specs.Line as line
 use Rattle.answer_line.specs.Line.{pathRoom}
 use Rattle.decode_sheet.specs.declared.Written.{Written}
@@ -42,7 +43,7 @@ module _ (bytes before : List ℕ) where
   unfolding answerTo lineAfter
   promised-refused why h = record { answers = rw h; fills-line = rw h }
 
-  pub promised-path : (size : ℕ) (after : List ℕ) → bufferChecked bytes (length before) ≡ Accepted → line.Written (pathLineOf bytes) before size after → Promised (record { bytes = bytes }) before (record { answer = Written.Path size; line = after })
+  pub promised-path : (size : ℕ) (after : List ℕ) → bufferChecked bytes (length before) ≡ Accepted → buffer.Written (pathLineOf bytes) before size after → Promised (record { bytes = bytes }) before (record { answer = Written.Path size; line = after })
   unfolding answerTo lineAfter
   promised-path size after h w = record { answers = rw (h, w .counted); fills-line = rw h (w .written) }
 
@@ -117,7 +118,7 @@ module _ {bytes before : List ℕ} {transitions states : List Float} {room label
   fronts-sound = rw (size-is, count-is, t .transitions-front, t .states-front, t .labels-are, t .words-are) (t .sound)
 
   pub promised-line : {n : ℕ} {after : List ℕ} →
-      (let s = tabled labels (take size (o .transitions ++ drop room transitions)) (take count (o .states)) in line.Written (line.pathLine (decodedSum s words) (decodedPath s words)) before n after) →
+      (let s = tabled labels (take size (o .transitions ++ drop room transitions)) (take count (o .states)) in buffer.Written (line.pathLine (decodedSum s words) (decodedPath s words)) before n after) →
       Promised (record { bytes = bytes }) before (record { answer = Written.Path n; line = after })
   unfolding pathLineOf
   promised-line w =

@@ -13,7 +13,8 @@ use Rattle.best_path.specs.Decoded.{lastLabel, decodedPath, decodedSum}
 use Rattle.best_path.proofs.Paths.{decoded-length, decoded-allowed, last-label-within}
 use Rattle.best_path.proofs.Best.{best-number}
 use Rattle.score_tables.specs.Sound.{SoundScores}
-use Rattle.answer_line.specs.Line.{pathLine, Written, RoomFor, pathRoom}
+use Rattle.byte_buffers.specs.Stored.{Written, RoomFor}
+use Rattle.answer_line.specs.Line.{pathLine, pathRoom}
 use Rattle.answer_line.proofs.Longest.{longest}
 
 module _ {labels words : ℕ} {transitions states : List Float} (sound : SoundScores labels words transitions states) where

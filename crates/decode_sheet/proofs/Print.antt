@@ -7,8 +7,9 @@ use lib.ListN.{length, drop, length-append}
 use Rattle.refusals.specs.declared.Refusal.{Refusal}
 use Rattle.refusals.specs.declared.Checked.{Checked}
 use Rattle.refusals.specs.declared.Checked.the-variants.{Accepted, Refused}
-use Rattle.answer_line.specs.Line as line
-use Rattle.answer_line.specs.Line.{refusedLine, RoomFor, pathRoom}
+use Rattle.byte_buffers.specs.Stored as buffer
+use Rattle.byte_buffers.specs.Stored.{RoomFor}
+use Rattle.answer_line.specs.Line.{refusedLine, pathRoom}
 use Rattle.answer_line.proofs.Longest.{longest}
 use Rattle.refusals.specs.Said.{accepted, refused}
 use Rattle.refusals.proofs.Said.{same-refusal}
@@ -38,7 +39,7 @@ module _ (bytes before : List ℕ) (o : Outcome) (long : length before ≡ pathR
       let a : bufferChecked bytes pathRoom ≡ Accepted = rw long at (r .0) in
       record { counted = rw a (r .1); written = rw a (promise .fills-line ∙ rw (r .0)) }
 
-  pub printed-refused : (why : Refusal) → o .answer ≡ Written.Refused why → (size : ℕ) (after : List ℕ) → line.Written (refusedLine (why .number) (why .place)) (o .line) size after → Printed bytes before size after
+  pub printed-refused : (why : Refusal) → o .answer ≡ Written.Refused why → (size : ℕ) (after : List ℕ) → buffer.Written (refusedLine (why .number) (why .place)) (o .line) size after → Printed bytes before size after
   unfolding printedLine answerTo lineAfter
   printed-refused why h size after w =
       let r = refused-by (pathLineOf bytes) (bufferChecked bytes (length before)) why (rw h at (promise .answers)) in

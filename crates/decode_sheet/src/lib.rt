@@ -5,7 +5,8 @@ ghost use lib.ListN.{length};
 ghost use Rattle.best_path.specs.Scores.{tabled};
 ghost use Rattle.best_path.specs.Decoded.{decodedPath, decodedSum};
 ghost use Rattle.score_tables.specs.Sound.{SoundScores};
-ghost use Rattle.answer_line.specs.Line.{pathLine, pathRoom, Written as Line·Written};
+ghost use Rattle.byte_buffers.specs.Stored.{Written as Stored·Written};
+ghost use Rattle.answer_line.specs.Line.{pathLine, pathRoom};
 ghost use Rattle.decode_sheet.specs.Promise.{Promised};
 ghost use Rattle.decode_sheet.specs.Program.{Printed};
 use answer_line::PATH_ROOM;
@@ -31,7 +32,7 @@ fn write_path(
 ) -> usize
     requires { ⌜ SoundScores labels words (now transitions) (now states) ⌝ }
     requires { ⌜ pathRoom ≤ length (now line) ⌝ }
-    ensures { λ r. ⌜ Line·Written (pathLine (decodedSum (tabled labels (now (transitions .entry)) (now (states .entry))) words) (decodedPath (tabled labels (now (transitions .entry)) (now (states .entry))) words)) (now (line .entry)) r (now (line .exit)) ⌝ }
+    ensures { λ r. ⌜ Stored·Written (pathLine (decodedSum (tabled labels (now (transitions .entry)) (now (states .entry))) words) (decodedPath (tabled labels (now (transitions .entry)) (now (states .entry))) words)) (now (line .entry)) r (now (line .exit)) ⌝ }
 {
     let mut path = [0u32; MOST_LABELLED];
     let n = words as usize;

@@ -16,7 +16,7 @@ use Rattle.text_tables.specs.Laid.{laid}
 use Rattle.text_tables.proofs.Built.{built-means}
 use Rattle.text_tables.proofs.Ends.{laid-none, laid-more}
 use Rattle.text_tables.proofs.Tallied.{more-length}
-use Rattle.answer_line.specs.Line.{stored}
+use Rattle.byte_buffers.specs.Stored.{stored}
 use Rattle.pieces.specs.declared.Cursor.{Cursor}
 use Rattle.pieces.specs.declared.Kind.the-variants.{Blank, Label, Attribute}
 use Rattle.pieces.specs.declared.Span.{Span}

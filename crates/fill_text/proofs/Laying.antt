@@ -14,7 +14,7 @@ use Rattle.text_tables.specs.Laid.{laid}
 use Rattle.text_tables.specs.Pieces.{Piece}
 use Rattle.text_tables.proofs.Ends.{laid-more}
 use Rattle.text_tables.proofs.Tallied.{more-length}
-use Rattle.answer_line.specs.Line.{stored, RoomFor, Put}
+use Rattle.byte_buffers.specs.Stored.{stored, RoomFor, Put}
 use Rattle.pieces.specs.declared.Span.{Span}
 use Rattle.pieces.specs.PieceText.{keptIn}
 use Rattle.pieces.specs.Standing.{Stands}

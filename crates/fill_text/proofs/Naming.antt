@@ -12,7 +12,7 @@ use Rattle.text_tables.specs.Laid.{laid}
 use Rattle.text_tables.proofs.Lists.{flatten-append, beginsFrom, length-begins, flat-begins, flat-bytes, flat-starts}
 use Rattle.text_tables.proofs.Ends.{laid-none, laid-more}
 use Rattle.text_tables.proofs.Tallied.{more-length}
-use Rattle.answer_line.specs.Line.{stored, RoomFor, Put}
+use Rattle.byte_buffers.specs.Stored.{stored, RoomFor, Put}
 use Rattle.pieces.specs.Standing.{Named, SomeName}
 use Rattle.pieces.specs.Unescaped.{unescaped}
 use Rattle.pieces.proofs.Parts.{part-of}
@@ -22,7 +22,7 @@ use Rattle.distinct.proofs.Raw.{name-parts, name-ends}
 use Rattle.distinct.proofs.Loops.{name-is}
 use Rattle.distinct.proofs.Learning.{known-count}
 use Rattle.distinct.proofs.Escaped.{escaped-one-one}
-use Rattle.answer_line.proofs.Laws.{put-length}
+use Rattle.byte_buffers.proofs.Laws.{put-length}
 use Rattle.fill_text.specs.Filled.{Placed, NamesReady, StringsLaid}
 use Rattle.fill_text.proofs.Laying.{laid-put}
 

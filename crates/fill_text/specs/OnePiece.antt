@@ -12,7 +12,7 @@ use Rattle.text_tables.specs.Distinct.{idIn}
 use Rattle.text_tables.specs.Pieces.{Piece}
 use Rattle.text_tables.specs.Built.{Built, builtOn}
 use Rattle.text_tables.specs.Laid.{laid}
-use Rattle.answer_line.specs.Line.{RoomFor, Put}
+use Rattle.byte_buffers.specs.Stored.{RoomFor, Put}
 use Rattle.pieces.specs.declared.Kind.the-variants.{Label, Attribute}
 use Rattle.pieces.specs.declared.Span.{Span}
 use Rattle.pieces.specs.PieceText.{keptIn}

@@ -10,7 +10,7 @@ ghost use Rattle.layout.specs.Layout.{Bytes, WellFormed, sequences};
 ghost use Rattle.scales.specs.Value.{valueOf};
 ghost use Rattle.text_tables.specs.Pieces.{Piece};
 ghost use Rattle.text_tables.specs.Tables.{flat, tables};
-ghost use Rattle.answer_line.specs.Line.{RoomFor, Put};
+ghost use Rattle.byte_buffers.specs.Stored.{RoomFor, Put};
 ghost use Rattle.pieces.specs.PieceText.{keptIn};
 ghost use Rattle.pieces.specs.Standing.{Stands};
 ghost use Rattle.fill_text.specs.Filled.{Placed, NamesReady, StringsLaid, WordsReady, WordsLaid, AttributesReady, AttributesLaid, TextReady};

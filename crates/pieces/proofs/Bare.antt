@@ -10,7 +10,7 @@ use lib.Dec.{eqb}
 use lib.ListN.{length, getD, set, length-set}
 use lib.Seq.{slice, slice-cons, slice-empty}
 use Rattle.layout.specs.Layout.{Bytes, escaped}
-use Rattle.answer_line.specs.Line.{stored, RoomFor, Put}
+use Rattle.byte_buffers.specs.Stored.{stored, RoomFor, Put}
 use Rattle.pieces.specs.Standing.{Named}
 use Rattle.pieces.specs.Unescaped.{isSkipped, unescapedFrom, unescaped, UnescapesBack}
 use Rattle.pieces.proofs.Names.{escaped-special, escaped-plain, either}

@@ -6,7 +6,7 @@ ghost use Prim.Native.Nat.{ℕ, _+_, _≤_};
 ghost use lib.ListN.{length};
 ghost use lib.Seq.{slice};
 ghost use Rattle.layout.specs.Layout.{Bytes};
-ghost use Rattle.answer_line.specs.Line.{RoomFor, Put};
+ghost use Rattle.byte_buffers.specs.Stored.{RoomFor, Put};
 ghost use Rattle.pieces.specs.PieceText.{lineKind};
 ghost use Rattle.pieces.specs.Standing.{endsName, endsField, Named, SomeName, Fielded, SomePieceAhead, Finds, Follows, AtStart};
 ghost use Rattle.pieces.specs.Unescaped.{isSkipped, unescaped};

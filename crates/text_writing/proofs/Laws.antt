@@ -1,97 +1,23 @@
--- Writing one part after another, and the parts of names, scales and lists one by one. Assumes nothing.
+-- The parts of names, scales and lists one by one. Assumes nothing.
 use mathlib.Core.Path.{_≡_, refl, sym, ap, _∙_}
 use mathlib.Core.Bool.{Bool, true, false, cond, _||_}
-use mathlib.Core.List.{List, [], _∷_, _++_, map, flatten, append-nil, append-assoc}
+use mathlib.Core.List.{List, [], _∷_, _++_, map, flatten, append-assoc}
 use Prim.Native.Nat.{ℕ, zero, suc, _+_, _-_, _≤_, _<_}
-use native.Mathlib.Nat.{le-antisymm, add-zero}
-use native.Mathlib.Numerals.{add-one}
 use native.Mathlib.Omega.{arith}
 use lib.Dec.{eqb}
-use lib.ListN.{length, getD, set, take, drop, length-set, length-append}
-use lib.Seq.{slice, slice-cons, slice-empty, length-slice}
+use lib.ListN.{length, getD}
+use lib.Seq.{slice, length-slice}
 use Rattle.lines.specs.Passes.{start, size}
 use Rattle.layout.specs.Layout.{Bytes, escaped, scaleText}
-use Rattle.answer_line.specs.Line.{stored, RoomFor, Put}
-use Rattle.answer_line.proofs.Laws.{length-stored, stored-append}
+use Rattle.byte_buffers.specs.Stored.{RoomFor}
+use Rattle.byte_buffers.proofs.Onto.{part-next, part-over}
 use Rattle.pieces.proofs.Parts.{slice-lent}
 use Rattle.text_tables.specs.Tables.{Strings}
 use Rattle.text_tables.specs.Written.{Unwritten, stringAt, placesFrom, placesIn, attributeFrom, attributeText, labelFrom, writtenText}
 use Rattle.text_tables.proofs.Places.{word-by-places, sequence-by-places, text-by-places}
 use Rattle.text_writing.specs.Ready.{wordTables, StringStands, WordStands, attributeBytes, wordBytes, sequenceBytes, eachFrom}
 
--- ---- what is left to write, and all of it: to write what is left gives the same as to write all from the start
-pub record Onto (left all : Bytes) (k at : ℕ) (out before : Bytes) : Type 0 where
-  pub long : length out ≡ length before
-  pub room : at + length all ≤ length before
-  pub place : k + length left ≡ at + length all
-  pub same : stored out k left ≡ stored before at all
-
-pub onto-starts : {all out : Bytes} {at : ℕ} → RoomFor all out at → Onto all all at at out out
-onto-starts r = record { long = refl; room = r .room; place = refl; same = refl }
-
-pub onto-as : {left others all out before : Bytes} {k at : ℕ} → left ≡ others → Onto left all k at out before → Onto others all k at out before
-onto-as {left} {others} {all} {out} {before} {k} {at} e g = record {
-  long = g .long;
-  room = g .room;
-  place = ap (λ (t : Bytes). k + length t) (sym e) ∙ g .place;
-  same = ap (stored out k) (sym e) ∙ g .same;
-}
-
--- one byte
-pub onto-room : {b : ℕ} {left all out before : Bytes} {k at : ℕ} → Onto (b ∷ left) all k at out before → k < length out
-onto-room g = omega (arith, g .place, g .room, g .long)
-
-pub onto-byte : {b : ℕ} {left all out before : Bytes} {k at : ℕ} → Onto (b ∷ left) all k at out before → Onto left all (k + 1) at (set out k b) before
-onto-byte {b} {left} {all} {out} {before} {k} g = record {
-  long = length-set out k b ∙ g .long;
-  room = g .room;
-  place = omega (arith, g .place);
-  same = one out k b left ∙ g .same;
-}
-  where
-    one : (out : Bytes) (k b : ℕ) (t : Bytes) → stored (set out k b) (k + 1) t ≡ stored out k (b ∷ t)
-    one out k b t = unfold stored in refl
-
-pub onto-two : {a b : ℕ} {left all out before : Bytes} {k at : ℕ} → Onto (a ∷ b ∷ left) all k at out before → Onto left all (k + 2) at (set (set out k a) (k + 1) b) before
-onto-two {a} {b} {left} {all} {out} {before} {k} {at} g =
-    let two : k + 1 + 1 ≡ k + 2 = omega arith in
-    rw two at (onto-byte (onto-byte g))
-
--- one part
-pub onto-part : (part left : Bytes) {all out before : Bytes} {k at : ℕ} → Onto (part ++ left) all k at out before → RoomFor part out k
-onto-part part left g = let l = length-append part left in record { room = omega (arith, l, g .place, g .room, g .long) }
-
-pub onto-put : (part left : Bytes) {all out before after : Bytes} {k at end : ℕ} → Put part out k end after → Onto (part ++ left) all k at out before → Onto left all end at after before
-onto-put part left {all} {out} {before} {after} {k} p g =
-    let l = length-append part left in
-    record {
-      long = ap length (p .line) ∙ length-stored out k part ∙ g .long;
-      room = g .room;
-      place = omega (arith, l, p .next, g .place);
-      same = rw (p .next, p .line) (sym (stored-append out k part left) ∙ g .same);
-    }
-
--- the end
-pub onto-over : {all out before : Bytes} {k at : ℕ} → Onto [] all k at out before → Put all before at k out
-onto-over {all} {out} {before} {k} g = record { next = omega (arith, g .place); line = nothing out k ∙ g .same }
-  where
-    nothing : (out : Bytes) (k : ℕ) → out ≡ stored out k []
-    nothing out k = unfold stored in refl
-
--- the last part
-pub onto-whole : {part all out before : Bytes} {k at : ℕ} → Onto part all k at out before → RoomFor part out k
-onto-whole g = record { room = omega (arith, g .place, g .room, g .long) }
-
-pub onto-last : (part : Bytes) {all out before after : Bytes} {k at end : ℕ} → Put part out k end after → Onto part all k at out before → Put all before at end after
-onto-last part p g = onto-over (onto-put part [] p (onto-as (sym (append-nil part)) g))
-
--- ---- bytes from one place up to another
-
-pub part-next : (bytes : Bytes) (i to : ℕ) → i < to → to ≤ length bytes → slice i to bytes ≡ getD bytes i 0 ∷ slice (i + 1) to bytes
-part-next bytes i to h k = slice-cons i to bytes 0 h k ∙ ap (λ (j : ℕ). getD bytes i 0 ∷ slice j to bytes) (sym (add-one i))
-
-pub part-over : (bytes : Bytes) (i to : ℕ) → i ≤ to → to ≤ i → slice i to bytes ≡ []
-part-over bytes i to h k = ap (λ (j : ℕ). slice j to bytes) (le-antisymm h k) ∙ slice-empty to bytes
+-- ---- strings
 
 -- a string of a list is the part from its start to the next
 pub string-part : (s : Strings) (i : ℕ) → slice (getD (s .starts) i 0) (getD (s .starts) (i + 1) 0) (s .bytes) ≡ stringAt s i
@@ -107,9 +33,6 @@ part-stands h e f = (omega (arith, e, f, h .list .rises), omega (arith, f, h .en
 -- the same part under another name
 pub room-as : {x y l : Bytes} {at : ℕ} → x ≡ y → RoomFor y l at → RoomFor x l at
 room-as {x} {y} {l} {at} e h = record { room = rw e (h .room) }
-
-pub put-as : {x y l k : Bytes} {at end : ℕ} → x ≡ y → Put x l at end k → Put y l at end k
-put-as {x} {y} {l} {k} {at} {end} e h = rw e at h
 
 -- of a place that is known under another name
 pub stands-as : {s : Strings} {i j : ℕ} → i ≡ j → StringStands s j → StringStands s i

@@ -8,33 +8,9 @@ ghost use lib.Dec.{eqb};
 ghost use lib.ListN.{length, getD};
 ghost use lib.Seq.{slice};
 ghost use Rattle.layout.specs.Layout.{escaped, scaleText};
-ghost use Rattle.answer_line.specs.Line.{RoomFor, Put};
+ghost use Rattle.byte_buffers.specs.Stored.{RoomFor, Put};
 ghost use Rattle.text_tables.specs.Written.{stringAt};
 ghost use Rattle.text_writing.specs.Ready.{strings, StringStands, AttributeStands, WordStands, SequenceStands, wordTables, lentTables, attributeBytes, wordBytes, sequenceBytes, eachFrom};
-
-fn put_byte(text: &mut [u8], at: usize, byte: u8) -> usize
-    requires { ⌜ RoomFor (byte ∷ []) (now text) at ⌝ }
-    ensures { λ r. ⌜ Put (byte ∷ []) (now (text .entry)) at r (now (text .exit)) ⌝ }
-{
-    text[at] = byte;
-    at + 1
-}
-
-// Bytes as they are.
-fn put_bytes(text: &mut [u8], at: usize, bytes: &[u8], from: usize, to: usize) -> usize
-    requires { ⌜ (from ≤ to) × (to ≤ length (now bytes)) ⌝ }
-    requires { ⌜ RoomFor (slice from to (now bytes)) (now text) at ⌝ }
-    ensures { λ r. ⌜ Put (slice from to (now (bytes .entry))) (now (text .entry)) at r (now (text .exit)) ⌝ }
-{
-    let mut i = from;
-    let mut k = at;
-    while i < to {
-        text[k] = bytes[i];
-        i += 1;
-        k += 1;
-    }
-    k
-}
 
 // Whether a byte of a name has a backslash before it.
 pub fn needs_slash(b: u8) -> bool
@@ -88,8 +64,8 @@ fn put_scale(text: &mut [u8], at: usize, starts: &[u32], bytes: &[u8], i: usize)
     if from == to {
         return at;
     }
-    let colon = put_byte(text, at, 58);
-    put_bytes(text, colon, bytes, from, to)
+    let colon = byte_buffers::put_byte(text, at, 58);
+    byte_buffers::put_bytes(text, colon, bytes, from, to)
 }
 
 // A tab, the name of attribute a, and its kept text.
@@ -109,7 +85,7 @@ fn put_attribute(
         let bytes = attributeBytes (now (ids .entry)) (strings (now («name_starts» .entry)) (now (names .entry))) (strings (now («scale_starts» .entry)) (now (scales .entry))) a in
         ⌜ Put bytes (now (text .entry)) at r (now (text .exit)) ⌝ }
 {
-    let tab = put_byte(text, at, 9);
+    let tab = byte_buffers::put_byte(text, at, 9);
     let id = lines::at(ids, a);
     let name = put_name(text, tab, name_starts, names, id);
     put_scale(text, name, scale_starts, scales, a)
@@ -178,7 +154,7 @@ fn put_word(
         first,
         end,
     );
-    put_byte(text, last, 10)
+    byte_buffers::put_byte(text, last, 10)
 }
 
 // The words from one place up to another.
@@ -230,7 +206,7 @@ fn end_sequence(text: &mut [u8], at: usize) -> usize
     requires { ⌜ RoomFor (10 ∷ []) (now text) at ⌝ }
     ensures { λ r. ⌜ Put (10 ∷ []) (now (text .entry)) at r (now (text .exit)) ⌝ }
 {
-    put_byte(text, at, 10)
+    byte_buffers::put_byte(text, at, 10)
 }
 
 // All sequences, each with one more line feed behind it.

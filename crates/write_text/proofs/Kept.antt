@@ -11,12 +11,12 @@ use Rattle.refusals.proofs.Laws.{all-accepted}
 use Rattle.score_tables.proofs.Order.{parted}
 use Rattle.refusal_rows.proofs.Means.{two-means}
 use Rattle.layout.specs.Layout.{Bytes}
-use Rattle.answer_line.specs.Line.{RoomFor, Put}
-use Rattle.answer_line.proofs.Laws.{put-line}
+use Rattle.byte_buffers.specs.Stored.{RoomFor, Put}
+use Rattle.byte_buffers.proofs.Laws.{put-line, put-as}
 use Rattle.text_tables.specs.Laid.{laid}
 use Rattle.text_tables.specs.Written.{writtenText}
 use Rattle.text_writing.specs.Ready.{SequenceStands, sequenceBytes, eachFrom}
-use Rattle.text_writing.proofs.Laws.{text-parts, room-as, put-as}
+use Rattle.text_writing.proofs.Laws.{text-parts, room-as}
 use Rattle.write_check.specs.Rows.{Unchecked, textRoom, readRows, textRows, writeChecked}
 use Rattle.write_check.specs.Sound.{SoundUnwritten}
 use Rattle.write_check.proofs.Laws.{sound-rows, sequence-stands}

@@ -4,7 +4,7 @@ use mathlib.Core.Path.{_≡_, _∙_}
 use native.Mathlib.Omega.{arith}
 use borrow.Author.Needs.{needs}
 use lib.ListN.{length, length-set}
-use Rattle.answer_line.specs.Line.{stored}
+use Rattle.byte_buffers.specs.Stored.{stored}
 use Rattle.answer_line.specs.Digits.{digits}
 use Rattle.answer_line.proofs.Laws.{digit-below, digits-more, digits-end, length-digits}
 use Rattle.answer_line.proofs.put_digits.Statement.{statement}

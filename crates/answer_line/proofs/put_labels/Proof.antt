@@ -5,8 +5,10 @@ use Prim.Native.Nat.{ℕ, _+_, _-_}
 use borrow.Author.Needs.{needs}
 use lib.ListN.{length, getD, drop}
 use Rattle.answer_line.specs.Digits.{decimal}
-use Rattle.answer_line.specs.Line.{comma, furtherLabels, joinedLabels, RoomFor, Put}
-use Rattle.answer_line.proofs.Laws.{put-then, put-nothing, put-length, put-as, room-first, room-next, room-as, first-label, next-label, no-label}
+use Rattle.byte_buffers.specs.Stored.{RoomFor, Put}
+use Rattle.byte_buffers.proofs.Laws.{put-then, put-nothing, put-length, put-as, room-first, room-next, room-as}
+use Rattle.answer_line.specs.Line.{comma, furtherLabels, joinedLabels}
+use Rattle.answer_line.proofs.Laws.{first-label, next-label, no-label}
 use Rattle.answer_line.proofs.put_labels.Statement.{statement}
 use Rattle.answer_line.proofs.put_labels.Tie as tie
 
@@ -28,10 +30,10 @@ begun c = search
 abbrev turn : tie.In-loop Inv-loop μ-loop → tie.At-loop Inv-loop μ-loop
 turn c = search
 
-abbrev called : tie.After-put Inv-loop μ-loop → tie.In-loop Inv-loop μ-loop
+abbrev called : tie.After-put-byte Inv-loop μ-loop → tie.In-loop Inv-loop μ-loop
 called c = search
 
-abbrev spaced : tie.After-put-decimal2 Inv-loop μ-loop → tie.After-put Inv-loop μ-loop
+abbrev spaced : tie.After-put-decimal2 Inv-loop μ-loop → tie.After-put-byte Inv-loop μ-loop
 spaced c = search
 
 abbrev left : tie.After-loop Inv-loop μ-loop → tie.At-loop Inv-loop μ-loop
@@ -49,7 +51,7 @@ first d =
 further : (d : tie.After-put-decimal2 Inv-loop μ-loop) →
     let p = spaced d in
     let l = turn (called p) in
-    Put (decimal (getD (entry (begun l) .args .labels .now) (l .loop .i) 0)) (p .put .last .0) (p .put .result) (d .put-decimal2 .result) (d .put-decimal2 .last .0)
+    Put (decimal (getD (entry (begun l) .args .labels .now) (l .loop .i) 0)) (p .put-byte .last .0) (p .put-byte .result) (d .put-decimal2 .result) (d .put-decimal2 .last .0)
 further d =
     let w : tie.After-wide2 Inv-loop μ-loop = search in
     put-as (ap decimal (w .wide2 .ensures)) (d .put-decimal2 .ensures)
@@ -93,8 +95,8 @@ loop-holds c =
     let d : tie.After-put-decimal Inv-loop μ-loop = search in
     (room-next _ (first d) (room-1 (entry d)), λ end after p. p)
 
-put-requires : tie.Need-put-requires Inv-loop μ-loop
-put-requires c κs =
+put-byte-requires : tie.Need-put-byte-requires Inv-loop μ-loop
+put-byte-requires c κs =
     let t : tie.In-loop Inv-loop μ-loop = search in
     room-first _ _ (room-2 t)
 
@@ -110,8 +112,8 @@ wide-requires-2 c κs = tt
 put-decimal-requires-2 : tie.Need-put-decimal-requires-2 Inv-loop μ-loop
 put-decimal-requires-2 c κs =
     let w : tie.After-wide2 Inv-loop μ-loop = search in
-    let p : tie.After-put Inv-loop μ-loop = search in
-    room-as (ap decimal (sym (w .wide2 .ensures))) (room-first _ _ (room-next _ (p .put .ensures) (room-2 (called p))))
+    let p : tie.After-put-byte Inv-loop μ-loop = search in
+    room-as (ap decimal (sym (w .wide2 .ensures))) (room-first _ _ (room-next _ (p .put-byte .ensures) (room-2 (called p))))
 
 add-i : tie.Need-add-i Inv-loop μ-loop
 add-i c = search needs
@@ -126,8 +128,8 @@ loop-again c =
     let t = called p in
     let l = turn t in
     let e = next-label (entry (begun l) .args .labels .now) (l .loop .i) (t .loop-test .taken) in (
-      room-next _ (further d) (room-next _ (p .put .ensures) (room-2 t)),
-      λ end after q. l .loop .inv .1 end after (put-as (sym e) (put-then (p .put .ensures) (put-then (further d) q))),
+      room-next _ (further d) (room-next _ (p .put-byte .ensures) (room-2 t)),
+      λ end after q. l .loop .inv .1 end after (put-as (sym e) (put-then (p .put-byte .ensures) (put-then (further d) q))),
     )
 
 same-length : tie.Need-same-length Inv-loop μ-loop
@@ -146,7 +148,7 @@ put-labels-spec =
     wide-requires
     put-decimal-requires
     loop-holds
-    put-requires
+    put-byte-requires
     mul-wide
     shared-slice-read-wide-2
     wide-requires-2

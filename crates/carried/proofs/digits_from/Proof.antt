@@ -8,29 +8,24 @@ use Rattle.carried.proofs.digits_from.Tie as tie
 use Rattle.carried.proofs.digits_from.Reads as reads
 use Rattle.carried.proofs.digits_from.Lts as lts
 
--- src/lib.rt:47:12
 shared-slice-read-if2 : tie.Need-shared-slice-read-if2
 shared-slice-read-if2 c = search needs
 
--- src/lib.rt:48:20
 add-result : tie.Need-add-result
 add-result c = search needs
 
--- src/lib.rt:48:13
 returns : tie.Need-returns
 returns c =
     let s : tie.Start = search in
     let t : tie.Then1 = search in
     record { inside = omega (arith, t .if1 .taken); same = begins-here (s .args .bytes .now) (s .args .from) (s .args .to) (t .if1 .taken) (s .pre .1) (eq-eqb _ 45 (c .if2 .taken)) }
 
--- src/lib.rt:42:1
 returns-2 : tie.Need-returns-2
 returns-2 c =
     let s : tie.Start = search in
     let t : tie.Then1 = search in
     record { inside = s .pre .0; same = begins-first (s .args .bytes .now) (s .args .from) (s .args .to) (t .if1 .taken) (s .pre .1) (ne-eqb _ 45 (c .if2 .left)) }
 
--- src/lib.rt:42:1
 returns-3 : tie.Need-returns-3
 returns-3 c =
     let s : tie.Start = search in

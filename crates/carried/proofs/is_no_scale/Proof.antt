@@ -20,58 +20,48 @@ Inv-loop bytes from to i₀ points₀ digits₀ i points digits = Sorting bytes 
 abbrev μ-loop : tie.MeasureT-loop
 μ-loop bytes from to i₀ points₀ digits₀ i points digits = to - i
 
--- src/lib.rt:66:9
 digits-from-requires : tie.Need-digits-from-requires Inv-loop μ-loop
 digits-from-requires c κs = search needs
 
--- src/lib.rt:69:5
 loop-holds : tie.Need-loop-holds Inv-loop μ-loop
 loop-holds c =
     let s : tie.Start Inv-loop μ-loop = search in
     let d : tie.After-digits-from Inv-loop μ-loop = search in
     sorting-starts (d .digits-from .ensures) (s .pre .1)
 
--- src/lib.rt:70:17
 shared-slice-read-b : tie.Need-shared-slice-read-b Inv-loop μ-loop
 shared-slice-read-b c =
     let l : tie.At-loop Inv-loop μ-loop = search in
     let t : tie.In-loop Inv-loop μ-loop = search in
     omega (arith, t .loop-test .taken, l .loop .inv .whole)
 
--- src/lib.rt:71:9
 add-i : tie.Need-add-i Inv-loop μ-loop
 add-i c = search needs
 
--- src/lib.rt:73:13
 add-points : tie.Need-add-points Inv-loop μ-loop
 add-points c =
     let l : tie.At-loop Inv-loop μ-loop = search in
     let t : tie.In-loop Inv-loop μ-loop = search in
     omega (arith, t .loop-test .taken, l .loop .inv .few-points)
 
--- src/lib.rt:69:5
 loop-less : tie.Need-loop-less Inv-loop μ-loop
 loop-less c = omega arith
 
--- src/lib.rt:69:5
 loop-again : tie.Need-loop-again Inv-loop μ-loop
 loop-again c =
     let l : tie.At-loop Inv-loop μ-loop = search in
     let t : tie.In-loop Inv-loop μ-loop = search in
     sorting-point (l .loop .inv) (t .loop-test .taken) (eq-eqb _ 46 (c .if1 .taken))
 
--- src/lib.rt:76:17
 add-digits : tie.Need-add-digits Inv-loop μ-loop
 add-digits c =
     let l : tie.At-loop Inv-loop μ-loop = search in
     let t : tie.In-loop Inv-loop μ-loop = search in
     omega (arith, t .loop-test .taken, l .loop .inv .few-digits)
 
--- src/lib.rt:69:5
 loop-less-2 : tie.Need-loop-less-2 Inv-loop μ-loop
 loop-less-2 c = omega arith
 
--- src/lib.rt:69:5
 loop-again-2 : tie.Need-loop-again-2 Inv-loop μ-loop
 loop-again-2 c =
     let l : tie.At-loop Inv-loop μ-loop = search in
@@ -79,7 +69,6 @@ loop-again-2 c =
     let e : tie.Else1 Inv-loop μ-loop = search in
     sorting-digit (l .loop .inv) (t .loop-test .taken) (ne-eqb _ 46 (e .if1 .left)) (c .if2 .taken)
 
--- src/lib.rt:78:17
 returns : tie.Need-returns Inv-loop μ-loop
 returns c =
     let l : tie.At-loop Inv-loop μ-loop = search in
@@ -87,11 +76,9 @@ returns c =
     let e : tie.Else1 Inv-loop μ-loop = search in
     sorting-other (l .loop .inv) (t .loop-test .taken) (ne-eqb _ 46 (e .if1 .left)) (c .if2 .left)
 
--- src/lib.rt:82:5
 miscounts-requires : tie.Need-miscounts-requires Inv-loop μ-loop
 miscounts-requires c κs = search needs
 
--- src/lib.rt:62:1
 returns-2 : tie.Need-returns-2 Inv-loop μ-loop
 returns-2 c =
     let l : tie.At-loop Inv-loop μ-loop = search in

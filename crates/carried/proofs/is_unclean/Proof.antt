@@ -18,32 +18,26 @@ Inv-loop bytes from to i₀ i = (i ≤ to) × (to ≤ length bytes) × (unclean 
 abbrev μ-loop : tie.MeasureT-loop
 μ-loop bytes from to i₀ i = to - i
 
--- src/lib.rt:21:5
 loop-holds : tie.Need-loop-holds Inv-loop μ-loop
 loop-holds c =
     let s : tie.Start Inv-loop μ-loop = search in
     (s .pre .0, s .pre .1, refl)
 
--- src/lib.rt:22:17
 shared-slice-read-b : tie.Need-shared-slice-read-b Inv-loop μ-loop
 shared-slice-read-b c = search needs
 
--- src/lib.rt:24:13
 returns : tie.Need-returns Inv-loop μ-loop
 returns c =
     let l : tie.At-loop Inv-loop μ-loop = search in
     let t : tie.In-loop Inv-loop μ-loop = search in
     unclean-here _ _ _ (t .loop-test .taken) (l .loop .inv .1) (l .loop .inv .2) (c .if1 .taken)
 
--- src/lib.rt:26:9
 add-i : tie.Need-add-i Inv-loop μ-loop
 add-i c = search needs
 
--- src/lib.rt:21:5
 loop-less : tie.Need-loop-less Inv-loop μ-loop
 loop-less c = omega arith
 
--- src/lib.rt:21:5
 loop-again : tie.Need-loop-again Inv-loop μ-loop
 loop-again c =
     let l : tie.At-loop Inv-loop μ-loop = search in
@@ -51,7 +45,6 @@ loop-again c =
     let e : tie.Else1 Inv-loop μ-loop = search in
     (omega arith, l .loop .inv .1, unclean-on _ _ _ (t .loop-test .taken) (l .loop .inv .1) (l .loop .inv .2) (e .if1 .left))
 
--- src/lib.rt:16:1
 returns-2 : tie.Need-returns-2 Inv-loop μ-loop
 returns-2 c =
     let l : tie.At-loop Inv-loop μ-loop = search in

@@ -8,23 +8,18 @@ use Rattle.carried.proofs.lacks_name.Lts as lts
 use Rattle.carried.proofs.is_unclean.Reads as is-unclean-reads
 use Rattle.lines.proofs.at.Reads as at-reads
 
--- src/lib.rt:36:9
 at-requires : tie.Need-at-requires
 at-requires c κs = search needs
 
--- src/lib.rt:37:32
 add-at : tie.Need-add-at
 add-at c = search needs
 
--- src/lib.rt:37:9
 at-requires-2 : tie.Need-at-requires-2
 at-requires-2 c κs = search needs
 
--- src/lib.rt:38:20
 is-unclean-requires : tie.Need-is-unclean-requires
 is-unclean-requires c κs = search needs
 
--- src/lib.rt:32:1
 returns : tie.Need-returns
 returns c =
     let s : tie.Start = search in

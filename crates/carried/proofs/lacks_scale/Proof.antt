@@ -8,23 +8,18 @@ use Rattle.carried.proofs.lacks_scale.Lts as lts
 use Rattle.carried.proofs.is_no_scale.Reads as is-no-scale-reads
 use Rattle.lines.proofs.at.Reads as at-reads
 
--- src/lib.rt:90:9
 at-requires : tie.Need-at-requires
 at-requires c κs = search needs
 
--- src/lib.rt:91:32
 add-at : tie.Need-add-at
 add-at c = search needs
 
--- src/lib.rt:91:9
 at-requires-2 : tie.Need-at-requires-2
 at-requires-2 c κs = search needs
 
--- src/lib.rt:92:21
 is-no-scale-requires : tie.Need-is-no-scale-requires
 is-no-scale-requires c κs = search needs
 
--- src/lib.rt:86:1
 returns : tie.Need-returns
 returns c =
     let s : tie.Start = search in

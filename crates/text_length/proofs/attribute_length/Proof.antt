@@ -12,30 +12,24 @@ use Rattle.lines.proofs.at.Reads as at-reads
 use Rattle.text_length.proofs.name_length.Reads as name-length-reads
 use Rattle.text_length.proofs.scale_length.Reads as scale-length-reads
 
--- src/lib.rt:94:9
 at-requires : tie.Need-at-requires
 at-requires c κs = search needs
 
--- src/lib.rt:95:10
 name-length-requires : tie.Need-name-length-requires
 name-length-requires c κs =
     let s : tie.Start = search in
     let a : tie.After-at = search in
     stands-as (a .at .ensures) (s .pre .name)
 
--- src/lib.rt:95:48
 scale-length-requires : tie.Need-scale-length-requires
 scale-length-requires c κs = search needs
 
--- src/lib.rt:95:10
 add-result : tie.Need-add-result
 add-result c = search needs
 
--- src/lib.rt:95:5
 add-result-2 : tie.Need-add-result-2
 add-result-2 c = search needs
 
--- src/lib.rt:82:1
 returns : tie.Need-returns
 returns c =
     let a : tie.After-at = search in

@@ -18,11 +18,9 @@ Inv-loop ids name-starts names scale-starts scales attributes a₀ total₀ a to
 abbrev μ-loop : tie.MeasureT-loop
 μ-loop ids name-starts names scale-starts scales attributes a₀ total₀ a total = attributes - a
 
--- src/lib.rt:114:5
 loop-holds : tie.Need-loop-holds Inv-loop μ-loop
 loop-holds c = summed-starts _ _ _
 
--- src/lib.rt:115:18
 attribute-length-requires : tie.Need-attribute-length-requires Inv-loop μ-loop
 attribute-length-requires c κs =
     let l : tie.At-loop Inv-loop μ-loop = search in
@@ -30,7 +28,6 @@ attribute-length-requires c κs =
     let s : tie.Start Inv-loop μ-loop = search in
     s .pre .1 _ (t .loop-test .taken)
 
--- src/lib.rt:115:9
 add-total : tie.Need-add-total Inv-loop μ-loop
 add-total c =
     let l : tie.At-loop Inv-loop μ-loop = search in
@@ -39,15 +36,12 @@ add-total c =
     let n : tie.After-attribute-length Inv-loop μ-loop = search in
     omega (arith, n .attribute-length .ensures .1, l .loop .inv .few, s .pre .0, t .loop-test .taken)
 
--- src/lib.rt:116:9
 add-a : tie.Need-add-a Inv-loop μ-loop
 add-a c = search needs
 
--- src/lib.rt:114:5
 loop-less : tie.Need-loop-less Inv-loop μ-loop
 loop-less c = omega arith
 
--- src/lib.rt:114:5
 loop-again : tie.Need-loop-again Inv-loop μ-loop
 loop-again c =
     let l : tie.At-loop Inv-loop μ-loop = search in
@@ -55,7 +49,6 @@ loop-again c =
     let n : tie.After-attribute-length Inv-loop μ-loop = search in
     summed-more (l .loop .inv) (t .loop-test .taken) (n .attribute-length .ensures .0) (n .attribute-length .ensures .1)
 
--- src/lib.rt:99:1
 returns : tie.Need-returns Inv-loop μ-loop
 returns c =
     let l : tie.At-loop Inv-loop μ-loop = search in

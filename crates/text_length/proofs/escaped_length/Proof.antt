@@ -15,36 +15,30 @@ Inv-loop bytes from to i₀ count₀ i count = Counting bytes from to i count ×
 abbrev μ-loop : tie.MeasureT-loop
 μ-loop bytes from to i₀ count₀ i count = to - i
 
--- src/lib.rt:21:5
 loop-holds : tie.Need-loop-holds Inv-loop μ-loop
 loop-holds c =
     let s : tie.Start Inv-loop μ-loop = search in
     (counting-starts (s .pre .0) (s .pre .1), s .pre .2)
 
--- src/lib.rt:22:17
 shared-slice-read-b : tie.Need-shared-slice-read-b Inv-loop μ-loop
 shared-slice-read-b c =
     let l : tie.At-loop Inv-loop μ-loop = search in
     omega (arith, l .loop .inv .0 .whole)
 
--- src/lib.rt:23:9
 add-i : tie.Need-add-i Inv-loop μ-loop
 add-i c = search needs
 
 needs-slash-requires : tie.Need-needs-slash-requires Inv-loop μ-loop
 needs-slash-requires c κs = search needs
 
--- src/lib.rt:25:13
 add-count : tie.Need-add-count Inv-loop μ-loop
 add-count c =
     let l : tie.At-loop Inv-loop μ-loop = search in
     omega (arith, l .loop .inv .0 .few, l .loop .inv .0 .inside, l .loop .inv .1)
 
--- src/lib.rt:21:5
 loop-less : tie.Need-loop-less Inv-loop μ-loop
 loop-less c = omega arith
 
--- src/lib.rt:21:5
 loop-again : tie.Need-loop-again Inv-loop μ-loop
 loop-again c =
     let l : tie.At-loop Inv-loop μ-loop = search in
@@ -53,17 +47,14 @@ loop-again c =
     let b : tie.Then1 Inv-loop μ-loop = search in
     (counting-two (l .loop .inv .0) (t .loop-test .taken) (sym (n .needs-slash .ensures) ∙ b .if1 .taken), l .loop .inv .1)
 
--- src/lib.rt:27:13
 add-count-2 : tie.Need-add-count-2 Inv-loop μ-loop
 add-count-2 c =
     let l : tie.At-loop Inv-loop μ-loop = search in
     omega (arith, l .loop .inv .0 .few, l .loop .inv .0 .inside, l .loop .inv .1)
 
--- src/lib.rt:21:5
 loop-less-2 : tie.Need-loop-less-2 Inv-loop μ-loop
 loop-less-2 c = omega arith
 
--- src/lib.rt:21:5
 loop-again-2 : tie.Need-loop-again-2 Inv-loop μ-loop
 loop-again-2 c =
     let l : tie.At-loop Inv-loop μ-loop = search in
@@ -72,7 +63,6 @@ loop-again-2 c =
     let b : tie.Else1 Inv-loop μ-loop = search in
     (counting-one (l .loop .inv .0) (t .loop-test .taken) (sym (n .needs-slash .ensures) ∙ b .if1 .left), l .loop .inv .1)
 
--- src/lib.rt:14:1
 returns : tie.Need-returns Inv-loop μ-loop
 returns c =
     let l : tie.At-loop Inv-loop μ-loop = search in

@@ -20,11 +20,9 @@ Inv-loop references starts bytes words w₀ total₀ w total = Summed (labelByte
 abbrev μ-loop : tie.MeasureT-loop
 μ-loop references starts bytes words w₀ total₀ w total = words - w
 
--- src/lib.rt:73:5
 loop-holds : tie.Need-loop-holds Inv-loop μ-loop
 loop-holds c = summed-starts _ _ _
 
--- src/lib.rt:74:13
 at-requires : tie.Need-at-requires Inv-loop μ-loop
 at-requires c κs =
     let l : tie.At-loop Inv-loop μ-loop = search in
@@ -32,7 +30,6 @@ at-requires c κs =
     let s : tie.Start Inv-loop μ-loop = search in
     s .pre .1 _ (t .loop-test .taken) .inside
 
--- src/lib.rt:75:18
 name-length-requires : tie.Need-name-length-requires Inv-loop μ-loop
 name-length-requires c κs =
     let l : tie.At-loop Inv-loop μ-loop = search in
@@ -41,13 +38,11 @@ name-length-requires c κs =
     let a : tie.After-at Inv-loop μ-loop = search in
     stands-as (a .at .ensures) (s .pre .1 _ (t .loop-test .taken) .label)
 
--- src/lib.rt:75:18
 add-total : tie.Need-add-total Inv-loop μ-loop
 add-total c =
     let n : tie.After-name-length Inv-loop μ-loop = search in
     omega (arith, n .name-length .ensures .1)
 
--- src/lib.rt:75:9
 add-total-2 : tie.Need-add-total-2 Inv-loop μ-loop
 add-total-2 c =
     let l : tie.At-loop Inv-loop μ-loop = search in
@@ -56,15 +51,12 @@ add-total-2 c =
     let n : tie.After-name-length Inv-loop μ-loop = search in
     omega (arith, n .name-length .ensures .1, l .loop .inv .few, s .pre .0, t .loop-test .taken)
 
--- src/lib.rt:76:9
 add-w : tie.Need-add-w Inv-loop μ-loop
 add-w c = search needs
 
--- src/lib.rt:73:5
 loop-less : tie.Need-loop-less Inv-loop μ-loop
 loop-less c = omega arith
 
--- src/lib.rt:73:5
 loop-again : tie.Need-loop-again Inv-loop μ-loop
 loop-again c =
     let l : tie.At-loop Inv-loop μ-loop = search in
@@ -74,7 +66,6 @@ loop-again c =
     let e = n .name-length .ensures .0 ∙ same-name _ (a .at .ensures) in
     summed-more (l .loop .inv) (t .loop-test .taken) (omega (arith, e)) (omega (arith, n .name-length .ensures .1))
 
--- src/lib.rt:65:1
 returns : tie.Need-returns Inv-loop μ-loop
 returns c =
     let l : tie.At-loop Inv-loop μ-loop = search in

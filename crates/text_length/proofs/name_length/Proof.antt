@@ -13,39 +13,30 @@ use Rattle.text_length.proofs.name_length.Lts as lts
 use Rattle.text_length.proofs.escaped_length.Reads as escaped-length-reads
 use Rattle.text_length.proofs.wide.Reads as wide-reads
 
--- src/lib.rt:45:21
 mul-wide : tie.Need-mul-wide
 mul-wide c = search needs
 
--- src/lib.rt:45:21
 shared-slice-read-wide : tie.Need-shared-slice-read-wide
 shared-slice-read-wide c = search needs
 
--- src/lib.rt:45:9
 wide-requires : tie.Need-wide-requires
 wide-requires c κs = search needs
 
--- src/lib.rt:46:26
 add-wide : tie.Need-add-wide
 add-wide c = search needs
 
--- src/lib.rt:46:19
 mul-wide-2 : tie.Need-mul-wide-2
 mul-wide-2 c = search needs
 
--- src/lib.rt:46:19
 shared-slice-read-wide-2 : tie.Need-shared-slice-read-wide-2
 shared-slice-read-wide-2 c = search needs
 
--- src/lib.rt:46:9
 wide-requires-2 : tie.Need-wide-requires-2
 wide-requires-2 c κs = search needs
 
--- src/lib.rt:47:5
 escaped-length-requires : tie.Need-escaped-length-requires
 escaped-length-requires c κs = search needs
 
--- src/lib.rt:40:1
 returns : tie.Need-returns
 returns c =
     let s : tie.Start = search in

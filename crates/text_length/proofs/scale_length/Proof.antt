@@ -8,35 +8,27 @@ use Rattle.text_length.proofs.scale_length.Reads as reads
 use Rattle.text_length.proofs.scale_length.Lts as lts
 use Rattle.text_length.proofs.wide.Reads as wide-reads
 
--- src/lib.rt:56:21
 mul-wide : tie.Need-mul-wide
 mul-wide c = search needs
 
--- src/lib.rt:56:21
 shared-slice-read-wide : tie.Need-shared-slice-read-wide
 shared-slice-read-wide c = search needs
 
--- src/lib.rt:56:9
 wide-requires : tie.Need-wide-requires
 wide-requires c κs = search needs
 
--- src/lib.rt:57:26
 add-wide : tie.Need-add-wide
 add-wide c = search needs
 
--- src/lib.rt:57:19
 mul-wide-2 : tie.Need-mul-wide-2
 mul-wide-2 c = search needs
 
--- src/lib.rt:57:19
 shared-slice-read-wide-2 : tie.Need-shared-slice-read-wide-2
 shared-slice-read-wide-2 c = search needs
 
--- src/lib.rt:57:9
 wide-requires-2 : tie.Need-wide-requires-2
 wide-requires-2 c κs = search needs
 
--- src/lib.rt:59:9
 returns : tie.Need-returns
 returns c =
     let s : tie.Start = search in
@@ -44,15 +36,12 @@ returns c =
     let b : tie.After-wide2 = search in
     (no-scale-length (s .pre) (a .wide .ensures .0) (b .wide2 .ensures .0) (c .if1 .taken), omega arith)
 
--- src/lib.rt:61:5
 sub-result : tie.Need-sub-result
 sub-result c = search needs
 
--- src/lib.rt:61:5
 add-result : tie.Need-add-result
 add-result c = search needs
 
--- src/lib.rt:51:1
 returns-2 : tie.Need-returns-2
 returns-2 c =
     let s : tie.Start = search in

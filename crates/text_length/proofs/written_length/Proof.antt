@@ -9,23 +9,18 @@ use Rattle.text_length.proofs.written_length.Lts as lts
 use Rattle.text_length.proofs.attributes_length.Reads as attributes-length-reads
 use Rattle.text_length.proofs.labels_length.Reads as labels-length-reads
 
--- src/lib.rt:140:9
 labels-length-requires : tie.Need-labels-length-requires
 labels-length-requires c κs = search needs
 
--- src/lib.rt:141:9
 attributes-length-requires : tie.Need-attributes-length-requires
 attributes-length-requires c κs = search needs
 
--- src/lib.rt:142:5
 add-result : tie.Need-add-result
 add-result c = search needs
 
--- src/lib.rt:142:5
 add-result-2 : tie.Need-add-result-2
 add-result-2 c = search needs
 
--- src/lib.rt:122:1
 returns : tie.Need-returns
 returns c =
     let s : tie.Start = search in

@@ -1,27 +1,26 @@
 -- `text_writing::put_attribute` meets its contract. Assumes nothing.
 use mathlib.Core.List.{[], _∷_}
-use Rattle.text_writing.proofs.Laws.{onto-starts, onto-part, onto-put, onto-last, onto-whole, room-as, put-as, stands-as, name-as}
+use Rattle.byte_buffers.proofs.Laws.{put-as}
+use Rattle.byte_buffers.proofs.Onto.{onto-starts, onto-part, onto-put, onto-last, onto-whole}
+use Rattle.text_writing.proofs.Laws.{room-as, stands-as, name-as}
 use borrow.Author.Needs.{needs}
 use Rattle.text_writing.proofs.put_attribute.Statement.{statement}
 use Rattle.text_writing.proofs.put_attribute.Tie as tie
 use Rattle.text_writing.proofs.put_attribute.Reads as reads
 use Rattle.text_writing.proofs.put_attribute.Lts as lts
 use Rattle.lines.proofs.at.Reads as at-reads
-use Rattle.text_writing.proofs.put_byte.Reads as put-byte-reads
+use Rattle.byte_buffers.proofs.put_byte.Reads as put-byte-reads
 use Rattle.text_writing.proofs.put_name.Reads as put-name-reads
 use Rattle.text_writing.proofs.put_scale.Reads as put-scale-reads
 
--- src/lib.rt:103:9
 put-byte-requires : tie.Need-put-byte-requires
 put-byte-requires c κs =
     let s : tie.Start = search in
     onto-part (9 ∷ []) _ (onto-starts (s .pre .1))
 
--- src/lib.rt:104:9
 at-requires : tie.Need-at-requires
 at-requires c κs = search needs
 
--- src/lib.rt:105:9
 put-name-requires : tie.Need-put-name-requires
 put-name-requires c κs =
     let s : tie.Start = search in
@@ -30,7 +29,6 @@ put-name-requires c κs =
     let g = onto-put (9 ∷ []) _ (p .put-byte .ensures) (onto-starts (s .pre .1)) in
     (stands-as (a .at .ensures) (s .pre .0 .name), room-as (name-as _ (a .at .ensures)) (onto-part _ _ g))
 
--- src/lib.rt:106:5
 put-scale-requires : tie.Need-put-scale-requires
 put-scale-requires c κs =
     let s : tie.Start = search in
@@ -41,11 +39,9 @@ put-scale-requires c κs =
     let h = onto-put _ _ (put-as (name-as _ (a .at .ensures)) (n .put-name .ensures)) g in
     (s .pre .0 .scale, onto-whole h)
 
--- src/lib.rt:87:1
 same-length : tie.Need-same-length
 same-length c = search needs
 
--- src/lib.rt:87:1
 returns : tie.Need-returns
 returns c =
     let s : tie.Start = search in

@@ -3,7 +3,8 @@ use Prim.Native.Nat.{_-_}
 use native.Mathlib.Omega.{arith}
 use borrow.Author.Needs.{needs}
 use Rattle.text_writing.specs.Ready.{strings, attributeBytes, eachFrom}
-use Rattle.text_writing.proofs.Laws.{Onto, onto-starts, onto-as, onto-part, onto-put, onto-over, each-first, each-over}
+use Rattle.byte_buffers.proofs.Onto.{Onto, onto-starts, onto-as, onto-part, onto-put, onto-over}
+use Rattle.text_writing.proofs.Laws.{each-first, each-over}
 use Rattle.text_writing.proofs.put_attributes.Statement.{statement}
 use Rattle.text_writing.proofs.put_attributes.Tie as tie
 use Rattle.text_writing.proofs.put_attributes.Reads as reads
@@ -18,13 +19,11 @@ Inv-loop text₀ at ids name-starts names scale-starts scales first end a₀ k�
 abbrev μ-loop : tie.MeasureT-loop
 μ-loop text₀ at ids name-starts names scale-starts scales first end a₀ k₀ text a k = end - a
 
--- src/lib.rt:129:5
 loop-holds : tie.Need-loop-holds Inv-loop μ-loop
 loop-holds c =
     let s : tie.Start Inv-loop μ-loop = search in
     onto-starts (s .pre .1)
 
--- src/lib.rt:130:9
 put-attribute-requires : tie.Need-put-attribute-requires Inv-loop μ-loop
 put-attribute-requires c κs =
     let s : tie.Start Inv-loop μ-loop = search in
@@ -33,15 +32,12 @@ put-attribute-requires c κs =
     let g = onto-as (each-first _ _ _ (t .loop-test .taken)) (l .loop .inv) in
     (s .pre .0 _ (t .loop-test .taken), onto-part _ _ g)
 
--- src/lib.rt:131:9
 add-a : tie.Need-add-a Inv-loop μ-loop
 add-a c = search needs
 
--- src/lib.rt:129:5
 loop-less : tie.Need-loop-less Inv-loop μ-loop
 loop-less c = omega arith
 
--- src/lib.rt:129:5
 loop-again : tie.Need-loop-again Inv-loop μ-loop
 loop-again c =
     let l : tie.At-loop Inv-loop μ-loop = search in
@@ -50,13 +46,11 @@ loop-again c =
     let p : tie.After-put-attribute Inv-loop μ-loop = search in
     onto-put _ _ (p .put-attribute .ensures) g
 
--- src/lib.rt:110:1
 same-length : tie.Need-same-length Inv-loop μ-loop
 same-length c =
     let l : tie.At-loop Inv-loop μ-loop = search in
     l .loop .inv .long
 
--- src/lib.rt:110:1
 returns : tie.Need-returns Inv-loop μ-loop
 returns c =
     let l : tie.At-loop Inv-loop μ-loop = search in

@@ -6,7 +6,8 @@ use borrow.Author.Needs.{needs}
 use lib.ListN.{length}
 use lib.Seq.{slice}
 use Rattle.layout.specs.Layout.{escaped}
-use Rattle.text_writing.proofs.Laws.{Onto, onto-starts, onto-as, onto-room, onto-byte, onto-two, onto-over, name-special, name-plain, name-over}
+use Rattle.byte_buffers.proofs.Onto.{Onto, onto-starts, onto-as, onto-room, onto-byte, onto-two, onto-over}
+use Rattle.text_writing.proofs.Laws.{name-special, name-plain, name-over}
 use Rattle.text_writing.proofs.put_escaped.Statement.{statement}
 use Rattle.text_writing.proofs.put_escaped.Tie as tie
 use Rattle.text_writing.proofs.put_escaped.Reads as reads
@@ -18,24 +19,20 @@ Inv-loop text₀ at bytes from to i₀ k₀ text i k = (i ≤ to) × (to ≤ len
 abbrev μ-loop : tie.MeasureT-loop
 μ-loop text₀ at bytes from to i₀ k₀ text i k = to - i
 
--- src/lib.rt:45:5
 loop-holds : tie.Need-loop-holds Inv-loop μ-loop
 loop-holds c =
     let s : tie.Start Inv-loop μ-loop = search in
     (s .pre .0 .0, s .pre .0 .1, onto-starts (s .pre .1))
 
--- src/lib.rt:46:17
 shared-slice-read-b : tie.Need-shared-slice-read-b Inv-loop μ-loop
 shared-slice-read-b c = search needs
 
--- src/lib.rt:47:9
 add-i : tie.Need-add-i Inv-loop μ-loop
 add-i c = search needs
 
 needs-slash-requires : tie.Need-needs-slash-requires Inv-loop μ-loop
 needs-slash-requires c κs = search needs
 
--- src/lib.rt:49:13
 slice-write-text : tie.Need-slice-write-text Inv-loop μ-loop
 slice-write-text c =
     let l : tie.At-loop Inv-loop μ-loop = search in
@@ -45,7 +42,6 @@ slice-write-text c =
     let g = onto-as (name-special _ _ _ (t .loop-test .taken) (l .loop .inv .1) (sym (n .needs-slash .ensures) ∙ b .if1 .taken)) (l .loop .inv .2) in
     onto-room g
 
--- src/lib.rt:50:18
 add-text : tie.Need-add-text Inv-loop μ-loop
 add-text c =
     let l : tie.At-loop Inv-loop μ-loop = search in
@@ -55,7 +51,6 @@ add-text c =
     let g = onto-as (name-special _ _ _ (t .loop-test .taken) (l .loop .inv .1) (sym (n .needs-slash .ensures) ∙ b .if1 .taken)) (l .loop .inv .2) in
     omega (arith, onto-room (onto-byte g))
 
--- src/lib.rt:50:13
 slice-write-text-2 : tie.Need-slice-write-text-2 Inv-loop μ-loop
 slice-write-text-2 c =
     let l : tie.At-loop Inv-loop μ-loop = search in
@@ -65,7 +60,6 @@ slice-write-text-2 c =
     let g = onto-as (name-special _ _ _ (t .loop-test .taken) (l .loop .inv .1) (sym (n .needs-slash .ensures) ∙ b .if1 .taken)) (l .loop .inv .2) in
     onto-room (onto-byte g)
 
--- src/lib.rt:51:13
 add-k : tie.Need-add-k Inv-loop μ-loop
 add-k c =
     let l : tie.At-loop Inv-loop μ-loop = search in
@@ -75,11 +69,9 @@ add-k c =
     let g = onto-as (name-special _ _ _ (t .loop-test .taken) (l .loop .inv .1) (sym (n .needs-slash .ensures) ∙ b .if1 .taken)) (l .loop .inv .2) in
     omega (arith, onto-room (onto-byte g))
 
--- src/lib.rt:45:5
 loop-less : tie.Need-loop-less Inv-loop μ-loop
 loop-less c = omega arith
 
--- src/lib.rt:45:5
 loop-again : tie.Need-loop-again Inv-loop μ-loop
 loop-again c =
     let l : tie.At-loop Inv-loop μ-loop = search in
@@ -89,7 +81,6 @@ loop-again c =
     let g = onto-as (name-special _ _ _ (t .loop-test .taken) (l .loop .inv .1) (sym (n .needs-slash .ensures) ∙ b .if1 .taken)) (l .loop .inv .2) in
     (omega arith, l .loop .inv .1, onto-two g)
 
--- src/lib.rt:53:13
 slice-write-text-3 : tie.Need-slice-write-text-3 Inv-loop μ-loop
 slice-write-text-3 c =
     let l : tie.At-loop Inv-loop μ-loop = search in
@@ -99,7 +90,6 @@ slice-write-text-3 c =
     let g = onto-as (name-plain _ _ _ (t .loop-test .taken) (l .loop .inv .1) (sym (n .needs-slash .ensures) ∙ b .if1 .left)) (l .loop .inv .2) in
     onto-room g
 
--- src/lib.rt:54:13
 add-k-2 : tie.Need-add-k-2 Inv-loop μ-loop
 add-k-2 c =
     let l : tie.At-loop Inv-loop μ-loop = search in
@@ -109,11 +99,9 @@ add-k-2 c =
     let g = onto-as (name-plain _ _ _ (t .loop-test .taken) (l .loop .inv .1) (sym (n .needs-slash .ensures) ∙ b .if1 .left)) (l .loop .inv .2) in
     omega (arith, onto-room g)
 
--- src/lib.rt:45:5
 loop-less-2 : tie.Need-loop-less-2 Inv-loop μ-loop
 loop-less-2 c = omega arith
 
--- src/lib.rt:45:5
 loop-again-2 : tie.Need-loop-again-2 Inv-loop μ-loop
 loop-again-2 c =
     let l : tie.At-loop Inv-loop μ-loop = search in
@@ -123,13 +111,11 @@ loop-again-2 c =
     let g = onto-as (name-plain _ _ _ (t .loop-test .taken) (l .loop .inv .1) (sym (n .needs-slash .ensures) ∙ b .if1 .left)) (l .loop .inv .2) in
     (omega arith, l .loop .inv .1, onto-byte g)
 
--- src/lib.rt:38:1
 same-length : tie.Need-same-length Inv-loop μ-loop
 same-length c =
     let l : tie.At-loop Inv-loop μ-loop = search in
     l .loop .inv .2 .long
 
--- src/lib.rt:38:1
 returns : tie.Need-returns Inv-loop μ-loop
 returns c =
     let l : tie.At-loop Inv-loop μ-loop = search in

@@ -1,7 +1,8 @@
 -- `text_writing::put_name` meets its contract. Assumes nothing.
 use mathlib.Core.Path.{ap}
 use Rattle.layout.specs.Layout.{escaped}
-use Rattle.text_writing.proofs.Laws.{part-is, part-stands, room-as, put-as}
+use Rattle.byte_buffers.proofs.Laws.{put-as}
+use Rattle.text_writing.proofs.Laws.{part-is, part-stands, room-as}
 use borrow.Author.Needs.{needs}
 use Rattle.text_writing.proofs.put_name.Statement.{statement}
 use Rattle.text_writing.proofs.put_name.Tie as tie
@@ -10,19 +11,15 @@ use Rattle.text_writing.proofs.put_name.Lts as lts
 use Rattle.lines.proofs.at.Reads as at-reads
 use Rattle.text_writing.proofs.put_escaped.Reads as put-escaped-reads
 
--- src/lib.rt:66:9
 at-requires : tie.Need-at-requires
 at-requires c κs = search needs
 
--- src/lib.rt:67:32
 add-at : tie.Need-add-at
 add-at c = search needs
 
--- src/lib.rt:67:9
 at-requires-2 : tie.Need-at-requires-2
 at-requires-2 c κs = search needs
 
--- src/lib.rt:68:5
 put-escaped-requires : tie.Need-put-escaped-requires
 put-escaped-requires c κs =
     let s : tie.Start = search in
@@ -30,11 +27,9 @@ put-escaped-requires c κs =
     let b : tie.After-at2 = search in
     (part-stands (s .pre .0) (a .at .ensures) (b .at2 .ensures), room-as (ap escaped (part-is (s .pre .0) (a .at .ensures) (b .at2 .ensures))) (s .pre .1))
 
--- src/lib.rt:61:1
 same-length : tie.Need-same-length
 same-length c = search needs
 
--- src/lib.rt:61:1
 returns : tie.Need-returns
 returns c =
     let s : tie.Start = search in

@@ -4,7 +4,9 @@ use native.Mathlib.Omega.{arith}
 use borrow.Author.Needs.{needs}
 use Rattle.text_tables.specs.Written.{Unwritten}
 use Rattle.text_writing.specs.Ready.{strings, lentTables, wordBytes, sequenceBytes, eachFrom}
-use Rattle.text_writing.proofs.Laws.{Onto, onto-starts, onto-as, onto-part, onto-put, onto-over, room-as, put-as, each-list, each-over, each-all, sequence-next, words-alone}
+use Rattle.byte_buffers.proofs.Laws.{put-as}
+use Rattle.byte_buffers.proofs.Onto.{Onto, onto-starts, onto-as, onto-part, onto-put, onto-over}
+use Rattle.text_writing.proofs.Laws.{room-as, each-list, each-over, each-all, sequence-next, words-alone}
 use Rattle.text_writing.proofs.put_sequences.Statement.{statement}
 use Rattle.text_writing.proofs.put_sequences.Tie as tie
 use Rattle.text_writing.proofs.put_sequences.Reads as reads
@@ -42,13 +44,11 @@ ended c = search
 abbrev tables : tie.Start Inv-loop μ-loop → Unwritten
 tables s = lentTables (s .args .instances) (s .args .lines .now) (s .args .begins .now) (s .args .ids .now) (s .args .references .now) (strings (s .args .label-starts .now) (s .args .labels .now)) (strings (s .args .name-starts .now) (s .args .names .now)) (strings (s .args .scale-starts .now) (s .args .scales .now))
 
--- src/lib.rt:242:5
 loop-holds : tie.Need-loop-holds Inv-loop μ-loop
 loop-holds c =
     let s : tie.Start Inv-loop μ-loop = search in
     onto-as (each-all (sequenceBytes (tables s)) (s .args .instances)) (onto-starts (s .pre .1))
 
--- src/lib.rt:243:13
 at-requires : tie.Need-at-requires Inv-loop μ-loop
 at-requires c κs =
     let l : tie.At-loop Inv-loop μ-loop = search in
@@ -56,11 +56,9 @@ at-requires c κs =
     let s : tie.Start Inv-loop μ-loop = entry l in
     omega (arith, s .pre .0 _ (t .loop-test .taken) .list .inside)
 
--- src/lib.rt:244:36
 add-at : tie.Need-add-at Inv-loop μ-loop
 add-at c = search needs
 
--- src/lib.rt:244:13
 at-requires-2 : tie.Need-at-requires-2 Inv-loop μ-loop
 at-requires-2 c κs =
     let l : tie.At-loop Inv-loop μ-loop = search in
@@ -68,7 +66,6 @@ at-requires-2 c κs =
     let s : tie.Start Inv-loop μ-loop = entry l in
     s .pre .0 _ (t .loop-test .taken) .list .inside
 
--- src/lib.rt:245:13
 put-words-requires : tie.Need-put-words-requires Inv-loop μ-loop
 put-words-requires c κs =
     let e : tie.After-at2 Inv-loop μ-loop = search in
@@ -81,7 +78,6 @@ put-words-requires c κs =
       room-as (each-list _ (s .args .lines .now) (l .loop .i) (b .at .ensures) (e .at2 .ensures)) (onto-part _ _ g),
     )
 
--- src/lib.rt:260:9
 end-sequence-requires : tie.Need-end-sequence-requires Inv-loop μ-loop
 end-sequence-requires c κs =
     let p : tie.After-put-words Inv-loop μ-loop = search in
@@ -93,15 +89,12 @@ end-sequence-requires c κs =
     let g = onto-as (sequence-next (tables s) (l .loop .i) (s .args .instances) (t .loop-test .taken)) (l .loop .inv) in
     onto-part _ _ (onto-put _ _ (put-as (each-list _ (s .args .lines .now) (l .loop .i) (b .at .ensures) (e .at2 .ensures)) (p .put-words .ensures)) g)
 
--- src/lib.rt:261:9
 add-i : tie.Need-add-i Inv-loop μ-loop
 add-i c = search needs
 
--- src/lib.rt:242:5
 loop-less : tie.Need-loop-less Inv-loop μ-loop
 loop-less c = omega arith
 
--- src/lib.rt:242:5
 loop-again : tie.Need-loop-again Inv-loop μ-loop
 loop-again c =
     let r : tie.After-end-sequence Inv-loop μ-loop = search in
@@ -114,13 +107,11 @@ loop-again c =
     let g = onto-as (sequence-next (tables s) (l .loop .i) (s .args .instances) (t .loop-test .taken)) (l .loop .inv) in
     onto-put _ _ (r .end-sequence .ensures) (onto-put _ _ (put-as (each-list _ (s .args .lines .now) (l .loop .i) (b .at .ensures) (e .at2 .ensures)) (p .put-words .ensures)) g)
 
--- src/lib.rt:220:1
 same-length : tie.Need-same-length Inv-loop μ-loop
 same-length c =
     let l : tie.At-loop Inv-loop μ-loop = search in
     l .loop .inv .long
 
--- src/lib.rt:220:1
 returns : tie.Need-returns Inv-loop μ-loop
 returns c =
     let l : tie.At-loop Inv-loop μ-loop = search in

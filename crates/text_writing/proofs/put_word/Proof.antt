@@ -6,10 +6,12 @@ use native.Mathlib.Omega.{arith}
 use lib.ListN.{getD}
 use Rattle.lines.specs.Passes.{start, size}
 use Rattle.layout.specs.Layout.{Bytes, escaped}
-use Rattle.answer_line.specs.Line.{Put}
+use Rattle.byte_buffers.specs.Stored.{Put}
 use Rattle.text_tables.specs.Written.{Unwritten, stringAt}
 use Rattle.text_writing.specs.Ready.{strings, wordTables, attributeBytes, wordBytes, eachFrom}
-use Rattle.text_writing.proofs.Laws.{Onto, onto-starts, onto-as, onto-part, onto-put, onto-last, onto-whole, room-as, put-as, stands-as, name-as, each-list, word-parts}
+use Rattle.byte_buffers.proofs.Laws.{put-as}
+use Rattle.byte_buffers.proofs.Onto.{Onto, onto-starts, onto-as, onto-part, onto-put, onto-last, onto-whole}
+use Rattle.text_writing.proofs.Laws.{room-as, stands-as, name-as, each-list, word-parts}
 use borrow.Author.Needs.{needs}
 use Rattle.text_writing.proofs.put_word.Statement.{statement}
 use Rattle.text_writing.proofs.put_word.Tie as tie
@@ -17,7 +19,7 @@ use Rattle.text_writing.proofs.put_word.Reads as reads
 use Rattle.text_writing.proofs.put_word.Lts as lts
 use Rattle.lines.proofs.at.Reads as at-reads
 use Rattle.text_writing.proofs.put_attributes.Reads as put-attributes-reads
-use Rattle.text_writing.proofs.put_byte.Reads as put-byte-reads
+use Rattle.byte_buffers.proofs.put_byte.Reads as put-byte-reads
 use Rattle.text_writing.proofs.put_name.Reads as put-name-reads
 
 -- the places that facts are taken from, each found from the one after it
@@ -45,30 +47,24 @@ labelled : (s : tie.Start) {label k : ℕ} {after : Bytes} → label ≡ getD (t
     → let t = tables s in Onto (eachFrom (attributeBytes (t .ids) (t .names) (t .scales)) (start (t .wordStarts) (s .args .w)) (size (t .wordStarts) (s .args .w)) ++ (10 ∷ [])) (wordBytes t (s .args .w)) k (s .args .at) after (s .args .text .now)
 labelled s e p = onto-put _ _ (put-as (name-as _ e) p) (onto-as (word-parts (tables s) (s .args .w)) (onto-starts (s .pre .1)))
 
--- src/lib.rt:157:9
 at-requires : tie.Need-at-requires
 at-requires c κs = search needs
 
--- src/lib.rt:158:9
 put-name-requires : tie.Need-put-name-requires
 put-name-requires c κs =
     let s : tie.Start = search in
     let a : tie.After-at = search in
     (stands-as (a .at .ensures) (s .pre .0 .label), room-as (name-as _ (a .at .ensures)) (onto-part _ _ (onto-as (word-parts (tables s) (s .args .w)) (onto-starts (s .pre .1)))))
 
--- src/lib.rt:159:9
 at-requires-2 : tie.Need-at-requires-2
 at-requires-2 c κs = search needs
 
--- src/lib.rt:160:33
 add-at : tie.Need-add-at
 add-at c = search needs
 
--- src/lib.rt:160:9
 at-requires-3 : tie.Need-at-requires-3
 at-requires-3 c κs = search needs
 
--- src/lib.rt:161:9
 put-attributes-requires : tie.Need-put-attributes-requires
 put-attributes-requires c κs =
     let e : tie.After-at3 = search in
@@ -81,7 +77,6 @@ put-attributes-requires c κs =
       room-as (each-list _ (tables s .wordStarts) (s .args .w) (b .at2 .ensures) (e .at3 .ensures)) (onto-part _ _ g),
     )
 
--- src/lib.rt:172:5
 put-byte-requires : tie.Need-put-byte-requires
 put-byte-requires c κs =
     let p : tie.After-put-attributes = search in
@@ -93,11 +88,9 @@ put-byte-requires c κs =
     let g = labelled s (a .at .ensures) (n .put-name .ensures) in
     onto-whole (onto-put _ _ (put-as (each-list _ (tables s .wordStarts) (s .args .w) (b .at2 .ensures) (e .at3 .ensures)) (p .put-attributes .ensures)) g)
 
--- src/lib.rt:137:1
 same-length : tie.Need-same-length
 same-length c = search needs
 
--- src/lib.rt:137:1
 returns : tie.Need-returns
 returns c =
     let r : tie.After-put-byte = search in

@@ -3,7 +3,8 @@ use Prim.Native.Nat.{_-_}
 use native.Mathlib.Omega.{arith}
 use borrow.Author.Needs.{needs}
 use Rattle.text_writing.specs.Ready.{strings, wordTables, wordBytes, eachFrom}
-use Rattle.text_writing.proofs.Laws.{Onto, onto-starts, onto-as, onto-part, onto-put, onto-over, each-first, each-over}
+use Rattle.byte_buffers.proofs.Onto.{Onto, onto-starts, onto-as, onto-part, onto-put, onto-over}
+use Rattle.text_writing.proofs.Laws.{each-first, each-over}
 use Rattle.text_writing.proofs.put_words.Statement.{statement}
 use Rattle.text_writing.proofs.put_words.Tie as tie
 use Rattle.text_writing.proofs.put_words.Reads as reads
@@ -22,13 +23,11 @@ abbrev μ-loop : tie.MeasureT-loop
 abbrev entry : tie.At-loop Inv-loop μ-loop → tie.Start Inv-loop μ-loop
 entry c = search
 
--- src/lib.rt:199:5
 loop-holds : tie.Need-loop-holds Inv-loop μ-loop
 loop-holds c =
     let s : tie.Start Inv-loop μ-loop = search in
     onto-starts (s .pre .1)
 
--- src/lib.rt:200:9
 put-word-requires : tie.Need-put-word-requires Inv-loop μ-loop
 put-word-requires c κs =
     let l : tie.At-loop Inv-loop μ-loop = search in
@@ -37,15 +36,12 @@ put-word-requires c κs =
     let g = onto-as (each-first _ _ _ (t .loop-test .taken)) (l .loop .inv) in
     (s .pre .0 _ (t .loop-test .taken), onto-part _ _ g)
 
--- src/lib.rt:214:9
 add-w : tie.Need-add-w Inv-loop μ-loop
 add-w c = search needs
 
--- src/lib.rt:199:5
 loop-less : tie.Need-loop-less Inv-loop μ-loop
 loop-less c = omega arith
 
--- src/lib.rt:199:5
 loop-again : tie.Need-loop-again Inv-loop μ-loop
 loop-again c =
     let l : tie.At-loop Inv-loop μ-loop = search in
@@ -54,13 +50,11 @@ loop-again c =
     let p : tie.After-put-word Inv-loop μ-loop = search in
     onto-put _ _ (p .put-word .ensures) g
 
--- src/lib.rt:176:1
 same-length : tie.Need-same-length Inv-loop μ-loop
 same-length c =
     let l : tie.At-loop Inv-loop μ-loop = search in
     l .loop .inv .long
 
--- src/lib.rt:176:1
 returns : tie.Need-returns Inv-loop μ-loop
 returns c =
     let l : tie.At-loop Inv-loop μ-loop = search in

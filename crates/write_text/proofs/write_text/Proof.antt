@@ -31,15 +31,12 @@ given s =
 accepted : (e : tie.After-enum-told) → let s = entry (checked e) in checkedOf (given s) (s .args .text .now) ≡ Accepted
 accepted e = sym (checked e .check-written .ensures) ∙ e .enum-told .given .1
 
--- src/lib.rt:37:9
 check-written-requires : tie.Need-check-written-requires
 check-written-requires c κs = search needs
 
--- src/lib.rt:53:29
 enum-known-checked : tie.Need-enum-known-checked
 enum-known-checked c = search needs
 
--- src/lib.rt:54:9
 returns : tie.Need-returns
 returns c =
     let w : tie.After-check-written = search in
@@ -49,22 +46,18 @@ returns c =
 enum-told : tie.Need-enum-told
 enum-told c = search needs
 
--- src/lib.rt:58:9
 cast-put-sequences : tie.Need-cast-put-sequences
 cast-put-sequences c = search needs
 
--- src/lib.rt:56:9
 put-sequences-requires : tie.Need-put-sequences-requires
 put-sequences-requires c κs =
     let e : tie.After-enum-told = search in
     let s = entry (checked e) in
     (stands (given s) (s .args .text .now) (accepted e), room (given s) (s .args .text .now) (accepted e))
 
--- src/lib.rt:17:1
 same-length : tie.Need-same-length
 same-length c = search needs
 
--- src/lib.rt:17:1
 returns-2 : tie.Need-returns-2
 returns-2 c =
     let p : tie.After-put-sequences = search in
