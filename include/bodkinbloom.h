@@ -38,7 +38,8 @@
 /* Of what is declared here: it is raised when a call, a struct or the meaning of a number changes. */
 #define BODKINBLOOM_VERSION 1
 
-/* More stack than any call takes; and more than those take that read a training text, which are not among the others. */
+/* More stack than any call takes but the two that go through a training text, read_text and text_sizes; and more than these two
+ * take. Where threads start with less than the second, give the one that reads a text more (pthread_attr_setstacksize). */
 #define BODKINBLOOM_STACK 53248
 #define BODKINBLOOM_TEXT_STACK 1048576
 
@@ -97,8 +98,9 @@ static inline int bodkinbloom_environment(void) {
  *    8  a finished score or count is not finite; place: the index
  *    9  training left the finite numbers; place: the visits done
  *   10  a file with a wrong mark, version or length: given by the program `decode`, which reads one, and by no call here
- *   11  a malformed training text; place: the first byte after which no text is well-formed, or the text's length. To be
- *       written: a name or a scale that no text can carry; place: the index in its table
+ *   11  reading a training text: it is malformed; place: the first byte after which nothing makes it well-formed any more, or
+ *       its length where only the end comes too soon. Writing one: a name or a scale that no text can carry; place: the index in
+ *       its table
  */
 typedef struct {
     uint32_t number;
@@ -526,15 +528,17 @@ bodkinbloom_trained bodkinbloom_arow(
  *    name      = one or more of: a plain byte, "\:" for a colon, "\\" for a backslash
  *    scale     = an optional "-", then 1 to 15 digits with at most one ".", which may be first or last
  *
- * A plain byte is any but tab, line feed, colon and backslash: 0, space, 128 to 255, and CR. So in a text whose lines end in CR
- * LF every last name of a line ends in CR, a line of CR alone is a word, and a scale before a CR is malformed: take the CRs out
- * first. A name cannot have a tab or a line feed. Nothing is asked of the encoding.
+ * A plain byte is any but tab, line feed, colon and backslash: 0, space, 128 to 255, and CR. A name cannot have a tab or a line
+ * feed. Nothing is asked of the encoding. Lines end in a line feed alone. Where they end in CR LF, the CR belongs to the line: its
+ * last name ends in CR and is another name than without it; a line of CR alone is a word with the label CR, and ends no
+ * sequence; a scale before a CR is malformed. Take such CRs out before the call.
  *
  * A scale's value is its fraction rounded once to the nearest binary64, ties to even; "-0" is -0. Beside the value its text is
  * kept as it was typed, for the writer: b, b:1, b:1. and b:01 have the value 1 and four different texts, the first empty.
  *
- * Names get ids by first appearance, labels and attributes apart. Each call starts with no names: the ids of two texts agree only
- * where names appear first in the same order. */
+ * Names get ids by first appearance, from 0, labels and attributes apart. Each call starts with no names: the ids of two texts
+ * agree only where names appear first in the same order. To use a text with a model that was trained on another, look each of
+ * its names up among the names of the other, and put the other's id for its own in `ids` and `references`. */
 
 /* What reading a text answers; all but number and place are 0 after a refusal.
  *    number           0, or the refusal's
@@ -557,9 +561,10 @@ typedef struct {
     uint32_t scale_bytes;
 } bodkinbloom_text;
 
-/* What is enough for a text of n bytes, whatever is in it. Starts are one more: BODKINBLOOM_STARTS(count). Of label_names,
- * attribute_names and scales n bytes each are enough, and what a reader's tables are written to has at most
- * BODKINBLOOM_WRITTEN(n). (`n` is evaluated several times.) */
+/* How many instances, words, attributes, labels and attribute names a text of n bytes has at the most, whatever is in it, unless
+ * it is refused: so tables of these lengths are never too short. Tables of starts need one more, as ever:
+ * BODKINBLOOM_STARTS(BODKINBLOOM_TEXT_WORDS(n)). For label_names, attribute_names and scales n bytes each are enough. What is
+ * written of the tables that were read has at most BODKINBLOOM_WRITTEN(n) bytes. (`n` is evaluated several times.) */
 #define BODKINBLOOM_MOST_ATTRIBUTE_NAMES 65535
 #define BODKINBLOOM_LESS(count, most) ((size_t)(count) < (size_t)(most) ? (size_t)(count) : (size_t)(most))
 #define BODKINBLOOM_TEXT_INSTANCES(n) BODKINBLOOM_LESS((n) / 3 + ((n) % 3 != 0), BODKINBLOOM_MOST_INSTANCES)
@@ -583,15 +588,17 @@ typedef struct {
  *    attribute_names        attribute_bytes                        the names, likewise
  *    scale_starts           BODKINBLOOM_STARTS(attributes_in_all)  where the kept text of each attribute of each word begins
  *    scales                 scale_bytes                            the kept texts; one without a scale has none
- * Behind these fronts nothing is written. bodkinbloom_text_sizes tells the lengths beforehand; the macros above what is enough.
+ * Behind these fronts nothing is written. bodkinbloom_text_sizes tells these lengths beforehand; the macros above, without a look
+ * at the text, what is enough.
  *
  * Refused, in this order; all twelve tables are then as they were:
- *   11  the text is malformed; place: the first byte after which no well-formed text is possible, or text_length where only the
- *       end is at fault. The whole text is looked at for it before anything else
+ *   11  the text is malformed; place: the index of the first byte after which nothing makes it well-formed any more, or text_length
+ *       where only the end comes too soon (behind a tab, a backslash, a colon, or a scale without a digit). The whole text is
+ *       looked at for it before anything else
  *   2   the text has more than 4,294,967,295 bytes; more than 32 labels or 65,535 attribute names; no word at all, or more than
- *       16,384 sequences; more than 1,048,576 words or 4,194,304 attributes. Or a table is too short for the whole answer.
- *       Place 0
- *   4   a sequence has more than 128 words; place: which, from 0 */
+ *       16,384 sequences; more than 1,048,576 words or 4,194,304 attributes. Or a table is too short for the whole answer: so it
+ *       is where bodkinbloom_text_sizes accepts the text. Place 0
+ *   4   a sequence has more than 128 words; place: the first such sequence, from 0 */
 bodkinbloom_text bodkinbloom_read_text(const uint8_t *text, size_t text_length,
                                        uint32_t *line_starts, size_t line_starts_length,
                                        uint32_t *word_starts, size_t word_starts_length,
@@ -606,10 +613,11 @@ bodkinbloom_text bodkinbloom_read_text(const uint8_t *text, size_t text_length,
                                        uint32_t *scale_starts, size_t scale_starts_length,
                                        uint8_t *scales, size_t scales_length);
 
-/* What bodkinbloom_read_text answers where every table is long enough; nothing is written. Refused: 11, 2, 4, as there. */
+/* What bodkinbloom_read_text answers where every table is long enough; nothing is written. Refused as there: 11, 2 but for the
+ * tables, 4. It goes through the whole text, and reading goes through it again. */
 bodkinbloom_text bodkinbloom_text_sizes(const uint8_t *text, size_t text_length);
 
-/* How many names of attributes, and how many bytes the names and the kept texts have. */
+/* How many names of attributes, and how many bytes the names and the kept texts have: as in bodkinbloom_text. */
 typedef struct {
     uint32_t attribute_names;
     uint32_t label_bytes;
@@ -625,10 +633,15 @@ typedef struct {
 } bodkinbloom_written;
 
 /* Writes tables as a text: each word as a line, its label and for each attribute a tab, the name, and, where the kept text is
- * not empty, a colon and that text. A line feed ends each line, and one more, which makes an empty line, each sequence, the
- * last too: so two written texts, one behind the other, are a text of both. Values and instance weights are not lent: a text
- * carries the kept texts, and no weights. The tables and how long they have to be are those of the reader, by `labels`, `totals`
- * and `names`. Tables that the reader filled read back to the same tables, to the bit.
+ * not empty, a colon and that text. In names a backslash is put before each colon and each backslash. A line feed ends each line,
+ * and one more, which makes an empty line, each sequence, the last too: so two written texts, one behind the other, are a text
+ * of both. Values and instance weights are not lent: a text carries the kept texts, and no weights. The tables and how long they
+ * have to be are those of bodkinbloom_read_text, by `labels`, `totals` and `names`. Of `text` only the front that is written is
+ * touched.
+ *
+ * Tables that the reader filled, with the counts that it answered, are accepted where `text` has room, and what is written reads
+ * back to the same tables and the same answer, to the bit. One thing is left to mind: what is written may have two bytes more than
+ * what was read, and above 4,294,967,295 bytes it is itself refused (2) when it is read.
  *
  * Refused, in this order; `text` is then as it was:
  *   1   `labels` is not 1 to 32; place 0
@@ -636,11 +649,11 @@ typedef struct {
  *       table that is read is too short. Place 0
  *   3   a start breaks its rule; place: its index in line_starts, word_starts, label_name_starts, attribute_name_starts,
  *       scale_starts
- *   4   an instance has no words, or more than 128; place: which
+ *   4   an instance has no words, or more than 128; place: the first such instance, from 0
  *   5   an id without a name, in ids; then a label at or above `labels`, in references; place: the index
- *   2   `text` is too short; place 0
- *   11  a name that is empty or has a tab or a line feed, or a kept text that is not empty and no scale; place: the index in
- *       its table: the names of labels, of attributes, the kept texts. All are tested, used or not */
+ *   2   `text` is too short for all that is to be written; place 0
+ *   11  a name that is empty or has a tab or a line feed, or a kept text that is not empty and no scale. The names of labels are
+ *       tested first, then those of attributes, then the kept texts, used or not; place: which name, or which kept text, from 0 */
 bodkinbloom_written bodkinbloom_write_text(uint32_t labels, bodkinbloom_totals totals, bodkinbloom_names names,
                                            const uint32_t *line_starts, size_t line_starts_length,
                                            const uint32_t *word_starts, size_t word_starts_length,
