@@ -361,7 +361,7 @@ fn names_that_meet() {
 /// What the archive says of each, as a line, against the line that is stored.
 #[test]
 fn the_stored_texts() {
-    let folder = Path::new(env!("CARGO_MANIFEST_DIR")).join("../../tests/texts");
+    let folder = Path::new(env!("CARGO_MANIFEST_DIR")).join("../../crates/texts");
     let lines = fs::read_to_string(folder.join("stdout")).expect("the stored answers");
     for (number, line) in lines.lines().enumerate() {
         let text = fs::read(folder.join("data").join(stored::name(number))).expect("a stored text");

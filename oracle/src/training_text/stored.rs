@@ -193,8 +193,8 @@ fn accepted(tables: &Tables, written: &[u8]) -> String {
     let sizes = [labels, attribute_names, instances, words, attributes, label_bytes, attribute_bytes, scale_bytes]
         .map(u64::from);
     let numbers = |table: &[u32]| joined(table, |x| x.to_string(), ",");
-    let floats = |table: &[f64]| joined(table, |x| format!("{:016X}", x.to_bits()), ",");
-    let bytes = |table: &[u8]| joined(table, |x| format!("{x:02X}"), "");
+    let floats = |table: &[f64]| joined(table, |x| format!("{:016x}", x.to_bits()), ",");
+    let bytes = |table: &[u8]| joined(table, |x| format!("{x:02x}"), "");
     let fields = [
         joined(&sizes, |x| x.to_string(), ","),
         numbers(&tables.line_starts),
