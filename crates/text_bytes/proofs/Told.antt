@@ -18,8 +18,12 @@ use Rattle.layout.proofs.Place.{whole-meant, place-meant}
 use Rattle.text_check.specs.Rows.{tooLong}
 use Rattle.text_bytes.specs.Bytes.{malformedAt, bytesChecked, Readable, BytesRefused, BytesMean}
 
-pub bytes-said : (text : Bytes) {found : Found} {formed r : Checked} → found ≡ look text → formed ≡ malformedAt found → r ≡ orNext formed (tooLong (length text)) → r ≡ bytesChecked text
-bytes-said text {found} {formed} {r} l f e = e ∙ ap (λ (c : Checked). orNext c (tooLong (length text))) (f ∙ ap malformedAt l)
+pub first-alone : (check : Checked) → orNext Accepted check ≡ check
+unfolding orNext
+first-alone check = refl
+
+pub bytes-said : (text : Bytes) {found : Found} {formed long r : Checked} → found ≡ look text → formed ≡ malformedAt found → long ≡ tooLong (length text) → r ≡ orNext formed long → r ≡ bytesChecked text
+bytes-said text {found} {formed} {long} {r} l f n e = e ∙ (λ i. orNext ((f ∙ ap malformedAt l) i) (n i))
 
 readable : (text : Bytes) → bytesChecked text ≡ Accepted → Readable text
 unfolding orNext

@@ -16,11 +16,18 @@ fn well_formed(found: Found) -> Checked
     }
 }
 
-// 2 of the length: starts are numbers of 32 bits. 11 stays first, though 2 is the lower number.
-fn then_length(formed: Checked, length: usize) -> Checked
-    ensures { λ r. ⌜ r ≡ orNext formed (tooLong length) ⌝ }
+// 2 of the text's own length: starts are numbers of 32 bits.
+fn too_long(length: usize) -> Checked
+    ensures { λ r. ⌜ r ≡ tooLong length ⌝ }
 {
-    refusals::refuse_if(formed, 2, 0, 4294967295 < length)
+    refusals::refuse_if(Checked::Accepted, 2, 0, 4294967295 < length)
+}
+
+// 11 goes first, though 2 is the lower number.
+fn in_turn(formed: Checked, long: Checked) -> Checked
+    ensures { λ r. ⌜ r ≡ orNext formed long ⌝ }
+{
+    refusals::or_next(formed, long)
 }
 
 // 11, then 2 of the length.
@@ -28,5 +35,5 @@ pub fn check_bytes(text: &[u8]) -> Checked
     ensures { λ r. ⌜ r ≡ bytesChecked (now (text .entry)) ⌝ }
 {
     let formed = well_formed(look::look_through(text));
-    then_length(formed, text.len())
+    in_turn(formed, too_long(text.len()))
 }
