@@ -1,3 +1,4 @@
+-- `look::behind` and `look::plain` meet their contracts. Assumes nothing.
 use Prim.Native.Nat.{ℕ, _<_, _-_}
 use native.Mathlib.Omega.{arith}
 use mathlib.Core.Bool.{true, false}

@@ -1,3 +1,4 @@
+-- `look::plain_run` meets its contract. Assumes nothing.
 use Prim.Native.Nat.{_-_}
 use native.Mathlib.Omega.{arith}
 use Rattle.layout.proofs.Laws.{step-plain}

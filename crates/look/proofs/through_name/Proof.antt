@@ -1,3 +1,4 @@
+-- `look::through_name` meets its contract. Assumes nothing.
 use mathlib.Core.Bool.{true, false}
 use Rattle.look.proofs.Turns.{named, later, walked-on}
 use borrow.Author.Needs.{needs}

@@ -1,3 +1,4 @@
+-- `look::turn` meets its contract. Assumes nothing.
 use mathlib.Core.Path.{_∙_, sym, ap}
 use Rattle.layout.specs.Scan.{nextMode}
 use Rattle.look.proofs.Turns.{turned-end, turned-on, turned-stuck}
