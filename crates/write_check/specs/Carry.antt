@@ -1,5 +1,5 @@
 -- 11 in the writer: "A name the layout cannot carry: the empty one, and one with a tab or a line feed. .. A scale it cannot carry: a text that is not empty
--- and is no scale". As tests that compute, and in plain terms; that both are the same is proved in proofs/Meant. Assumes nothing.
+-- and is no scale". As tests that compute, and in plain terms; that both are the same is proved in proofs/Carried. Assumes nothing.
 use mathlib.Core.Path.{_≡_}
 use mathlib.Core.Bool.{Bool, true, false, cond, not, _&&_, _||_}
 use mathlib.Core.List.{List, [], _∷_}
