@@ -54,7 +54,7 @@ fn predict_in(
 {
     let labels = sizes.labels;
     let features = sizes.features;
-    line_scores::score_transitions(
+    compute_scores::score_transitions(
         labels,
         features,
         kinds,
