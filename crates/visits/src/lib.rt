@@ -158,7 +158,7 @@ pub fn visit(
         reference,
         &mut path[..words],
     );
-    let found = updates::look(sizes.instances, p.finite, p.wrong, s);
+    let found = updates::look(p.finite, p.wrong, s);
     if let Found::Ended(progress) = found {
         return progress;
     }
