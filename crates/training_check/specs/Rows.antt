@@ -13,10 +13,7 @@ use Rattle.lines.specs.Tables.{Model}
 use Rattle.feature_gen.specs.Rows.{modelCounts, modelRooms, startTests, idTests}
 use Rattle.line_check.specs.Rows.{lineRooms, lineLimits, valueTests}
 use Rattle.lines.specs.Data.{Data}
-use Rattle.parameters.specs.declared.Perceptron.{Perceptron}
-use Rattle.parameters.specs.declared.Passive.{Passive}
-use Rattle.parameters.specs.declared.Arow.{Arow}
-use Rattle.parameters.specs.Parameters.{Parameter, sevens, perceptronsOwn, passivesOwn, arowsOwn}
+use Rattle.parameters.specs.Parameters.{Parameter, sevens}
 use Rattle.training_check.specs.declared.Lent.{Lent}
 
 -- what every trainer is given: "Feature counts and trainers are lent no weight table"
@@ -94,39 +91,23 @@ inputNumbers d = valueTests (d .words) ++ numbersFinite instanceWeightTable (d .
 
 -- ---- the order: "The lowest number wins"
 
--- a trainer with these parameters of its own
-unfoldable pub trainingChecked : Input → List Parameter → Checked
-trainingChecked g parameters =
-    first
-    (one (g .model .labels)
+-- 1 to 6, which every trainer shares
+abbrev pub inputRows : Input → List Checked
+inputRows g =
+    one (g .model .labels)
     ∷ two (inputCounts g)
     ∷ two (inputRooms g)
     ∷ checks (inputStarts g)
     ++ checks (lengthTests (g .corpus))
     ++ checks (inputIds g)
     ++ checks (inputNumbers (g .corpus))
-    ++ sevens parameters)
 
-abbrev pub perceptronChecked : Input → Perceptron → Checked
-perceptronChecked g p = trainingChecked g (perceptronsOwn p)
-
-abbrev pub passiveChecked : Input → Passive → Checked
-passiveChecked g p = trainingChecked g (passivesOwn p)
-
-abbrev pub arowChecked : Input → Arow → Checked
-arowChecked g p = trainingChecked g (arowsOwn p)
-
--- what the three share: everything before 7
 unfoldable pub inputChecked : Input → Checked
-inputChecked g =
-    first
-    (one (g .model .labels)
-    ∷ two (inputCounts g)
-    ∷ two (inputRooms g)
-    ∷ checks (inputStarts g)
-    ++ checks (lengthTests (g .corpus))
-    ++ checks (inputIds g)
-    ++ checks (inputNumbers (g .corpus)))
+inputChecked g = first (inputRows g)
+
+-- then 7: a trainer with these parameters of its own
+unfoldable pub trainingChecked : Input → List Parameter → Checked
+trainingChecked g parameters = first (inputRows g ++ sevens parameters)
 
 -- ---- the same in the parts that are checked apart: the model's tables, the instances with what they are made of, the buffers
 
