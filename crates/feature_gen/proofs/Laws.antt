@@ -18,7 +18,8 @@ use Rattle.refusal_rows.specs.Tests.{numbersFinite, checks}
 use Rattle.refusal_rows.proofs.Means.{broken-parts, within-parts}
 use Rattle.refusal_rows.proofs.Parts.{joined, same-limits, as-rows, two-parts, part-stopped, part-within, part-answered}
 use Rattle.lines.specs.Tables.{Model}
-use Rattle.feature_gen.specs.Rows.{featureRooms, weightRooms, listRooms, modelCounts, modelRooms, weightedRooms, startTests, featureTests, entryTests, weightTests, tableLimits, tableTests, weightedLimits, weightedTests, tablesSized, tablesChecked, weightsChecked, weightedChecked, modelChecked}
+use Rattle.feature_gen.specs.Rows.{featureRooms, weightRooms, listRooms, modelCounts, modelRooms, weightedRooms, startTests, featureTests, entryTests, weightTests, modelChecked}
+use Rattle.feature_gen.specs.Parts.{tableLimits, tableTests, weightedLimits, weightedTests, tablesSized, tablesChecked, weightsChecked, weightedChecked}
 use Rattle.feature_gen.specs.Sound.{ModelSized}
 
 -- 2 does not apply

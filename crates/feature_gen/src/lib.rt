@@ -9,7 +9,7 @@ ghost use Rattle.refusal_rows.specs.Limits.{anyBroken};
 ghost use Rattle.refusals.specs.Bounds.{attributeListTable, labelListTable};
 ghost use Rattle.refusal_rows.specs.Tests.{startsRise, idsBelow, checks};
 ghost use Rattle.feature_gen.specs.Rows.{countLimits, featureRooms, listRooms, featureTests};
-ghost use Rattle.feature_gen.specs.Rows.{tablesSized, tablesChecked, weightsChecked, weightedChecked};
+ghost use Rattle.feature_gen.specs.Parts.{tablesSized, tablesChecked, weightsChecked, weightedChecked};
 ghost use Rattle.feature_gen.specs.Lent.{featuresOf, attributeListsOf, labelListsOf, modelWas};
 ghost use Rattle.feature_gen.specs.CheckModel.{ModelChecked};
 use refusals::Checked;

@@ -18,13 +18,16 @@ use Rattle.refusal_rows.specs.Parts.{partChecked}
 use Rattle.refusal_rows.specs.Tests.{startsRise, linesFit, idsBelow, numbersFinite, checks}
 use Rattle.refusal_rows.proofs.Means.{within-parts}
 use Rattle.refusal_rows.proofs.Parts.{ordered, joined, same-limits, as-rows, part-stopped, part-within, part-answered}
-use Rattle.feature_gen.specs.Rows.{modelCounts, modelRooms, tableLimits, tableTests, tablesChecked, weightsChecked}
+use Rattle.feature_gen.specs.Rows.{modelCounts, modelRooms}
+use Rattle.feature_gen.specs.Parts.{tableLimits, tableTests, tablesChecked, weightsChecked}
 use Rattle.feature_gen.proofs.Laws.{sized}
-use Rattle.line_check.specs.Rows.{lineRooms, lineLimits, lineTests, lineChecked, labelsChecked}
+use Rattle.line_check.specs.Rows.{lineRooms}
+use Rattle.line_check.specs.Parts.{lineLimits, lineTests, lineChecked, labelsChecked}
 use Rattle.line_check.proofs.Laws.{line-sized}
 use Rattle.lines.specs.Data.{Data}
 use Rattle.parameters.specs.Parameters.{Parameter, sevens}
-use Rattle.training_check.specs.Rows.{Input, dataCounts, dataRooms, lentRooms, inputCounts, inputRooms, instanceLimits, instanceTests, instancesSized, instancesChecked, dataLimits, dataTests, dataChecked, lentChecked, trainingChecked, inputChecked}
+use Rattle.training_check.specs.Rows.{Input, dataCounts, dataRooms, lentRooms, inputCounts, inputRooms, trainingChecked}
+use Rattle.training_check.specs.Parts.{instanceLimits, instanceTests, instancesSized, instancesChecked, dataLimits, dataTests, dataChecked, lentChecked, inputChecked}
 use Rattle.training_check.specs.Sound.{DataSized, InputFits}
 
 -- no words, or starts that fall
