@@ -4,7 +4,7 @@ use Prim.Native.Nat.{ℕ}
 use lib.ListN.{length}
 use lib.Ieee.{Float}
 use Rattle.refusals.specs.declared.Checked.{Checked}
-use Rattle.refusals.specs.Bounds.{weightTable}
+use Rattle.refusals.specs.Bounds.{Table}
 use Rattle.refusal_rows.specs.Limits.{Limit, room, two}
 use Rattle.refusal_rows.specs.Tests.{Test, numbersFinite}
 use Rattle.refusal_rows.specs.Parts.{partChecked}
@@ -24,9 +24,9 @@ tablesSized m = two (tableLimits m)
 unfoldable pub tablesChecked : Model → Checked
 tablesChecked m = partChecked (tableLimits m) (tableTests m)
 
--- 2 and 6 of a weight for each feature
-unfoldable pub weightsChecked : ℕ → List Float → Checked
-weightsChecked features weights = partChecked (room (length weights) features ∷ []) (numbersFinite weightTable weights features ∷ [])
+-- 2 and 6 of the table of so many weights: those of the features, or those of a trainer's instances
+unfoldable pub weightsChecked : Table → ℕ → List Float → Checked
+weightsChecked which n weights = partChecked (room (length weights) n ∷ []) (numbersFinite which weights n ∷ [])
 
 -- of both
 abbrev pub weightedLimits : Model → List Float → List Limit
