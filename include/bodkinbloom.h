@@ -23,8 +23,8 @@
  *    compute_scores                  1,024
  *    extract_features                2,048
  *    viterbi_decode                 12,288    (8,136 were used)
- *    label_line                     49,152    (46,496)
- *    the three trainers             53,248    (51,592)
+ *    label_line                     49,152    (47,056)
+ *    the three trainers             53,248    (48,800)
  *    read_text, text_sizes       1,048,576    (two tables that find names again are most of it: 786,432)
  *    write_text                      1,024
  */

@@ -8,14 +8,14 @@ use Rattle.lines.proofs.Fronts.{length-states, length-transitions}
 use Rattle.refusals.specs.Said.{accepted, saidOf}
 use Rattle.refusals.proofs.Said.{done-said}
 use Rattle.same_scores.proofs.Same.{only-named-matters}
-use Rattle.compute_scores.specs.Promise.{Given, Buffers, Outcome, stateEntries, transitionEntries, statesOfLine, transitionsOfLine, checkedOf, finishedOf, answerTo, statesAfter, transitionsAfter, Promised}
+use Rattle.compute_scores.specs.Promise.{Given, Buffers, Outcome, stateEntries, transitionEntries, statesOfLine, transitionsOfLine, checkedOf, scoresFinishedOf, answerTo, statesAfter, transitionsAfter, Promised}
 use Rattle.compute_scores.specs.Independent.{scoringInputOf, SameScores}
 
 -- the fronts of a line that is scored hold its scores
 module _ (given : Given) (before : Buffers) (outcome : Outcome) (kept : Promised given before outcome) (scored : saidOf (outcome .answer) ≡ accepted tt) where
-  passed : (checkedOf given before ≡ Accepted) × (finishedOf given ≡ Accepted)
+  passed : (checkedOf given before ≡ Accepted) × (scoresFinishedOf given ≡ Accepted)
   unfolding answerTo
-  passed = both (checkedOf given before) (finishedOf given) (done-said _ .0 (sym (kept .answers) ∙ scored))
+  passed = both (checkedOf given before) (scoresFinishedOf given) (done-said _ .0 (sym (kept .answers) ∙ scored))
 
   front-states : take (stateEntries given) (outcome .states) ≡ statesOfLine given
   unfolding statesAfter

@@ -14,7 +14,7 @@ use Rattle.line_check.specs.Sound.{SoundScoring}
 use Rattle.finished.specs.Rows.{scoresFinished}
 use Rattle.finished.specs.After.{clearedWhere}
 use Rattle.finished.proofs.Laws.{scores-front, contents-kept}
-use Rattle.compute_scores.specs.Promise.{Given, Buffers, stateEntries, transitionEntries, statesOfLine, transitionsOfLine, scoringOf, checkedOf, finishedOf, answerTo, statesAfter, transitionsAfter, Promised}
+use Rattle.compute_scores.specs.Promise.{Given, Buffers, stateEntries, transitionEntries, statesOfLine, transitionsOfLine, scoringOf, checkedOf, scoresFinishedOf, answerTo, statesAfter, transitionsAfter, Promised}
 
 -- tables that are as long as an accepted call's buffers have room
 pub sized : (given : Given) (before : Buffers) → SoundScoring (scoringOf given before) → (states transitions : List Float) → length states ≡ length (before .states) → length transitions ≡ length (before .transitions) → ScoresSized (given .model .labels) (given .words) transitions states
@@ -30,7 +30,7 @@ sized given before s states transitions p q =
     }
 
 -- 8 of the buffers is 8 of the line's scores
-pub finished-is : (given : Given) (before : Buffers) {states transitions : List Float} → states ≡ statesOfLine given ++ drop (stateEntries given) (before .states) → transitions ≡ transitionsOfLine given ++ drop (transitionEntries given) (before .transitions) → scoresFinished (given .model .labels) (given .words) states transitions ≡ finishedOf given
+pub finished-is : (given : Given) (before : Buffers) {states transitions : List Float} → states ≡ statesOfLine given ++ drop (stateEntries given) (before .states) → transitions ≡ transitionsOfLine given ++ drop (transitionEntries given) (before .transitions) → scoresFinished (given .model .labels) (given .words) states transitions ≡ scoresFinishedOf given
 finished-is given before p q =
     rw (p, q)
     (scores-front (given .model .labels) (given .words) (statesOfLine given) (transitionsOfLine given) _ _
@@ -58,7 +58,7 @@ module _ (given : Given) (before : Buffers) (accepted : checkedOf given before �
       Promised given before (record { answer = r; states = after; transitions = after' })
   unfolding answerTo statesAfter transitionsAfter orNext
   made-kept {r = r} p q f s t =
-      let e : r ≡ finishedOf given = f ∙ finished-is given before p q in
+      let e : r ≡ scoresFinishedOf given = f ∙ finished-is given before p q in
       record {
         answers = rw (accepted, ← e);
         states = rw (accepted, ← e, contents-kept r (stateEntries given) (before .states) (statesOfLine given) (length-states (given .model) (given .weights) (given .line) 0 (given .words)) p s);

@@ -7,14 +7,14 @@ use Rattle.line_check.specs.Rows.{scoringCounts, scoringRooms}
 use Rattle.refusals.proofs.Said.{refused-said, done-said}
 use Rattle.finished.proofs.Meant.{scores-mean}
 use Rattle.finished.proofs.Answers.{answered}
-use Rattle.compute_scores.specs.Promise.{statesOfLine, transitionsOfLine, scoringOf, checkedOf, finishedOf, answerTo}
+use Rattle.compute_scores.specs.Promise.{statesOfLine, transitionsOfLine, scoringOf, checkedOf, scoresFinishedOf, answerTo}
 use Rattle.compute_scores.specs.Meaning.{startsOf, idsOf, numbersOf, EightIn, ScoresFinite, ScoringMeans}
 
 pub scores-meant : ScoringMeans
 unfolding answerTo
 scores-meant given before outcome kept =
-    let all : Checked = orNext (checkedOf given before) (finishedOf given) in
-    answered (checkedOf given before) (finishedOf given)
+    let all : Checked = orNext (checkedOf given before) (scoresFinishedOf given) in
+    answered (checkedOf given before) (scoresFinishedOf given)
     (given .model .labels) (given .words) (scoringCounts (scoringOf given before)) (scoringRooms (scoringOf given before)) (startsOf given) (idsOf given) (numbersOf given) (EightIn given) (ScoresFinite given)
     (scoring-means (scoringOf given before))
     (scores-mean (given .model .labels) (given .words) (statesOfLine given) (transitionsOfLine given))

@@ -61,19 +61,19 @@ abbrev pub checkedOf : Given → Buffers → Checked
 checkedOf given before = scoringChecked (scoringOf given before)
 
 -- 8
-abbrev pub finishedOf : Given → Checked
-finishedOf given = scoresFinished (given .model .labels) (given .words) (statesOfLine given) (transitionsOfLine given)
+abbrev pub scoresFinishedOf : Given → Checked
+scoresFinishedOf given = scoresFinished (given .model .labels) (given .words) (statesOfLine given) (transitionsOfLine given)
 
 -- what document 01 says: "The lowest number wins", so 8 comes last
 unfoldable pub answerTo : Given → Buffers → Said Unit
-answerTo given before = saidOf (orNext (checkedOf given before) (finishedOf given))
+answerTo given before = saidOf (orNext (checkedOf given before) (scoresFinishedOf given))
 
 unfoldable pub statesAfter : Given → Buffers → List Float
-statesAfter given before = contents (checkedOf given before) (finishedOf given) nought (stateEntries given) (before .states) (statesOfLine given)
+statesAfter given before = contents (checkedOf given before) (scoresFinishedOf given) nought (stateEntries given) (before .states) (statesOfLine given)
 
 unfoldable pub transitionsAfter : Given → Buffers → List Float
 transitionsAfter given before =
-    contents (checkedOf given before) (finishedOf given) nought (transitionEntries given) (before .transitions) (transitionsOfLine given)
+    contents (checkedOf given before) (scoresFinishedOf given) nought (transitionEntries given) (before .transitions) (transitionsOfLine given)
 
 -- the promise
 pub record Promised (given : Given) (before : Buffers) (outcome : Outcome) : Type 0 where

@@ -1,4 +1,4 @@
--- What counting the features of a line gives to C: the answer of the crate counting, as numbers. Assumes nothing.
+-- What counting the features of a line gives to C: the answer of the crate extract_features, as numbers. Assumes nothing.
 use mathlib.Core.Path.{_≡_}
 use mathlib.Core.List.{List}
 use lib.Ieee.{Float}

@@ -1,4 +1,4 @@
-// The feature counts of a line, for programs in C and Rust: one call of the crate counting, and its answer as numbers.
+// The feature counts of a line, for programs in C and Rust: one call of the crate extract_features, and its answer as numbers.
 ghost use Rattle.lines.specs.Entry.{lineWas};
 ghost use Rattle.feature_gen.specs.Lent.{modelWas};
 ghost use Rattle.counting_exports.specs.Counts.{Counted};

@@ -19,24 +19,24 @@ use Rattle.decode_sheet.specs.Answer.{pathLineOf, bufferChecked}
 use Rattle.decode_sheet.specs.Promise.{Given, Outcome, said, answerTo, lineAfter, Promised}
 use Rattle.decode_sheet.specs.Program.{printedLine}
 use Rattle.decode_sheet.specs.Meaning.{SaysPath}
-use Rattle.decode_sheet.specs.Best.{scoresOf, SaysBest, PrintedPathsAreBest, AnsweredPathsAreBest}
+use Rattle.decode_sheet.specs.Best.{scoresOfSheet, SaysBest, PrintedPathsAreBest, AnsweredPathsAreBest}
 use Rattle.decode_sheet.proofs.Print.{path-by}
 use Rattle.decode_sheet.proofs.Prints.{path-line-back, prints-the-path}
 use Rattle.decode_sheet.proofs.Meant.{sayable, answering-means, printing-means, line-printed}
 
 module _ (s : Sheet) (sound : SoundSheet s) where
-  decoded-best : BestPath (scoresOf s) (s .words) (decodedPath (scoresOf s) (s .words)) (decodedSum (scoresOf s) (s .words))
+  decoded-best : BestPath (scoresOfSheet s) (s .words) (decodedPath (scoresOfSheet s) (s .words)) (decodedSum (scoresOfSheet s) (s .words))
   decoded-best =
-      demand-3 (scoresOf s) (s .words) (sound .labels-in .low) (sound .words-in .low)
+      demand-3 (scoresOfSheet s) (s .words) (sound .labels-in .low) (sound .words-in .low)
       (tabled-finite (s .labels) (s .words) (s .transitions) (s .states)
       (λ i l. sound .finite-transitions .finite64 i (omega (arith, sound .all-transitions)))
       (λ i l. sound .finite-states .finite64 i (omega (arith, sound .all-states))))
 
   -- the line of the file's path
-  says-best : (line : List ℕ) → line ≡ pathLine (decodedSum (scoresOf s) (s .words)) (decodedPath (scoresOf s) (s .words)) → SaysBest s line
+  says-best : (line : List ℕ) → line ≡ pathLine (decodedSum (scoresOfSheet s) (s .words)) (decodedPath (scoresOfSheet s) (s .words)) → SaysBest s line
   says-best line e = record {
-    sum = decodedSum (scoresOf s) (s .words);
-    labels = decodedPath (scoresOf s) (s .words);
+    sum = decodedSum (scoresOfSheet s) (s .words);
+    labels = decodedPath (scoresOfSheet s) (s .words);
     says =
         record {
           sayable = rw (labels-back s sound, words-back s sound, transitions-back s sound, states-back s sound) at (sayable (encoded s) (right-file s sound .in-bounds));
@@ -46,7 +46,7 @@ module _ (s : Sheet) (sound : SoundSheet s) where
   }
 
 -- whatever path a line says is the best that it says
-best-said : (s : Sheet) (line : List ℕ) → SaysBest s line → (sum : Float) (labels : List ℕ) → SaysPath line sum labels → BestPath (scoresOf s) (s .words) labels sum
+best-said : (s : Sheet) (line : List ℕ) → SaysBest s line → (sum : Float) (labels : List ℕ) → SaysPath line sum labels → BestPath (scoresOfSheet s) (s .words) labels sum
 best-said s line b sum labels says =
     let same = one-saying .path sum (b .sum) labels (b .labels) (says .sayable) (b .says .sayable) (sym (says .says) ∙ b .says .says) in
     rw (same .0, same .1) (b .best)

@@ -15,22 +15,22 @@ use Rattle.decode_sheet.specs.Program.{Printed}
 use Rattle.decode_sheet.specs.Meaning.{SaysPath}
 
 -- the scores of a sheet
-abbrev pub scoresOf : Sheet → Scores
-scoresOf s = tabled (s .labels) (s .transitions) (s .states)
+abbrev pub scoresOfSheet : Sheet → Scores
+scoresOfSheet s = tabled (s .labels) (s .transitions) (s .states)
 
 -- a line that says a best path of the sheet, with the path's rounded sum
 pub record SaysBest (s : Sheet) (line : List ℕ) : Type 0 where
   pub sum : Float
   pub labels : List ℕ
   pub says : SaysPath line sum labels
-  pub best : BestPath (scoresOf s) (s .words) labels sum
+  pub best : BestPath (scoresOfSheet s) (s .words) labels sum
 
 -- what was printed of the bytes
 pub record PathsPrinted (bytes line : List ℕ) : Type 0 where
   -- the file of every sound sheet is answered by the line of a best path
   pub every : (s : Sheet) → SoundSheet s → bytes ≡ encoded s → SaysBest s line
   -- nothing else is answered by a path, and the path that the line says is best
-  pub only : Bytes bytes → (sum : Float) (labels : List ℕ) → SaysPath line sum labels → (s : Sheet) × SoundSheet s × (bytes ≡ encoded s) × BestPath (scoresOf s) (s .words) labels sum
+  pub only : Bytes bytes → (sum : Float) (labels : List ℕ) → SaysPath line sum labels → (s : Sheet) × SoundSheet s × (bytes ≡ encoded s) × BestPath (scoresOfSheet s) (s .words) labels sum
 
 abbrev pub PrintedPathsAreBest : Type 0
 PrintedPathsAreBest = (bytes before : List ℕ) (size : ℕ) (after : List ℕ) → Printed bytes before size after → PathsPrinted bytes (take size after)

@@ -4,7 +4,7 @@ ghost use Rattle.lines.specs.Passes.{through};
 ghost use Rattle.training.specs.Rules.{stops};
 ghost use Rattle.training.specs.Visits.{visited};
 ghost use Rattle.training.specs.Epochs.{Run, epochUnlessOver};
-ghost use Rattle.prediction.specs.Tables.{modelAt, modelWas, dataAt, dataWas};
+ghost use Rattle.prediction.specs.Tables.{trainingModelAt, trainingModelWas, trainingDataAt, trainingDataWas};
 ghost use Rattle.parameters.specs.Trainers.{ruleOf};
 ghost use Rattle.updates.specs.Updating.{stateOf};
 ghost use Rattle.begin_and_end.specs.Ending.{Finished};
@@ -41,12 +41,12 @@ pub fn run(
     truly: &mut [f64],
     predicted: &mut [f64],
 ) -> Ran
-    requires { let m = modelAt sizes kinds destinations sources starts entries «label_starts» «label_entries» in
-        let d = dataAt sizes lines begins ids values references shares in
+    requires { let m = trainingModelAt sizes kinds destinations sources starts entries «label_starts» «label_entries» in
+        let d = trainingDataAt sizes lines begins ids values references shares in
         ⌜ Runnable sizes m d allowed (now order) (now weights) (now beside) (now truly) (now predicted) ⌝ }
     ensures { λ r.
-        let m = modelWas sizes kinds destinations sources starts entries «label_starts» «label_entries» in
-        let d = dataWas sizes lines begins ids values references shares in
+        let m = trainingModelWas sizes kinds destinations sources starts entries «label_starts» «label_entries» in
+        let d = trainingDataWas sizes lines begins ids values references shares in
         let progress = epochUnlessOver (visited (ruleOf trainer) m d) (stops (ruleOf trainer) epsilon) (sizes .instances) in
         let first = stateOf firstStep (now (weights .entry)) (now (beside .entry)) in
         let begun : Run = record { state = first; deal = record { state = seed; order = now (order .entry) }; epochs = 0; over = false } in

@@ -11,7 +11,7 @@ use Rattle.lines.proofs.Fronts.{length-counts}
 use Rattle.finished.specs.Rows.{finishedChecked}
 use Rattle.finished.specs.After.{clearedWhere}
 use Rattle.finished.proofs.Laws.{front-checked, contents-kept}
-use Rattle.extract_features.specs.Promise.{Given, needed, countsOfLine, checkedOf, finishedOf, answerTo, amountsAfter, Promised}
+use Rattle.extract_features.specs.Promise.{Given, needed, countsOfLine, checkedOf, countsFinishedOf, answerTo, amountsAfter, Promised}
 
 -- a refusal beforehand leaves the buffer
 pub refused-kept : (given : Given) (before : List Float) {answer : Checked} {amounts : List Float} (why : Refusal) →
@@ -32,7 +32,7 @@ module _ (given : Given) (before : List Float) (accepted : checkedOf given befor
   unfolding answerTo amountsAfter orNext
   made-kept {r = r} p f s =
       let long = length-counts (given .model) (given .line) 0 (given .words) (given .path) in
-      let e : r ≡ finishedOf given = f ∙ rw p (front-checked (countsOfLine given) _ (needed given) long) in
+      let e : r ≡ countsFinishedOf given = f ∙ rw p (front-checked (countsOfLine given) _ (needed given) long) in
       record {
         answers = rw (accepted, ← e);
         amounts = rw (accepted, ← e, contents-kept r (needed given) before (countsOfLine given) long p s);

@@ -11,14 +11,14 @@ use Rattle.line_check.specs.Rows.{countingCounts, countingRooms, lineStarts, la
 use Rattle.line_check.proofs.Meant.{counting-means}
 use Rattle.finished.proofs.Meant.{counts-mean}
 use Rattle.finished.proofs.Answers.{answered}
-use Rattle.extract_features.specs.Promise.{needed, countsOfLine, countingOf, checkedOf, finishedOf, answerTo}
+use Rattle.extract_features.specs.Promise.{needed, countsOfLine, countingOf, checkedOf, countsFinishedOf, answerTo}
 use Rattle.extract_features.specs.Meaning.{CountingMeans}
 
 pub counts-meant : CountingMeans
 unfolding answerTo
 counts-meant given before outcome kept =
-    let all : Checked = orNext (checkedOf given before) (finishedOf given) in
-    answered (checkedOf given before) (finishedOf given)
+    let all : Checked = orNext (checkedOf given before) (countsFinishedOf given) in
+    answered (checkedOf given before) (countsFinishedOf given)
     (given .model .labels) (given .words) (countingCounts (countingOf given before)) (countingRooms (countingOf given before))
     (lineStarts (given .model) (given .words) (given .line .starts) (given .line .size))
     (idTests (given .model) ++ labelTests (countingOf given before))

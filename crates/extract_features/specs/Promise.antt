@@ -48,15 +48,15 @@ abbrev pub checkedOf : Given → List Float → Checked
 checkedOf given before = countingChecked (countingOf given before)
 
 -- 8
-abbrev pub finishedOf : Given → Checked
-finishedOf given = finishedChecked (countsOfLine given) (needed given)
+abbrev pub countsFinishedOf : Given → Checked
+countsFinishedOf given = finishedChecked (countsOfLine given) (needed given)
 
 -- what document 01 says: "The lowest number wins", so 8 comes last
 unfoldable pub answerTo : Given → List Float → Said Unit
-answerTo given before = saidOf (orNext (checkedOf given before) (finishedOf given))
+answerTo given before = saidOf (orNext (checkedOf given before) (countsFinishedOf given))
 
 unfoldable pub amountsAfter : Given → List Float → List Float
-amountsAfter given before = contents (checkedOf given before) (finishedOf given) nought (needed given) before (countsOfLine given)
+amountsAfter given before = contents (checkedOf given before) (countsFinishedOf given) nought (needed given) before (countsOfLine given)
 
 -- the promise
 pub record Promised (given : Given) (before : List Float) (outcome : Outcome) : Type 0 where

@@ -13,12 +13,13 @@ use Rattle.refusals.specs.Refusals.{refuse, orNext, sooner, firstFrom}
 use Rattle.refusals.specs.Tables.{short}
 use Rattle.score_tables.specs.Rows.{one}
 use Rattle.refusal_rows.specs.Limits.{Limit, room, anyBroken, AllWithin}
-use Rattle.refusals.specs.Bounds.{weightTable}
+use Rattle.refusals.specs.Bounds.{Table, weightTable}
 use Rattle.refusal_rows.specs.Tests.{numbersFinite, checks}
 use Rattle.refusal_rows.proofs.Means.{broken-parts, within-parts}
 use Rattle.refusal_rows.proofs.Parts.{joined, same-limits, as-rows, two-parts, part-stopped, part-within, part-answered}
 use Rattle.lines.specs.Tables.{Model}
-use Rattle.feature_gen.specs.Rows.{featureRooms, weightRooms, listRooms, modelCounts, modelRooms, weightedRooms, startTests, featureTests, entryTests, weightTests, tableLimits, tableTests, weightedLimits, weightedTests, tablesSized, tablesChecked, weightsChecked, weightedChecked, modelChecked}
+use Rattle.feature_gen.specs.Rows.{featureRooms, weightRooms, listRooms, modelCounts, modelRooms, weightedRooms, startTests, featureTests, entryTests, weightTests, modelChecked}
+use Rattle.feature_gen.specs.Parts.{tableLimits, tableTests, weightedLimits, weightedTests, tablesSized, tablesChecked, weightsChecked, weightedChecked}
 use Rattle.feature_gen.specs.Sound.{ModelSized}
 
 -- 2 does not apply
@@ -75,25 +76,25 @@ module _ (m : Model) where
 
 -- ---- the weights
 
-module _ (features : ℕ) (weights : List Float) where
+module _ (which : Table) (n : ℕ) (weights : List Float) where
   abbrev weight-room : List Limit
-  weight-room = room (length weights) features ∷ []
+  weight-room = room (length weights) n ∷ []
 
-  pub weights-stopped : {sizes : Checked} (why : Refusal) → sizes ≡ refuse 2 0 (short (length weights) features) → sizes ≡ Refused why → Refused why ≡ weightsChecked features weights
+  pub weights-stopped : {sizes : Checked} (why : Refusal) → sizes ≡ refuse 2 0 (short (length weights) n) → sizes ≡ Refused why → Refused why ≡ weightsChecked which n weights
   unfolding weightsChecked
-  weights-stopped why e h = part-stopped weight-room (numbersFinite weightTable weights features ∷ []) why e h
+  weights-stopped why e h = part-stopped weight-room (numbersFinite which weights n ∷ []) why e h
 
-  pub weights-sized : {sizes : Checked} → sizes ≡ refuse 2 0 (short (length weights) features) → sizes ≡ Accepted → features ≤ length weights
-  weights-sized e h = part-within weight-room (numbersFinite weightTable weights features ∷ []) e h .0
+  pub weights-sized : {sizes : Checked} → sizes ≡ refuse 2 0 (short (length weights) n) → sizes ≡ Accepted → n ≤ length weights
+  weights-sized e h = part-within weight-room (numbersFinite which weights n ∷ []) e h .0
 
-  pub weights-answered : {sizes r : Checked} → sizes ≡ refuse 2 0 (short (length weights) features) → r ≡ firstFrom sizes (checks (numbersFinite weightTable weights features ∷ [])) → r ≡ weightsChecked features weights
+  pub weights-answered : {sizes r : Checked} → sizes ≡ refuse 2 0 (short (length weights) n) → r ≡ firstFrom sizes (checks (numbersFinite which weights n ∷ [])) → r ≡ weightsChecked which n weights
   unfolding weightsChecked
-  weights-answered e f = part-answered weight-room (numbersFinite weightTable weights features ∷ []) e f
+  weights-answered e f = part-answered weight-room (numbersFinite which weights n ∷ []) e f
 
 -- ---- both
 
 module _ (m : Model) (weights : List Float) where
-  pub weighted-joined : {tables own r : Checked} → tables ≡ tablesChecked m → own ≡ weightsChecked (m .features .count) weights → r ≡ sooner tables own → r ≡ weightedChecked m weights
+  pub weighted-joined : {tables own r : Checked} → tables ≡ tablesChecked m → own ≡ weightsChecked weightTable (m .features .count) weights → r ≡ sooner tables own → r ≡ weightedChecked m weights
   unfolding tablesChecked weightsChecked weightedChecked
   weighted-joined a b c = joined (tableLimits m) (weightRooms (m .features) weights) (tableTests m) (weightTests m weights) tt tt tt a b c
 

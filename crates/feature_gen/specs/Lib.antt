@@ -3,3 +3,4 @@ pub mod Rows
 pub mod CheckModel
 pub mod Sound
 pub mod Meaning
+pub mod Parts

@@ -9,7 +9,6 @@ use Rattle.refusals.specs.Bounds.{theFeatures, theAttributeLists, theLabelLists
 use Rattle.score_tables.specs.Rows.{one}
 use Rattle.refusal_rows.specs.Limits.{Limit, count, room, two}
 use Rattle.refusal_rows.specs.Tests.{Test, startsRise, kindsKnown, idsBelow, sourcesBelow, numbersFinite, checks}
-use Rattle.refusal_rows.specs.Parts.{partChecked}
 use Rattle.lines.specs.Tables.{Features, Lists, Model}
 
 -- ---- 2 | "a count other than L, T and epochs outside its bound" | 0
@@ -101,32 +100,3 @@ modelChecked m weights =
     ∷ checks (startTests m)
     ++ checks (idTests m)
     ++ checks (weightTests m weights))
-
--- ---- the same in the parts that are checked apart, since not every call is lent weights
-
--- 2, 3 and 5 of the tables
-abbrev pub tableLimits : Model → List Limit
-tableLimits m = modelCounts m ++ modelRooms m
-
-abbrev pub tableTests : Model → List Test
-tableTests m = startTests m ++ idTests m
-
-unfoldable pub tablesSized : Model → Checked
-tablesSized m = two (tableLimits m)
-
-unfoldable pub tablesChecked : Model → Checked
-tablesChecked m = partChecked (tableLimits m) (tableTests m)
-
--- 2 and 6 of a weight for each feature
-unfoldable pub weightsChecked : ℕ → List Float → Checked
-weightsChecked features weights = partChecked (room (length weights) features ∷ []) (numbersFinite weightTable weights features ∷ [])
-
--- of both
-abbrev pub weightedLimits : Model → List Float → List Limit
-weightedLimits m weights = tableLimits m ++ weightRooms (m .features) weights
-
-abbrev pub weightedTests : Model → List Float → List Test
-weightedTests m weights = tableTests m ++ weightTests m weights
-
-unfoldable pub weightedChecked : Model → List Float → Checked
-weightedChecked m weights = partChecked (weightedLimits m weights) (weightedTests m weights)

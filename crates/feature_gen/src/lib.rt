@@ -6,10 +6,10 @@ ghost use Prim.Native.Nat.{_<_, _≤_};
 ghost use lib.ListN.{length};
 ghost use Rattle.refusals.specs.Refusals.{firstFrom};
 ghost use Rattle.refusal_rows.specs.Limits.{anyBroken};
-ghost use Rattle.refusals.specs.Bounds.{attributeListTable, labelListTable};
+ghost use Rattle.refusals.specs.Bounds.{Table, attributeListTable, labelListTable};
 ghost use Rattle.refusal_rows.specs.Tests.{startsRise, idsBelow, checks};
 ghost use Rattle.feature_gen.specs.Rows.{countLimits, featureRooms, listRooms, featureTests};
-ghost use Rattle.feature_gen.specs.Rows.{tablesSized, tablesChecked, weightsChecked, weightedChecked};
+ghost use Rattle.feature_gen.specs.Parts.{tablesSized, tablesChecked, weightsChecked, weightedChecked};
 ghost use Rattle.feature_gen.specs.Lent.{featuresOf, attributeListsOf, labelListsOf, modelWas};
 ghost use Rattle.feature_gen.specs.CheckModel.{ModelChecked};
 use refusals::Checked;
@@ -193,11 +193,11 @@ pub fn check_tables(
     check_entries(features, counts, attribute_entries, label_entries)
 }
 
-// 2 and 6 of a weight for each feature.
-pub fn check_weights(weights: &[f64], features: u32) -> Checked
-    ensures { λ r. ⌜ r ≡ weightsChecked features (now (weights .entry)) ⌝ }
+// 2 and 6 of so many weights: those of the features, or those of a trainer's instances.
+pub fn check_weights(weights: &[f64], count: u32) -> Checked
+    ensures { λ r. ⌜ ((which : Table) → r ≡ weightsChecked which count (now (weights .entry))) ⌝ }
 {
-    let n = features as usize;
+    let n = count as usize;
     let short = refusals::is_short(weights.len(), n);
     let sizes = refusals::refuse_if(Checked::Accepted, 2, 0, short);
     if let Checked::Refused(why) = sizes {

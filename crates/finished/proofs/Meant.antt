@@ -20,7 +20,7 @@ use Rattle.refusals.proofs.Meant.{accepted-means, accepted-if, exactly}
 use Rattle.fronts.specs.Finite.{NotFinite, allFinite}
 use Rattle.refusal_rows.specs.Given.{OneOf}
 use Rattle.finished.specs.Rows.{finishedChecked, placedAfter, scoresFinished}
-use Rattle.finished.specs.Meaning.{CountsMean, EightAt, in-states, in-transitions, ScoresMean, TestsAccept, EightIsLast}
+use Rattle.finished.specs.Meaning.{CountsFinishedMean, EightAt, in-states, in-transitions, ScoresFinishedMean, TestsAccept, EightIsLast}
 use Rattle.finished.proofs.Laws.{test-accepts}
 
 holds : (b : Bool) → not b ≡ false → T b
@@ -30,7 +30,7 @@ fails : (b : Bool) → T b → not b ≡ false
 fails true t = refl
 fails false t = absurd t
 
-pub counts-mean : CountsMean
+pub counts-mean : CountsFinishedMean
 counts-mean counts features =
     let x = exactly 8 (notFinite counts) features (NotFinite counts) (λ i. (not-true (finite (getD counts i nan)), λ h. rw h)) in
     record {
@@ -57,7 +57,7 @@ placed-only : (others : ℕ) (check : Checked) (why : Refusal) → ((w : Refusal
 placed-only others Accepted why only h = never refl h
 placed-only others (Refused w) why only h = number-of (sym h) ∙ only w refl
 
-pub scores-mean : ScoresMean
+pub scores-mean : ScoresFinishedMean
 unfolding scoresFinished orNext
 scores-mean labels words states transitions =
     let n = words * labels in

@@ -20,8 +20,8 @@ pub record Eight (check : Checked) (Fine : Type 0) (At : ℕ → Type 0) : Type 
   pub only : (why : Refusal) → check ≡ Refused why → why .number ≡ 8
 
 -- "counts: feature id": the first count that is not finite
-abbrev pub CountsMean : Type 0
-CountsMean = (counts : List Float) (features : ℕ) → Eight (finishedChecked counts features) (FiniteTo counts features) (FirstBad (NotFinite counts) features)
+abbrev pub CountsFinishedMean : Type 0
+CountsFinishedMean = (counts : List Float) (features : ℕ) → Eight (finishedChecked counts features) (FiniteTo counts features) (FirstBad (NotFinite counts) features)
 
 -- 8 is not given exactly where the finite test of the front passes
 abbrev pub TestAccepts : Type 0
@@ -44,8 +44,8 @@ pub data EightAt (labels words : ℕ) (states transitions : List Float) (place :
       FirstBad (NotFinite transitions) (labels * labels) entry →
       EightAt labels words states transitions place
 
-abbrev pub ScoresMean : Type 0
-ScoresMean = (labels words : ℕ) (states transitions : List Float) →
+abbrev pub ScoresFinishedMean : Type 0
+ScoresFinishedMean = (labels words : ℕ) (states transitions : List Float) →
     Eight (scoresFinished labels words states transitions)
     (FiniteTo states (words * labels) × FiniteTo transitions (labels * labels))
     (EightAt labels words states transitions)

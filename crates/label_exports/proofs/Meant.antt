@@ -16,9 +16,9 @@ use Rattle.best_path.proofs.Laws.{decoded-length}
 use Rattle.best_path.proofs.Demand3.{demand-3}
 use Rattle.refusal_rows.proofs.Groups.{above-zero}
 use Rattle.finished.proofs.Meant.{scores-mean}
-use Rattle.compute_scores.specs.Promise.{statesOfLine, transitionsOfLine, finishedOf}
+use Rattle.compute_scores.specs.Promise.{statesOfLine, transitionsOfLine, scoresFinishedOf}
 use Rattle.viterbi.specs.Promise.{SumAndLead}
-use Rattle.label_line.specs.Promise.{scoresOf, checkedOf, answerTo, pathAfter}
+use Rattle.label_line.specs.Promise.{scoresOfLine, checkedOf, answerTo, labelsAfter}
 use Rattle.label_line.proofs.Meant.{checks-mean, labelled-so}
 use Rattle.label_line.proofs.Demand3.{all-finite}
 use Rattle.answers.specs.Numbers.{decodedNumbers}
@@ -28,8 +28,8 @@ use Rattle.label_exports.specs.Meaning.{LabelsMean, EveryLineIsBest}
 pub labels-mean : LabelsMean
 unfolding answerTo
 labels-mean given before outcome kept =
-    let all : Checked = orNext (checkedOf given before) (finishedOf given) in
-    let found : SumAndLead = record { sum = decodedSum (scoresOf given) (given .words); lead = lead (scoresOf given) (given .words) } in
+    let all : Checked = orNext (checkedOf given before) (scoresFinishedOf given) in
+    let found : SumAndLead = record { sum = decodedSum (scoresOfLine given) (given .words); lead = lead (scoresOfLine given) (given .words) } in
     let number : Said SumAndLead → ℕ = λ x. decodedNumbers x .number in
     let place : Said SumAndLead → ℕ = λ x. decodedNumbers x .place in
     let zero = number-of (found .sum) (found .lead) in
@@ -42,15 +42,15 @@ labels-mean given before outcome kept =
     ⊎-elim
     (λ c. above-zero (1 ∷ 4 ∷ 2 ∷ 3 ∷ 5 ∷ 6 ∷ []) n tt (checks-mean given (length before) .only _ c))
     (λ q. rw (s .only _ (q .1)) (above-zero (8 ∷ []) 8 tt (inl refl)))
-    (either (checkedOf given before) (finishedOf given) _ h))))
+    (either (checkedOf given before) (scoresFinishedOf given) _ h))))
 
 pub every-line-is-best : EveryLineIsBest
-unfolding answerTo pathAfter orNext
+unfolding answerTo labelsAfter orNext
 every-line-is-best given before outcome kept fine finite =
-    let s = scoresOf given in
+    let s = scoresOfLine given in
     let words = given .words in
     let checked : checkedOf given before ≡ Accepted = checks-mean given (length before) .accepted .1 fine in
-    let finished : finishedOf given ≡ Accepted = scores-mean (given .model .labels) words (statesOfLine given) (transitionsOfLine given) .accepted .1 finite in
+    let finished : scoresFinishedOf given ≡ Accepted = scores-mean (given .model .labels) words (statesOfLine given) (transitionsOfLine given) .accepted .1 finite in
     let answer = rw (checked, finished) at (kept .answers) in
     let low = fine .1 .0 .low in
     let best = demand-3 s words (fine .0 .low) low (all-finite given finished) in

@@ -6,7 +6,7 @@ use lib.ListN.{take}
 use Rattle.best_path.specs.BestPath.{BestPath}
 use Rattle.compute_scores.specs.Promise.{Given}
 use Rattle.compute_scores.specs.Meaning.{ScoresFinite}
-use Rattle.label_line.specs.Promise.{scoresOf}
+use Rattle.label_line.specs.Promise.{scoresOfLine}
 use Rattle.label_line.specs.Meaning.{Meaning, Unrefused}
 use Rattle.answers.specs.Numbers.{DecodedLine}
 use Rattle.answers.specs.Given.{Gives}
@@ -22,4 +22,4 @@ abbrev pub EveryLineIsBest : Type 0
 EveryLineIsBest =
     (given : Given) (before : List ℕ) (outcome : DecodedLine) → Labels given before outcome →
     Unrefused given before → ScoresFinite given →
-    (outcome .answer .number ≡ 0) × BestPath (scoresOf given) (given .words) (take (given .words) (outcome .path)) (outcome .answer .sum)
+    (outcome .answer .number ≡ 0) × BestPath (scoresOfLine given) (given .words) (take (given .words) (outcome .path)) (outcome .answer .sum)

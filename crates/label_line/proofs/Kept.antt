@@ -10,13 +10,13 @@ use Rattle.viterbi.specs.declared.Decoding.{Decoding}
 use Rattle.line_check.proofs.Meant.{scoring-sound}
 use Rattle.labelling.specs.Labelled.{Labelled}
 use Rattle.compute_scores.specs.Promise.{Given, statesOfLine, transitionsOfLine}
-use Rattle.label_line.specs.Promise.{checkedOf, answerTo, pathAfter, SoundLabelling, Promised}
+use Rattle.label_line.specs.Promise.{checkedOf, answerTo, labelsAfter, SoundLabelling, Promised}
 use Rattle.label_line.proofs.Parted.{own, accepts}
 
 module _ (given : Given) (before : List ℕ) where
   -- a refusal beforehand leaves the path
   pub refused-kept : (why : Refusal) → checkedOf given before ≡ Refused why → Promised given before (record { answer = Decoding.Refused why; path = before })
-  unfolding answerTo pathAfter orNext
+  unfolding answerTo labelsAfter orNext
   refused-kept why h = record { answers = rw h; path = rw h }
 
   -- nothing is refused beforehand
@@ -28,5 +28,5 @@ module _ (given : Given) (before : List ℕ) where
         record { model = s .model; line = s .line; long-path = a .1 }
 
     pub labelled-kept : (answer : Decoding) {after : List ℕ} → Labelled (given .model .labels) (given .words) (transitionsOfLine given) (statesOfLine given) before answer after → Promised given before (record { answer = answer; path = after })
-    unfolding answerTo pathAfter orNext
+    unfolding answerTo labelsAfter orNext
     labelled-kept answer l = record { answers = rw accepted (l .answers); path = rw (accepted, l .path) }

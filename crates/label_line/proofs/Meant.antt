@@ -17,10 +17,10 @@ use Rattle.line_check.specs.Meaning as checks
 use Rattle.line_check.proofs.Meant.{meaning}
 use Rattle.finished.proofs.Meant.{scores-mean}
 use Rattle.finished.proofs.Answers.{answered}
-use Rattle.compute_scores.specs.Promise.{Given, statesOfLine, transitionsOfLine, finishedOf}
+use Rattle.compute_scores.specs.Promise.{Given, statesOfLine, transitionsOfLine, scoresFinishedOf}
 use Rattle.compute_scores.specs.Meaning.{startsOf, idsOf, numbersOf, EightIn, ScoresFinite}
 use Rattle.label_line.specs.Rows.{labelCounts, labelRooms, labelChecked}
-use Rattle.label_line.specs.Promise.{scoresOf, checkedOf, answerTo}
+use Rattle.label_line.specs.Promise.{scoresOfLine, checkedOf, answerTo}
 use Rattle.label_line.specs.Meaning.{Meaning, LabellingMeans}
 
 -- 1, 4, 2, 3, 5 and 6, for a path's buffer of this length
@@ -35,12 +35,12 @@ checks-mean given path =
 -- however the answer is told, as long as it tells the check's
 pub labelled-so :
     (given : Given) (before : List ℕ) (Refuses : ℕ → ℕ → Type 0) (Accepts : Type 0) →
-    ((number place : ℕ) → Refuses number place → orNext (checkedOf given before) (finishedOf given) ≡ refusedAt number place) →
-    ((number place : ℕ) → 0 < number → orNext (checkedOf given before) (finishedOf given) ≡ refusedAt number place → Refuses number place) →
-    Accepts ↔ orNext (checkedOf given before) (finishedOf given) ≡ Accepted →
+    ((number place : ℕ) → Refuses number place → orNext (checkedOf given before) (scoresFinishedOf given) ≡ refusedAt number place) →
+    ((number place : ℕ) → 0 < number → orNext (checkedOf given before) (scoresFinishedOf given) ≡ refusedAt number place → Refuses number place) →
+    Accepts ↔ orNext (checkedOf given before) (scoresFinishedOf given) ≡ Accepted →
     Meaning Refuses Accepts given before
 labelled-so given before Refuses Accepts to from accepted =
-    answered (checkedOf given before) (finishedOf given)
+    answered (checkedOf given before) (scoresFinishedOf given)
     (given .model .labels) (given .words) (labelCounts given) (labelRooms given (length before)) (startsOf given) (idsOf given) (numbersOf given) (EightIn given) (ScoresFinite given)
     (checks-mean given (length before))
     (scores-mean (given .model .labels) (given .words) (statesOfLine given) (transitionsOfLine given))
@@ -49,8 +49,8 @@ labelled-so given before Refuses Accepts to from accepted =
 pub labelling-meant : LabellingMeans
 unfolding answerTo
 labelling-meant given before outcome kept =
-    let all : Checked = orNext (checkedOf given before) (finishedOf given) in
-    let found : SumAndLead = record { sum = decodedSum (scoresOf given) (given .words); lead = lead (scoresOf given) (given .words) } in
+    let all : Checked = orNext (checkedOf given before) (scoresFinishedOf given) in
+    let found : SumAndLead = record { sum = decodedSum (scoresOfLine given) (given .words); lead = lead (scoresOfLine given) (given .words) } in
     labelled-so given before _ _
     (λ number place h. refused-said found all (numbered number place) .0 (sym (kept .answers) ∙ h))
     (λ number place _ h. kept .answers ∙ refused-said found all (numbered number place) .1 h) (

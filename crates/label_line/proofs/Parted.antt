@@ -11,8 +11,10 @@ use Rattle.score_tables.specs.Rows.{boundsChecked}
 use Rattle.refusal_rows.specs.Limits.{Limit, room, AllWithin}
 use Rattle.refusal_rows.specs.Parts.{partChecked}
 use Rattle.refusal_rows.proofs.Means.{within-parts, within-both}
-use Rattle.feature_gen.specs.Rows.{weightedRooms, weightedChecked}
-use Rattle.line_check.specs.Rows.{Scoring, lineRooms, scoreRooms, lineChecked, scoringChecked}
+use Rattle.feature_gen.specs.Rows.{weightedRooms}
+use Rattle.feature_gen.specs.Parts.{weightedChecked}
+use Rattle.line_check.specs.Rows.{Scoring, lineRooms, scoreRooms, scoringChecked}
+use Rattle.line_check.specs.Parts.{lineChecked}
 use Rattle.line_check.proofs.Laws.{weighted-line}
 use Rattle.line_check.proofs.Meant.{scoring-means}
 use Rattle.compute_scores.specs.Promise.{Given}

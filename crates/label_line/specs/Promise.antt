@@ -15,7 +15,7 @@ use Rattle.viterbi.specs.Promise.{SumAndLead, decoded, said}
 use Rattle.feature_gen.specs.Sound.{Weighted}
 use Rattle.line_check.specs.Sound.{SoundLine}
 use Rattle.finished.specs.After.{contents}
-use Rattle.compute_scores.specs.Promise.{Given, statesOfLine, transitionsOfLine, finishedOf}
+use Rattle.compute_scores.specs.Promise.{Given, statesOfLine, transitionsOfLine, scoresFinishedOf}
 use Rattle.label_line.specs.Rows.{labelChecked}
 
 -- the answer, and what the lent buffer holds afterwards
@@ -28,8 +28,8 @@ abbrev pub IsLabelled : Outcome → Type 0
 IsLabelled outcome = (sum : Float) × (lead : Lead) × (said (outcome .answer) ≡ decoded sum lead)
 
 -- the scores of the line
-abbrev pub scoresOf : Given → Scores
-scoresOf given = tabled (given .model .labels) (transitionsOfLine given) (statesOfLine given)
+abbrev pub scoresOfLine : Given → Scores
+scoresOfLine given = tabled (given .model .labels) (transitionsOfLine given) (statesOfLine given)
 
 -- 1, 4, 2, 3, 5, 6
 abbrev pub checkedOf : Given → List ℕ → Checked
@@ -37,20 +37,20 @@ checkedOf given before = labelChecked given (length before)
 
 -- "The answer is the path and its rounded sum", with the lead
 abbrev pub decodedOf : Given → Said SumAndLead
-decodedOf given = decoded (decodedSum (scoresOf given) (given .words)) (lead (scoresOf given) (given .words))
+decodedOf given = decoded (decodedSum (scoresOfLine given) (given .words)) (lead (scoresOfLine given) (given .words))
 
 -- what document 01 says: "The lowest number wins", so 8, of the scores, comes last
 unfoldable pub answerTo : Given → List ℕ → Said SumAndLead
-answerTo given before = orRefused (orNext (checkedOf given before) (finishedOf given)) (decodedOf given)
+answerTo given before = orRefused (orNext (checkedOf given before) (scoresFinishedOf given)) (decodedOf given)
 
-unfoldable pub pathAfter : Given → List ℕ → List ℕ
-pathAfter given before =
-    contents (checkedOf given before) (finishedOf given) 0 (given .words) before (decodedPath (scoresOf given) (given .words))
+unfoldable pub labelsAfter : Given → List ℕ → List ℕ
+labelsAfter given before =
+    contents (checkedOf given before) (scoresFinishedOf given) 0 (given .words) before (decodedPath (scoresOfLine given) (given .words))
 
 -- the promise
 pub record Promised (given : Given) (before : List ℕ) (outcome : Outcome) : Type 0 where
   pub answers : said (outcome .answer) ≡ answerTo given before
-  pub path : outcome .path ≡ pathAfter given before
+  pub path : outcome .path ≡ labelsAfter given before
 
 -- what labelling relies on once nothing of 1 to 6 applies
 pub record SoundLabelling (given : Given) (before : List ℕ) : Type 0 where

@@ -92,7 +92,7 @@ fn label_in(
 {
     let width = labels as usize;
     let features = counts.features as usize;
-    line_scores::score_transitions(
+    compute_scores::score_transitions(
         width,
         features,
         kinds,

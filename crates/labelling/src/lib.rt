@@ -76,7 +76,7 @@ pub fn label_at(
         let line = lineWas size begins ids values in
         LabelledAt m w line first words (now (transitions .entry)) (now (path .entry)) r (now (states .exit)) (now (path .exit))) ⌝ }
 {
-    line_scores::score_line(
+    compute_scores::score_line(
         labels,
         features,
         kinds,

@@ -1,7 +1,7 @@
 // A whole training, over result and work tables that are exactly as long as they have to be: its beginning, its epochs, its end.
 ghost use mathlib.Core.Path.{_≡_};
 ghost use Rattle.training.specs.Epochs.{Result, trained};
-ghost use Rattle.prediction.specs.Tables.{modelAt, modelWas, dataAt, dataWas};
+ghost use Rattle.prediction.specs.Tables.{trainingModelAt, trainingModelWas, trainingDataAt, trainingDataWas};
 ghost use Rattle.parameters.specs.Trainers.{ruleOf};
 ghost use Rattle.begin_and_end.specs.Ending.{Swept};
 ghost use Rattle.learning.specs.Trainable.{Trainable};
@@ -35,12 +35,12 @@ pub fn train(
     truly: &mut [f64],
     predicted: &mut [f64],
 ) -> Training
-    requires { let m = modelAt sizes kinds destinations sources starts entries «label_starts» «label_entries» in
-        let d = dataAt sizes lines begins ids values references shares in
+    requires { let m = trainingModelAt sizes kinds destinations sources starts entries «label_starts» «label_entries» in
+        let d = trainingDataAt sizes lines begins ids values references shares in
         ⌜ Trainable sizes m d allowed (now order) (now weights) (now beside) (now truly) (now predicted) ⌝ }
     ensures { λ r.
-        let m = modelWas sizes kinds destinations sources starts entries «label_starts» «label_entries» in
-        let d = dataWas sizes lines begins ids values references shares in
+        let m = trainingModelWas sizes kinds destinations sources starts entries «label_starts» «label_entries» in
+        let d = trainingDataWas sizes lines begins ids values references shares in
         let made : Result = record { answer = r; weights = now (weights .exit) } in
         ⌜ made ≡ trained (ruleOf trainer) (record { epochs = allowed; epsilon = epsilon; seed = seed }) m d ⌝ }
     ensures { λ _. ⌜ Swept (sizes .features) (sizes .instances) (now (order .exit)) (now (beside .exit)) (now (truly .exit)) (now (predicted .exit)) ⌝ }

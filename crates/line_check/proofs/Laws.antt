@@ -19,9 +19,11 @@ use Rattle.refusal_rows.specs.Parts.{partChecked}
 use Rattle.refusal_rows.proofs.Means.{broken-parts, within-parts}
 use Rattle.refusal_rows.proofs.Parts.{ordered, joined, same-limits, as-rows, part-stopped, part-within, part-answered}
 use Rattle.lines.specs.Tables.{Model, Words}
-use Rattle.feature_gen.specs.Rows.{modelCounts, modelRooms, weightedRooms, idTests, weightTests, tableLimits, tableTests, weightedLimits, weightedTests, tablesChecked, weightedChecked}
+use Rattle.feature_gen.specs.Rows.{modelCounts, modelRooms, weightedRooms, idTests, weightTests}
+use Rattle.feature_gen.specs.Parts.{tableLimits, tableTests, weightedLimits, weightedTests, tablesChecked, weightedChecked}
 use Rattle.feature_gen.proofs.Laws.{sized, room-for-weights}
-use Rattle.line_check.specs.Rows.{Scoring, Counting, lineCounts, lineRooms, scoreRooms, scoringCounts, scoringRooms, countRooms, countingCounts, countingRooms, lineStarts, labelTests, valueTests, lineLimits, lineTests, lineSized, lineChecked, labelsChecked, scoringChecked, countingChecked}
+use Rattle.line_check.specs.Rows.{Scoring, Counting, lineCounts, lineRooms, scoreRooms, scoringCounts, scoringRooms, countRooms, countingCounts, countingRooms, lineStarts, labelTests, valueTests, scoringChecked, countingChecked}
+use Rattle.line_check.specs.Parts.{lineLimits, lineTests, lineSized, lineChecked, labelsChecked}
 use Rattle.line_check.specs.Sound.{LineSized, ScoringFits, CountingFits}
 
 pub line-sized : (words : ℕ) (line : Words) → line .size ≤ most theAttributes → AllWithin (lineRooms words line) → LineSized words line

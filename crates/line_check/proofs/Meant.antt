@@ -16,7 +16,7 @@ use Rattle.feature_gen.specs.Rows.{startTests, idTests, weightTests}
 use Rattle.feature_gen.proofs.Sound.{rising, below, all-finite, sound-words, sound, weighted}
 use Rattle.line_check.specs.Rows.{Scoring, Counting, scoringCounts, scoringRooms, countingCounts, countingRooms, lineStarts, labelTests, valueTests, scoringChecked, countingChecked}
 use Rattle.line_check.specs.Sound.{LineSized, SoundLine}
-use Rattle.line_check.specs.Meaning.{Meaning, ScoringMeans, CountingMeans, ScoringSound, CountingSound}
+use Rattle.line_check.specs.Meaning.{Meaning, ScoringCheckMeans, CountingCheckMeans, ScoringSound, CountingSound}
 use Rattle.line_check.proofs.Laws.{scoring-within, counting-within}
 
 -- any call with these rows
@@ -54,7 +54,7 @@ module _ (labels words : ℕ) (counts rooms : List Limit) (starts ids numbers : 
     accepted = accepted-when all;
   }
 
-pub scoring-means : ScoringMeans
+pub scoring-means : ScoringCheckMeans
 unfolding scoringChecked
 scoring-means s =
     meaning (s .model .labels) (s .words) (scoringCounts s) (scoringRooms s)
@@ -65,7 +65,7 @@ scoring-means s =
     (refl, (refl, (refl, (refl, (refl, tt)))))
     (refl, (refl, tt))
 
-pub counting-means : CountingMeans
+pub counting-means : CountingCheckMeans
 unfolding countingChecked
 counting-means c =
     meaning (c .model .labels) (c .words) (countingCounts c) (countingRooms c)

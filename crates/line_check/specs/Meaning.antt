@@ -26,15 +26,15 @@ pub record Meaning (check : Checked) (labels words : ℕ) (counts rooms : List L
   pub only : (why : Refusal) → check ≡ Refused why → OneOf (1 ∷ 4 ∷ 2 ∷ 3 ∷ 5 ∷ 6 ∷ []) (why .number)
   pub accepted : check ≡ Accepted ↔ LabelsIn labels × (WordsIn words × (Fitting counts rooms × (AllGood starts × (AllGood ids × AllGood numbers))))
 
-abbrev pub ScoringMeans : Type 0
-ScoringMeans = (s : Scoring) →
+abbrev pub ScoringCheckMeans : Type 0
+ScoringCheckMeans = (s : Scoring) →
     Meaning (scoringChecked s) (s .model .labels) (s .words) (scoringCounts s) (scoringRooms s)
     (lineStarts (s .model) (s .words) (s .line .starts) (s .line .size))
     (idTests (s .model))
     (weightTests (s .model) (s .weights) ++ valueTests (s .line))
 
-abbrev pub CountingMeans : Type 0
-CountingMeans = (c : Counting) →
+abbrev pub CountingCheckMeans : Type 0
+CountingCheckMeans = (c : Counting) →
     Meaning (countingChecked c) (c .model .labels) (c .words) (countingCounts c) (countingRooms c)
     (lineStarts (c .model) (c .words) (c .line .starts) (c .line .size))
     (idTests (c .model) ++ labelTests c)

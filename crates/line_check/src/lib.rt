@@ -4,7 +4,8 @@ ghost use mathlib.Core.Path.{_≡_};
 ghost use Rattle.refusal_rows.specs.Limits.{anyBroken};
 ghost use Rattle.feature_gen.specs.Lent.{modelWas};
 ghost use Rattle.lines.specs.Entry.{lineWas};
-ghost use Rattle.line_check.specs.Rows.{scoreRooms, lineSized, lineChecked, labelsChecked, scoringChecked, countingChecked};
+ghost use Rattle.line_check.specs.Rows.{scoreRooms, scoringChecked, countingChecked};
+ghost use Rattle.line_check.specs.Parts.{lineSized, lineChecked, labelsChecked};
 use feature_gen::Counts;
 use refusals::Checked;
 

@@ -1,7 +1,7 @@
 // An epoch's visits, in the order of the shuffle.
 ghost use Rattle.training.specs.Visits.{visited};
 ghost use Rattle.training.specs.Epochs.{epochOver};
-ghost use Rattle.prediction.specs.Tables.{modelAt, modelWas, dataAt, dataWas};
+ghost use Rattle.prediction.specs.Tables.{trainingModelAt, trainingModelWas, trainingDataAt, trainingDataWas};
 ghost use Rattle.parameters.specs.Trainers.{ruleOf};
 ghost use Rattle.updates.specs.Updating.{stateOf, Agreed};
 ghost use Rattle.one_epoch.specs.Visited.{Ahead, CountedIn};
@@ -34,12 +34,12 @@ pub fn epoch(
     truly: &mut [f64],
     predicted: &mut [f64],
 ) -> Progress
-    requires { let m = modelAt sizes kinds destinations sources starts entries «label_starts» «label_entries» in
-        let d = dataAt sizes lines begins ids values references shares in
+    requires { let m = trainingModelAt sizes kinds destinations sources starts entries «label_starts» «label_entries» in
+        let d = trainingDataAt sizes lines begins ids values references shares in
         ⌜ Ahead sizes m d (now order) s (now weights) (now beside) (now truly) (now predicted) ⌝ }
     ensures { λ r.
-        let m = modelWas sizes kinds destinations sources starts entries «label_starts» «label_entries» in
-        let d = dataWas sizes lines begins ids values references shares in
+        let m = trainingModelWas sizes kinds destinations sources starts entries «label_starts» «label_entries» in
+        let d = trainingDataWas sizes lines begins ids values references shares in
         let before = stateOf s (now (weights .entry)) (now (beside .entry)) in
         let after = stateOf r (now (weights .exit)) (now (beside .exit)) in
         ⌜ Agreed after (epochOver (visited (ruleOf trainer) m d) (now (order .entry)) (sizes .instances) before) ⌝ }

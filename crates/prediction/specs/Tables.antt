@@ -29,37 +29,37 @@ countsIn sizes = record {
 abbrev pub totalsIn : Sizes → Totals
 totalsIn sizes = record { instances = sizes .instances; words = sizes .words; attributes = sizes .attributes }
 
-abbrev pub modelOf : (sizes : Sizes) (kinds destinations sources starts entries labelStarts labelEntries : List ℕ) → Model
-modelOf sizes = lent.modelOf (sizes .labels) (countsIn sizes)
+abbrev pub trainingModelOf : (sizes : Sizes) (kinds destinations sources starts entries labelStarts labelEntries : List ℕ) → Model
+trainingModelOf sizes = lent.modelOf (sizes .labels) (countsIn sizes)
 
 abbrev pub wordsFrom : (sizes : Sizes) (begins ids : List ℕ) (values : List Float) → Words
 wordsFrom sizes = entry.lineOf (sizes .attributes)
 
-abbrev pub dataOf : (sizes : Sizes) (lines begins ids : List ℕ) (values : List Float) (references : List ℕ) (shares : List Float) → Data
-dataOf sizes = entry.dataOf (totalsIn sizes)
+abbrev pub trainingDataOf : (sizes : Sizes) (lines begins ids : List ℕ) (values : List Float) (references : List ℕ) (shares : List Float) → Data
+trainingDataOf sizes = entry.dataOf (totalsIn sizes)
 
 -- the same at a call's entry: in a `requires`, where the name of a table is the table
-abbrev pub modelAt : Sizes → Numbers → Numbers → Numbers → Numbers → Numbers → Numbers → Numbers → Model
-modelAt sizes = lent.modelAt (sizes .labels) (countsIn sizes)
+abbrev pub trainingModelAt : Sizes → Numbers → Numbers → Numbers → Numbers → Numbers → Numbers → Numbers → Model
+trainingModelAt sizes = lent.modelAt (sizes .labels) (countsIn sizes)
 
 abbrev pub wordsAt : Sizes → Numbers → Numbers → Floats → Words
 wordsAt sizes = entry.lineAt (sizes .attributes)
 
-abbrev pub dataAt : Sizes → Numbers → Numbers → Numbers → Floats → Numbers → Floats → Data
-dataAt sizes = entry.dataAt (totalsIn sizes)
+abbrev pub trainingDataAt : Sizes → Numbers → Numbers → Numbers → Floats → Numbers → Floats → Data
+trainingDataAt sizes = entry.dataAt (totalsIn sizes)
 
 -- and in an `ensures`, where it is the pair of entry and exit
 module _ {A B C D E F G : Type 0} where
-  abbrev pub modelWas : Sizes → Both Numbers A → Both Numbers B → Both Numbers C → Both Numbers D → Both Numbers E → Both Numbers F → Both Numbers G → Model
-  modelWas sizes = lent.modelWas (sizes .labels) (countsIn sizes)
+  abbrev pub trainingModelWas : Sizes → Both Numbers A → Both Numbers B → Both Numbers C → Both Numbers D → Both Numbers E → Both Numbers F → Both Numbers G → Model
+  trainingModelWas sizes = lent.modelWas (sizes .labels) (countsIn sizes)
 
 module _ {A B C : Type 0} where
   abbrev pub wordsWas : Sizes → Both Numbers A → Both Numbers B → Both Floats C → Words
   wordsWas sizes = entry.lineWas (sizes .attributes)
 
 module _ {A B C D E F : Type 0} where
-  abbrev pub dataWas : Sizes → Both Numbers A → Both Numbers B → Both Numbers C → Both Floats D → Both Numbers E → Both Floats F → Data
-  dataWas sizes = entry.dataWas (totalsIn sizes)
+  abbrev pub trainingDataWas : Sizes → Both Numbers A → Both Numbers B → Both Numbers C → Both Floats D → Both Numbers E → Both Floats F → Data
+  trainingDataWas sizes = entry.dataWas (totalsIn sizes)
 
 -- one instance: its words, from the word `first` on, and its reference labels
 pub record SoundInstance (labels : ℕ) (words : Words) (first count : ℕ) (references : List ℕ) : Type 0 where

@@ -4,7 +4,7 @@ ghost use Prim.Native.Nat.{_*_, _≤_};
 ghost use lib.ListN.{length};
 ghost use Rattle.lines.specs.Scored.{statesOf, transitionsOf};
 ghost use Rattle.feature_gen.specs.Sound.{SoundModel};
-ghost use Rattle.prediction.specs.Tables.{modelAt, modelWas, wordsAt, wordsWas, SoundInstance};
+ghost use Rattle.prediction.specs.Tables.{trainingModelAt, trainingModelWas, wordsAt, wordsWas, SoundInstance};
 ghost use Rattle.judging.specs.Judged.{Judged};
 use judging::Prediction;
 
@@ -42,19 +42,19 @@ fn predict_in(
     states: &mut [f64],
     path: &mut [u32],
 ) -> Prediction
-    requires { ⌜ SoundModel (modelAt sizes kinds destinations sources starts entries «label_starts» «label_entries») ⌝ }
+    requires { ⌜ SoundModel (trainingModelAt sizes kinds destinations sources starts entries «label_starts» «label_entries») ⌝ }
     requires { ⌜ SoundInstance (sizes .labels) (wordsAt sizes begins ids values) first words (now references) ⌝ }
     requires { ⌜ (length (now weights) ≡ sizes .features) × (length (now path) ≡ words) ⌝ }
     requires { ⌜ (length (now transitions) ≡ sizes .labels * sizes .labels) × (length (now states) ≡ words * sizes .labels) ⌝ }
     ensures { λ r.
-        let m = modelWas sizes kinds destinations sources starts entries «label_starts» «label_entries» in
+        let m = trainingModelWas sizes kinds destinations sources starts entries «label_starts» «label_entries» in
         let line = wordsWas sizes begins ids values in
         let w = now (weights .entry) in
         ⌜ Judged (sizes .labels) words (transitionsOf m w) (statesOf m w line first words) (now (references .entry)) (now (path .exit)) r ⌝ }
 {
     let labels = sizes.labels;
     let features = sizes.features;
-    line_scores::score_transitions(
+    compute_scores::score_transitions(
         labels,
         features,
         kinds,
@@ -106,12 +106,12 @@ fn predict_short(
     references: &[u32],
     path: &mut [u32],
 ) -> Prediction
-    requires { ⌜ SoundModel (modelAt sizes kinds destinations sources starts entries «label_starts» «label_entries») ⌝ }
+    requires { ⌜ SoundModel (trainingModelAt sizes kinds destinations sources starts entries «label_starts» «label_entries») ⌝ }
     requires { ⌜ SoundInstance (sizes .labels) (wordsAt sizes begins ids values) first words (now references) ⌝ }
     requires { ⌜ (length (now weights) ≡ sizes .features) × (length (now path) ≡ words) ⌝ }
     requires { ⌜ (sizes .labels * sizes .labels ≤ 256) × (words * sizes .labels ≤ 256) ⌝ }
     ensures { λ r.
-        let m = modelWas sizes kinds destinations sources starts entries «label_starts» «label_entries» in
+        let m = trainingModelWas sizes kinds destinations sources starts entries «label_starts» «label_entries» in
         let line = wordsWas sizes begins ids values in
         let w = now (weights .entry) in
         ⌜ Judged (sizes .labels) words (transitionsOf m w) (statesOf m w line first words) (now (references .entry)) (now (path .exit)) r ⌝ }
@@ -161,11 +161,11 @@ fn predict_long(
     references: &[u32],
     path: &mut [u32],
 ) -> Prediction
-    requires { ⌜ SoundModel (modelAt sizes kinds destinations sources starts entries «label_starts» «label_entries») ⌝ }
+    requires { ⌜ SoundModel (trainingModelAt sizes kinds destinations sources starts entries «label_starts» «label_entries») ⌝ }
     requires { ⌜ SoundInstance (sizes .labels) (wordsAt sizes begins ids values) first words (now references) ⌝ }
     requires { ⌜ (length (now weights) ≡ sizes .features) × (length (now path) ≡ words) ⌝ }
     ensures { λ r.
-        let m = modelWas sizes kinds destinations sources starts entries «label_starts» «label_entries» in
+        let m = trainingModelWas sizes kinds destinations sources starts entries «label_starts» «label_entries» in
         let line = wordsWas sizes begins ids values in
         let w = now (weights .entry) in
         ⌜ Judged (sizes .labels) words (transitionsOf m w) (statesOf m w line first words) (now (references .entry)) (now (path .exit)) r ⌝ }
@@ -215,11 +215,11 @@ pub fn predict(
     references: &[u32],
     path: &mut [u32],
 ) -> Prediction
-    requires { ⌜ SoundModel (modelAt sizes kinds destinations sources starts entries «label_starts» «label_entries») ⌝ }
+    requires { ⌜ SoundModel (trainingModelAt sizes kinds destinations sources starts entries «label_starts» «label_entries») ⌝ }
     requires { ⌜ SoundInstance (sizes .labels) (wordsAt sizes begins ids values) first words (now references) ⌝ }
     requires { ⌜ (length (now weights) ≡ sizes .features) × (length (now path) ≡ words) ⌝ }
     ensures { λ r.
-        let m = modelWas sizes kinds destinations sources starts entries «label_starts» «label_entries» in
+        let m = trainingModelWas sizes kinds destinations sources starts entries «label_starts» «label_entries» in
         let line = wordsWas sizes begins ids values in
         let w = now (weights .entry) in
         ⌜ Judged (sizes .labels) words (transitionsOf m w) (statesOf m w line first words) (now (references .entry)) (now (path .exit)) r ⌝ }

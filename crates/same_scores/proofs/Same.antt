@@ -12,7 +12,7 @@ use Rattle.lines.specs.Passes.{through, throughList}
 use Rattle.binary64.specs.Numbers.{nought}
 use Rattle.lines.specs.Scored.{scoredAttribute, scoredAt, scoredWord, statesOf, transitionEntry, transitionsOf}
 use Rattle.same_scores.specs.Named.{ScoringInput, statesFor}
-use Rattle.same_scores.specs.Agree.{Agree, states, transitions, scores, OnlyNamedMatters}
+use Rattle.same_scores.specs.Agree.{Agree, statesOfInput, transitionsOfInput, scoresOfInput, OnlyNamedMatters}
 use Rattle.same_scores.proofs.Folds.{after, through-same, attribute-named, word-named, labelPass, label-named, below-both}
 
 module _ (i j : ScoringInput) (g : Agree i j) where
@@ -30,7 +30,7 @@ module _ (i j : ScoringInput) (g : Agree i j) where
       ∙ ap (λ (attributes : List Attribute). after (scoredAttribute (j .model) (j .weights) word) attributes s) (g .line word h)
       ∙ sym (word-named (j .model) (j .weights) (j .table) (j .first) word s)
 
-  same-states : states i ≡ states j
+  same-states : statesOfInput i ≡ statesOfInput j
   unfolding statesOf
   same-states =
       through-same (scoredWord (i .model) (i .weights) (i .table) (i .first)) (scoredWord (j .model) (j .weights) (j .table) (j .first)) 0 (i .words) (λ n l t. same-word (0 + n) (omega arith) t) (replicate (i .words * i .model .labels) nought)
@@ -40,7 +40,7 @@ module _ (i j : ScoringInput) (g : Agree i j) where
   same-label : (label : ℕ) → label < i .model .labels → (s : List Float) → labelPass i label s ≡ labelPass j label s
   same-label label h s = label-named i label s ∙ rw (g .followers label h, g .labels) (sym (label-named j label s))
 
-  same-transitions : transitions i ≡ transitions j
+  same-transitions : transitionsOfInput i ≡ transitionsOfInput j
   unfolding transitionsOf
   same-transitions =
       below-both (throughList (transitionEntry (i .model) (i .weights)) (i .model .labelLists .starts)) (i .model .labelLists .count) (i .model .labels) _
@@ -48,7 +48,7 @@ module _ (i j : ScoringInput) (g : Agree i j) where
       ∙ ap (λ (labels : ℕ). through (labelPass j) 0 labels (replicate (labels * labels) nought)) (g .labels)
       ∙ sym (below-both (throughList (transitionEntry (j .model) (j .weights)) (j .model .labelLists .starts)) (j .model .labelLists .count) (j .model .labels) _)
 
-  same-scores : scores i ≡ scores j
+  same-scores : scoresOfInput i ≡ scoresOfInput j
   same-scores = rw (same-transitions, same-states, g .labels)
 
 pub only-named-matters : OnlyNamedMatters

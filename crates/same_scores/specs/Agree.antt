@@ -27,22 +27,22 @@ pub record Agree (i j : ScoringInput) : Type 0 where
   -- "and on the label lists with theirs": those of the labels
   pub followers : (label : ℕ) → label < i .model .labels → transitionsFor i label ≡ transitionsFor j label
 
-abbrev pub states : ScoringInput → List Float
-states i = statesOf (i .model) (i .weights) (i .table) (i .first) (i .words)
+abbrev pub statesOfInput : ScoringInput → List Float
+statesOfInput i = statesOf (i .model) (i .weights) (i .table) (i .first) (i .words)
 
-abbrev pub transitions : ScoringInput → List Float
-transitions i = transitionsOf (i .model) (i .weights)
+abbrev pub transitionsOfInput : ScoringInput → List Float
+transitionsOfInput i = transitionsOf (i .model) (i .weights)
 
-abbrev pub scores : ScoringInput → Scores
-scores i = tabled (i .model .labels) (transitions i) (states i)
+abbrev pub scoresOfInput : ScoringInput → Scores
+scoresOfInput i = tabled (i .model .labels) (transitionsOfInput i) (statesOfInput i)
 
 -- "get the same scores and path", and so the same sum and lead, all to the bit
 pub record SameScoresAndPath (i j : ScoringInput) : Type 0 where
-  pub same-states : states i ≡ states j
-  pub same-transitions : transitions i ≡ transitions j
-  pub path : decodedPath (scores i) (i .words) ≡ decodedPath (scores j) (j .words)
-  pub sum : decodedSum (scores i) (i .words) ≡ decodedSum (scores j) (j .words)
-  pub ahead : lead (scores i) (i .words) ≡ lead (scores j) (j .words)
+  pub same-states : statesOfInput i ≡ statesOfInput j
+  pub same-transitions : transitionsOfInput i ≡ transitionsOfInput j
+  pub path : decodedPath (scoresOfInput i) (i .words) ≡ decodedPath (scoresOfInput j) (j .words)
+  pub sum : decodedSum (scoresOfInput i) (i .words) ≡ decodedSum (scoresOfInput j) (j .words)
+  pub ahead : lead (scoresOfInput i) (i .words) ≡ lead (scoresOfInput j) (j .words)
 
 abbrev pub OnlyNamedMatters : Type 0
 OnlyNamedMatters = (i j : ScoringInput) → Agree i j → SameScoresAndPath i j

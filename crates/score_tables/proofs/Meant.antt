@@ -5,7 +5,7 @@ use mathlib.Core.Logic.{_↔_, inl, inr}
 use Prim.Native.Nat.{ℕ, _+_, _*_, _/_, _%_, _<_, _≤_}
 use native.Mathlib.Nat.{div-add-mod', div-lt-iff-lt-mul, mod-lt}
 use native.Mathlib.Omega.{arith}
-use borrow.Author.Tests.{le-ltb}
+use borrow.Author.Tests.{ltb-false, le-ltb}
 use lib.Dec.{T}
 use lib.ListN.{length, getD}
 use lib.Ieee.{Float, nan}
@@ -13,11 +13,12 @@ use lib.Ieee.Scale.{finite}
 use Rattle.refusals.specs.declared.Checked.the-variants.{Accepted}
 use Rattle.refusals.specs.Tables.{numbersChecked}
 use Rattle.refusals.specs.Meaning.{FirstRefused}
+use Rattle.refusals.proofs.Laws.{passes}
 use Rattle.refusals.proofs.Meant.{numbers-mean, numbers-finite}
 use Rattle.best_path.specs.Scores.{AllFinite, tabled}
 use Rattle.refusals.specs.Bounds.{theLabels, theLineWords, most}
-use Rattle.score_tables.specs.Rows.{sixes}
-use Rattle.score_tables.specs.Meaning.{OneMeans, FourMeans, TwoMeans, SixAt, in-transitions, in-states}
+use Rattle.score_tables.specs.Rows.{pathShort, sixes}
+use Rattle.score_tables.specs.Meaning.{Row, OneMeans, FourMeans, TwoMeans, SixAt, in-transitions, in-states}
 use Rattle.fronts.specs.Finite.{FiniteTo}
 use Rattle.score_tables.proofs.Laws.{true-holds, within, labels-in, words-in, room}
 use Rattle.score_tables.proofs.Order.{row, Never, not-table, why}
@@ -31,6 +32,9 @@ four-means words = row 4 _ words-in (λ w. rw (le-ltb words 1 (w .low), le-ltb (
 pub two-means : TwoMeans
 two-means labels words transitions states =
     row 2 _ room (λ r. rw (le-ltb (length transitions) (labels * labels) (r .long-transitions), le-ltb (length states) (words * labels) (r .long-states)))
+
+pub short-means : (count : ℕ) (path : List ℕ) → Row (pathShort count path) 2 (count ≤ length path)
+short-means count path = row 2 _ (λ h. ltb-false (length path) count (passes 2 0 _ h)) (λ l. le-ltb (length path) count l)
 
 -- one table of numbers
 module _ (numbers : List Float) (n : ℕ) where

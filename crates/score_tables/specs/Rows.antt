@@ -22,6 +22,10 @@ abbrev pub scoresShort : ℕ → ℕ → List Float → List Float → Checked
 scoresShort labels words transitions states =
     refuse 2 0 (short (length transitions) (labels * labels) || short (length states) (words * labels))
 
+-- 2 | "a lent buffer too short": a path of so many labels | 0
+abbrev pub pathShort : ℕ → List ℕ → Checked
+pathShort count path = refuse 2 0 (short (length path) count)
+
 -- 6 | "a .. table entry not finite": "transitions; states" | "index in its table"
 abbrev pub sixes : ℕ → ℕ → List Float → List Float → List Checked
 sixes labels words transitions states =

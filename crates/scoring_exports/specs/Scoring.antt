@@ -1,4 +1,4 @@
--- What scoring a line gives to C: the answer of the crate scoring, as numbers. Assumes nothing.
+-- What scoring a line gives to C: the answer of the crate compute_scores, as numbers. Assumes nothing.
 use mathlib.Core.Path.{_≡_}
 use mathlib.Core.List.{List}
 use lib.Ieee.{Float}

@@ -1,4 +1,4 @@
-// The scores of a line, for programs in C and Rust: one call of the crate scoring, and its answer as numbers.
+// The scores of a line, for programs in C and Rust: one call of the crate compute_scores, and its answer as numbers.
 ghost use Rattle.lines.specs.Entry.{lineWas};
 ghost use Rattle.feature_gen.specs.Lent.{modelWas};
 ghost use Rattle.scoring_exports.specs.Scoring.{ScoresLine};

@@ -19,7 +19,7 @@ use Rattle.best_path.specs.PathScore.{pathScore}
 use Rattle.score_tables.specs.Rows.{sixes}
 use Rattle.score_tables.specs.Sound.{ScoresRoom}
 use Rattle.score_tables.proofs.Laws.{within, room, sized, all-finite}
-use Rattle.sequence_score.specs.Rows.{sizes, five, sizesChecked, pathChecked}
+use Rattle.sequence_score.specs.Rows.{sizes, five, pathSized, pathChecked}
 use Rattle.sequence_score.specs.Sound.{SoundPath, Met}
 
 -- no word
@@ -61,20 +61,20 @@ module _ (labels words : ℕ) (transitions states : List Float) (path : List ℕ
   rows = sizes labels words transitions states path count
 
   -- a refusal by size is the call's
-  pub stopped : (why : Refusal) → sizesChecked labels words transitions states path count ≡ Refused why → Refused why ≡ pathChecked labels words transitions states path count
-  unfolding sizesChecked pathChecked
+  pub stopped : (why : Refusal) → pathSized labels words transitions states path count ≡ Refused why → Refused why ≡ pathChecked labels words transitions states path count
+  unfolding pathSized pathChecked
   stopped why h = sym (settled (first rows) (five labels path count ∷ sixes labels words transitions states) why h)
 
   -- 1, 4 and 2 accept: there is room in the path
-  pub path-room : sizesChecked labels words transitions states path count ≡ Accepted → count ≤ length path
-  unfolding sizesChecked
+  pub path-room : pathSized labels words transitions states path count ≡ Accepted → count ≤ length path
+  unfolding pathSized
   path-room h =
       let a = all-accepted Accepted rows h .1 in
       ltb-false (length path) count (passes 2 0 _ (a .1 .1 .1 .1 .0))
 
   -- and in the tables
-  pub tables-room : sizesChecked labels words transitions states path count ≡ Accepted → ScoresRoom labels words transitions states
-  unfolding sizesChecked
+  pub tables-room : pathSized labels words transitions states path count ≡ Accepted → ScoresRoom labels words transitions states
+  unfolding pathSized
   tables-room h =
       let a = all-accepted Accepted rows h .1 in
       room (a .1 .1 .1 .0)

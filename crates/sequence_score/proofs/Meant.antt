@@ -5,7 +5,6 @@ use mathlib.Core.Logic.{_↔_}
 use Prim.Native.Nat.{ℕ, _≤_, _<_}
 use native.Mathlib.Omega.{arith}
 use borrow.Author.Tests.{ltb-false, le-ltb}
-use lib.ListN.{length}
 use Rattle.refusals.specs.declared.Checked.{Checked}
 use Rattle.refusals.specs.Refusals.{numbered}
 use Rattle.refusals.specs.Said.{accepted, orRefused}
@@ -17,10 +16,10 @@ use Rattle.best_path.specs.Scores.{labelAt, tabled}
 use Rattle.best_path.specs.PathScore.{pathScore}
 use Rattle.score_tables.specs.Meaning.{Row}
 use Rattle.score_tables.proofs.Order.{row, not-table, of-table}
-use Rattle.score_tables.proofs.Meant.{one-means, four-means, two-means, finite-tables}
+use Rattle.score_tables.proofs.Meant.{one-means, four-means, two-means, short-means, finite-tables}
 use Rattle.refusal_rows.proofs.Groups.{Group, single, given-first, given-after, accepted-when, given-only}
 use Rattle.refusal_rows.proofs.TableGroups.{pair, tableSixes}
-use Rattle.sequence_score.specs.Rows.{pathLonger, pathShort, five, pathChecked}
+use Rattle.sequence_score.specs.Rows.{pathLonger, five, pathChecked}
 use Rattle.sequence_score.specs.Sound.{LabelsBelow}
 use Rattle.sequence_score.specs.Promise.{Given, checkedOf, answerTo}
 use Rattle.sequence_score.specs.Meaning.{FiveAt, Meaning, PathsMean, AnswersMean}
@@ -28,9 +27,6 @@ use Rattle.sequence_score.proofs.Laws.{sound}
 
 longer-means : (words count : ℕ) → Row (pathLonger words count) 4 (count ≤ words)
 longer-means words count = row 4 _ (λ h. ltb-false words count (passes 4 0 _ h)) (λ l. le-ltb words count l)
-
-short-means : (path : List ℕ) (count : ℕ) → Row (pathShort path count) 2 (count ≤ length path)
-short-means path count = row 2 _ (λ h. ltb-false (length path) count (passes 2 0 _ h)) (λ l. le-ltb (length path) count l)
 
 module _ (given : Given) where
   abbrev ones : Group
@@ -40,7 +36,7 @@ module _ (given : Given) where
   fours = pair (four-means (given .words)) (longer-means (given .words) (given .count))
 
   abbrev twos : Group
-  twos = pair (two-means (given .labels) (given .words) (given .transitions) (given .states)) (short-means (given .path) (given .count))
+  twos = pair (two-means (given .labels) (given .words) (given .transitions) (given .states)) (short-means (given .count) (given .path))
 
   abbrev labels-mean : Exactly (five (given .labels) (given .path) (given .count)) 5 (given .count) (λ word. given .labels ≤ labelAt (given .path) word)
   labels-mean = ids-mean (given .path) (given .count) (given .labels)

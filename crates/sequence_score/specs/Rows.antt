@@ -1,21 +1,16 @@
 -- Document 01, "Numbered refusals", row by row for a path score, and their order. Assumes nothing.
 use mathlib.Core.List.{List, [], _∷_, _++_}
 use Prim.Native.Nat.{ℕ}
-use lib.ListN.{length}
 use lib.Dec.{ltb}
 use lib.Ieee.{Float}
 use Rattle.refusals.specs.declared.Checked.{Checked}
 use Rattle.refusals.specs.Refusals.{first, refuse}
-use Rattle.refusals.specs.Tables.{short, idsChecked}
-use Rattle.score_tables.specs.Rows.{one, four, scoresShort, sixes}
+use Rattle.refusals.specs.Tables.{idsChecked}
+use Rattle.score_tables.specs.Rows.{one, four, scoresShort, pathShort, sixes}
 
 -- 4 | "a scored path longer than its table" | "0 for a single line"
 abbrev pub pathLonger : ℕ → ℕ → Checked
 pathLonger words count = refuse 4 0 (ltb words count)
-
--- 2 | "a lent buffer too short": the path that is scored | 0
-abbrev pub pathShort : List ℕ → ℕ → Checked
-pathShort path count = refuse 2 0 (short (length path) count)
 
 -- 5 | "label at or above L" | "index in its table"
 abbrev pub five : ℕ → List ℕ → ℕ → Checked
@@ -28,11 +23,11 @@ sizes labels words transitions states path count =
     ∷ four words
     ∷ pathLonger words count
     ∷ scoresShort labels words transitions states
-    ∷ pathShort path count
+    ∷ pathShort count path
     ∷ []
 
-unfoldable pub sizesChecked : ℕ → ℕ → List Float → List Float → List ℕ → ℕ → Checked
-sizesChecked labels words transitions states path count = first (sizes labels words transitions states path count)
+unfoldable pub pathSized : ℕ → ℕ → List Float → List Float → List ℕ → ℕ → Checked
+pathSized labels words transitions states path count = first (sizes labels words transitions states path count)
 
 -- "The lowest number wins": then 5, then 6
 unfoldable pub pathChecked : ℕ → ℕ → List Float → List Float → List ℕ → ℕ → Checked

@@ -5,7 +5,7 @@ ghost use lib.ListN.{length, getD};
 ghost use lib.Ieee.{nan};
 ghost use Rattle.best_path.specs.Scores.{tabled};
 ghost use Rattle.best_path.specs.PathScore.{pathScore};
-ghost use Rattle.sequence_score.specs.Rows.{sizesChecked, pathChecked};
+ghost use Rattle.sequence_score.specs.Rows.{pathSized, pathChecked};
 ghost use Rattle.sequence_score.specs.Sound.{Met};
 ghost use Rattle.sequence_score.specs.Promise.{Promised};
 use refusals::Checked;
@@ -69,7 +69,7 @@ fn check_sizes(
     path: &[u32],
     count: u32,
 ) -> Checked
-    ensures { λ r. ⌜ r ≡ sizesChecked labels words (now (transitions .entry)) (now (states .entry)) (now (path .entry)) count ⌝ }
+    ensures { λ r. ⌜ r ≡ pathSized labels words (now (transitions .entry)) (now (states .entry)) (now (path .entry)) count ⌝ }
 {
     let a = score_tables::check_bounds(labels, words);
     let b = refusals::refuse_if(a, 4, 0, words < count);

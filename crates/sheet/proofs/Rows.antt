@@ -14,7 +14,7 @@ use Rattle.score_tables.specs.Rows.{one, four, boundsChecked}
 use Rattle.score_tables.specs.Sound.{ScoresSized}
 use Rattle.score_tables.proofs.Laws.{sized}
 use Rattle.sheet.specs.Fields.{labelsIn, wordsIn, wholeLength, transitionsIn, statesIn}
-use Rattle.sheet.specs.Rows.{Lent, wrongHead, wrongLength, headRows, sizeRows, entryRows, sizesChecked, fileChecked, tablesShort, sheetChecked}
+use Rattle.sheet.specs.Rows.{Lent, wrongHead, wrongLength, headRows, sizeRows, entryRows, fileSized, fileChecked, tablesShort, sheetChecked}
 
 -- the answer so far, then two checks that were put together
 pub together : (answer check next : Checked) → orNext answer (orNext check next) ≡ orNext (orNext answer check) next
@@ -32,22 +32,22 @@ headChecked bytes = first (headRows bytes)
 
 module _ (bytes : List ℕ) (room : Checked) where
   -- a refusal of the head is the file's
-  pub head-refused : (why : Refusal) → headChecked bytes ≡ Refused why → Refused why ≡ sizesChecked bytes room
-  unfolding headChecked sizesChecked
+  pub head-refused : (why : Refusal) → headChecked bytes ≡ Refused why → Refused why ≡ fileSized bytes room
+  unfolding headChecked fileSized
   head-refused why h = sym (settled _ (sizeRows bytes room) why h)
 
   -- 1 and 4 as one check
-  pub sizes-in-order : first (orNext Accepted (refuse 10 0 (wrongHead bytes)) ∷ boundsChecked (labelsIn bytes) (wordsIn bytes) ∷ orNext Accepted room ∷ orNext Accepted (refuse 10 0 (wrongLength bytes)) ∷ []) ≡ sizesChecked bytes room
-  unfolding sizesChecked orNext
+  pub sizes-in-order : first (orNext Accepted (refuse 10 0 (wrongHead bytes)) ∷ boundsChecked (labelsIn bytes) (wordsIn bytes) ∷ orNext Accepted room ∷ orNext Accepted (refuse 10 0 (wrongLength bytes)) ∷ []) ≡ fileSized bytes room
+  unfolding fileSized orNext
   sizes-in-order = ap (λ (c : Checked). orNext (orNext c room) (refuse 10 0 (wrongLength bytes))) (together (refuse 10 0 (wrongHead bytes)) (one (labelsIn bytes)) (four (wordsIn bytes)))
 
   -- a refusal of the sizes is the file's
-  pub sizes-refused : (why : Refusal) → sizesChecked bytes room ≡ Refused why → Refused why ≡ fileChecked bytes room
-  unfolding sizesChecked fileChecked
+  pub sizes-refused : (why : Refusal) → fileSized bytes room ≡ Refused why → Refused why ≡ fileChecked bytes room
+  unfolding fileSized fileChecked
   sizes-refused why h = sym (settled _ (entryRows bytes) why h)
 
-  pub sizes-passed : orNext (orNext (sizesChecked bytes room) (numbersChecked (transitionsIn bytes) (labelsIn bytes * labelsIn bytes))) (numbersChecked (statesIn bytes) (wordsIn bytes * labelsIn bytes)) ≡ fileChecked bytes room
-  unfolding sizesChecked fileChecked
+  pub sizes-passed : orNext (orNext (fileSized bytes room) (numbersChecked (transitionsIn bytes) (labelsIn bytes * labelsIn bytes))) (numbersChecked (statesIn bytes) (wordsIn bytes * labelsIn bytes)) ≡ fileChecked bytes room
+  unfolding fileSized fileChecked
   sizes-passed = refl
 
 module _ (bytes : List ℕ) (before : Lent) where
@@ -57,8 +57,8 @@ module _ (bytes : List ℕ) (before : Lent) where
     pub room : ScoresSized (labelsIn bytes) (wordsIn bytes) (before .transitions) (before .states)
     pub exact : length bytes ≡ wholeLength bytes
 
-  pub sizes : sizesChecked bytes (tablesShort bytes before) ≡ Accepted → Sizes
-  unfolding sizesChecked
+  pub sizes : fileSized bytes (tablesShort bytes before) ≡ Accepted → Sizes
+  unfolding fileSized
   sizes h =
       let a = all-accepted Accepted (headRows bytes ++ sizeRows bytes (tablesShort bytes before)) h .1 in
       record {

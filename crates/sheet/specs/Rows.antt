@@ -47,8 +47,8 @@ abbrev pub entryRows : List ℕ → List Checked
 entryRows bytes = sixes (labelsIn bytes) (wordsIn bytes) (transitionsIn bytes) (statesIn bytes)
 
 -- as far as 10 on length, and all of them; the row of 2 belongs to what a call is lent
-unfoldable pub sizesChecked : List ℕ → Checked → Checked
-sizesChecked bytes room = first (headRows bytes ++ sizeRows bytes room)
+unfoldable pub fileSized : List ℕ → Checked → Checked
+fileSized bytes room = first (headRows bytes ++ sizeRows bytes room)
 
 unfoldable pub fileChecked : List ℕ → Checked → Checked
 fileChecked bytes room = first (headRows bytes ++ (sizeRows bytes room ++ entryRows bytes))

@@ -6,7 +6,7 @@ ghost use lib.ListN.{length, drop, getD, take};
 ghost use Rattle.refusals.specs.Refusals.{orNext, first};
 ghost use Rattle.refusals.specs.Tables.{numbersChecked};
 ghost use Rattle.sheet.specs.Fields.{numbersIn, valueOf, versionIn, labelsIn, wordsIn, statesFrom, wholeLength};
-ghost use Rattle.sheet.specs.Rows.{wrongHead, wrongLength, sizesChecked, tablesShort, sheetChecked};
+ghost use Rattle.sheet.specs.Rows.{wrongHead, wrongLength, fileSized, tablesShort, sheetChecked};
 ghost use lib.Ieee.{binary64, ofBits};
 ghost use lib.Ieee.Scale.{finite};
 ghost use Rattle.sheet.specs.Steps.{filled};
@@ -122,7 +122,7 @@ fn in_order(head: Checked, bounds: Checked, room: Checked, length: Checked) -> C
 
 // Every row before a number is read.
 fn check_sizes(bytes: &[u8], transitions: &[f64], states: &[f64]) -> Checked
-    ensures { λ r. ⌜ r ≡ sizesChecked (now (bytes .entry)) (tablesShort (now (bytes .entry)) (record { transitions = now (transitions .entry); states = now (states .entry) })) ⌝ }
+    ensures { λ r. ⌜ r ≡ fileSized (now (bytes .entry)) (tablesShort (now (bytes .entry)) (record { transitions = now (transitions .entry); states = now (states .entry) })) ⌝ }
 {
     let labels = labels_in(bytes);
     let words = words_in(bytes);

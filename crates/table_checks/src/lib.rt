@@ -1,11 +1,21 @@
 // The checks of one table, which every call shares: the answer so far where that refuses, or else a refusal at the lowest bad
-// place. Each has its test in its own loop, so that a table of millions is passed at a comparison or two an entry.
+// place. A pass without a way out in the middle tells first whether all is well, at a fraction of what a branch an entry costs;
+// only where it is not does a search find the place.
 ghost use mathlib.Core.Path.{_≡_};
+ghost use mathlib.Core.Bool.{true, cond};
 ghost use Prim.Native.Nat.{_<_, _≤_};
 ghost use lib.ListN.{length};
 ghost use Rattle.refusals.specs.Refusals.{orNext};
 ghost use Rattle.refusals.specs.Tables.{startsChecked, kindsChecked, idsChecked, sourcesChecked, numbersChecked};
+ghost use Rattle.refusals.specs.declared.Checked.the-variants.{Accepted};
 use refusals::Checked;
+
+// Where a search begins: at its end where all is well.
+fn begin_at(all: bool, end: usize) -> usize
+    ensures { λ r. ⌜ r ≡ cond all end 0 ⌝ }
+{
+    if all { end } else { 0 }
+}
 
 // 3: n lists have n + 1 starts, the first 0, none below the one before it, the last equal to the entry count.
 pub fn check_starts(answer: Checked, starts: &[u32], n: usize, entries: u32) -> Checked
@@ -27,13 +37,27 @@ pub fn check_starts(answer: Checked, starts: &[u32], n: usize, entries: u32) -> 
     refusals::refuse_if(answer, 3, i, i < end)
 }
 
+// True only where every kind is 0 or 1.
+fn all_kinds(kinds: &[u8], n: usize) -> bool
+    requires { ⌜ n ≤ length (now kinds) ⌝ }
+    ensures { λ r. ⌜ (r ≡ true → kindsChecked (now (kinds .entry)) n ≡ Accepted) ⌝ }
+{
+    let mut all = true;
+    let mut i = 0usize;
+    while i < n {
+        all = all & (kinds[i] <= 1);
+        i += 1;
+    }
+    all
+}
+
 // 5: a kind is 0 or 1.
 pub fn check_kinds(answer: Checked, kinds: &[u8], n: usize) -> Checked
     requires { ⌜ n ≤ length (now kinds) ⌝ }
     ensures { λ r. ⌜ r ≡ orNext answer (kindsChecked (now (kinds .entry)) n) ⌝ }
 {
     let end = refusals::to_check(answer, n);
-    let mut i = 0usize;
+    let mut i = begin_at(all_kinds(kinds, end), end);
     while i < end {
         let bad = 1 < kinds[i];
         if bad {
@@ -44,13 +68,27 @@ pub fn check_kinds(answer: Checked, kinds: &[u8], n: usize) -> Checked
     refusals::refuse_if(answer, 5, i, i < end)
 }
 
+// True only where every id is below the bound.
+fn all_below(ids: &[u32], n: usize, bound: u32) -> bool
+    requires { ⌜ n ≤ length (now ids) ⌝ }
+    ensures { λ r. ⌜ (r ≡ true → idsChecked (now (ids .entry)) n bound ≡ Accepted) ⌝ }
+{
+    let mut all = true;
+    let mut i = 0usize;
+    while i < n {
+        all = all & (ids[i] < bound);
+        i += 1;
+    }
+    all
+}
+
 // 5: a destination or label is below L, a list id below F.
 pub fn check_ids(answer: Checked, ids: &[u32], n: usize, bound: u32) -> Checked
     requires { ⌜ n ≤ length (now ids) ⌝ }
     ensures { λ r. ⌜ r ≡ orNext answer (idsChecked (now (ids .entry)) n bound) ⌝ }
 {
     let end = refusals::to_check(answer, n);
-    let mut i = 0usize;
+    let mut i = begin_at(all_below(ids, end, bound), end);
     while i < end {
         let bad = bound <= ids[i];
         if bad {
@@ -59,6 +97,21 @@ pub fn check_ids(answer: Checked, ids: &[u32], n: usize, bound: u32) -> Checked
         i += 1;
     }
     refusals::refuse_if(answer, 5, i, i < end)
+}
+
+// True only where every Transition's source is below L.
+fn all_sources(kinds: &[u8], sources: &[u32], n: usize, labels: u32) -> bool
+    requires { ⌜ n ≤ length (now kinds) ⌝ }
+    requires { ⌜ n ≤ length (now sources) ⌝ }
+    ensures { λ r. ⌜ (r ≡ true → sourcesChecked (now (kinds .entry)) (now (sources .entry)) n labels ≡ Accepted) ⌝ }
+{
+    let mut all = true;
+    let mut i = 0usize;
+    while i < n {
+        all = all & ((kinds[i] != 1) | (sources[i] < labels));
+        i += 1;
+    }
+    all
 }
 
 // 5: a Transition's source is below L; a State feature's may be anything.
@@ -74,7 +127,7 @@ pub fn check_sources(
     ensures { λ r. ⌜ r ≡ orNext answer (sourcesChecked (now (kinds .entry)) (now (sources .entry)) n labels) ⌝ }
 {
     let end = refusals::to_check(answer, n);
-    let mut i = 0usize;
+    let mut i = begin_at(all_sources(kinds, sources, end, labels), end);
     while i < end {
         let bad = (kinds[i] == 1) & (labels <= sources[i]);
         if bad {
@@ -91,7 +144,7 @@ pub fn check_numbers(answer: Checked, numbers: &[f64], n: usize) -> Checked
     ensures { λ r. ⌜ r ≡ orNext answer (numbersChecked (now (numbers .entry)) n) ⌝ }
 {
     let end = refusals::to_check(answer, n);
-    let mut i = 0usize;
+    let mut i = begin_at(fronts::all_finite(numbers, end), end);
     while i < end {
         let bad = !binary64::is_finite(numbers[i]);
         if bad {

@@ -20,7 +20,7 @@ use Rattle.prediction.specs.declared.Sizes.{Sizes}
 use Rattle.parameters.specs.declared.Method.{Method}
 use Rattle.parameters.specs.Trainers.{ruleFor, settingsFor}
 use Rattle.parameters.specs.Parameters.{AllFit, sevens, ownOf}
-use Rattle.training_check.specs.Rows.{inputChecked}
+use Rattle.training_check.specs.Parts.{inputChecked}
 use Rattle.training_check.specs.Sound.{SoundInput}
 use Rattle.training_check.proofs.Laws.{with-parameters}
 use Rattle.training_check.proofs.Meant.{training-means}

@@ -5,7 +5,6 @@ use mathlib.Core.List.{List, [], _∷_, _++_}
 use Prim.Native.Nat.{ℕ, _+_, _-_, _<_, _≤_}
 use native.Mathlib.Omega.{arith}
 use borrow.Author.Tests.{lt-ltb}
-use lib.Ieee.{Float}
 use lib.ListN.{length}
 use Rattle.refusals.specs.declared.Refusal.{Refusal}
 use Rattle.refusals.specs.declared.Checked.{Checked}
@@ -14,17 +13,19 @@ use Rattle.refusals.specs.Refusals.{orNext, sooner, firstFrom}
 use Rattle.refusals.specs.Bounds.{theLineWords, outsideIts, wordTable, referenceTable, instanceWeightTable}
 use Rattle.score_tables.specs.Rows.{one}
 use Rattle.refusal_rows.specs.Limits.{Limit, room, anyBroken, AllWithin, Fitting}
-use Rattle.refusal_rows.specs.Parts.{partChecked}
 use Rattle.refusal_rows.specs.Tests.{startsRise, linesFit, idsBelow, numbersFinite, checks}
 use Rattle.refusal_rows.proofs.Means.{within-parts}
 use Rattle.refusal_rows.proofs.Parts.{ordered, joined, same-limits, as-rows, part-stopped, part-within, part-answered}
-use Rattle.feature_gen.specs.Rows.{modelCounts, modelRooms, tableLimits, tableTests, tablesChecked, weightsChecked}
+use Rattle.feature_gen.specs.Rows.{modelCounts, modelRooms}
+use Rattle.feature_gen.specs.Parts.{tableLimits, tableTests, tablesChecked, weightsChecked}
 use Rattle.feature_gen.proofs.Laws.{sized}
-use Rattle.line_check.specs.Rows.{lineRooms, lineLimits, lineTests, lineChecked, labelsChecked}
+use Rattle.line_check.specs.Rows.{lineRooms}
+use Rattle.line_check.specs.Parts.{lineLimits, lineTests, lineChecked, labelsChecked}
 use Rattle.line_check.proofs.Laws.{line-sized}
 use Rattle.lines.specs.Data.{Data}
 use Rattle.parameters.specs.Parameters.{Parameter, sevens}
-use Rattle.training_check.specs.Rows.{Input, dataCounts, dataRooms, lentRooms, inputCounts, inputRooms, instanceLimits, instanceTests, instancesSized, instancesChecked, dataLimits, dataTests, dataChecked, lentChecked, trainingChecked, inputChecked}
+use Rattle.training_check.specs.Rows.{Input, dataCounts, dataRooms, lentRooms, inputCounts, inputRooms, trainingChecked}
+use Rattle.training_check.specs.Parts.{instanceLimits, instanceTests, instancesSized, instancesChecked, dataLimits, dataTests, dataChecked, lentChecked, inputChecked}
 use Rattle.training_check.specs.Sound.{DataSized, InputFits}
 
 -- no words, or starts that fall
@@ -49,17 +50,12 @@ module _ (instances words : ℕ) (starts : List ℕ) where
   unfolding instancesSized instancesChecked
   instances-answered a b c = part-answered (instanceLimits instances words starts) (instanceTests instances words starts) a (rw (c, b))
 
--- the check of a model's weights does not look at the table's name
-weights-of : (n : ℕ) (weights : List Float) → weightsChecked n weights ≡ partChecked (room (length weights) n ∷ []) (numbersFinite instanceWeightTable weights n ∷ [])
-unfolding weightsChecked partChecked
-weights-of n weights = refl
-
 -- with their words, labels and weights
 pub data-joined : (labels : ℕ) (d : Data) {instances line words labelled both weighted r : Checked} →
     instances ≡ instancesChecked (d .instances) (d .count) (d .starts) → line ≡ lineChecked (d .count) (d .words) → words ≡ sooner instances line →
     labelled ≡ labelsChecked labels (d .count) (d .references) → both ≡ sooner words labelled →
-    weighted ≡ weightsChecked (d .instances) (d .weights) → r ≡ sooner both weighted → r ≡ dataChecked labels d
-unfolding instancesChecked lineChecked labelsChecked dataChecked
+    weighted ≡ weightsChecked instanceWeightTable (d .instances) (d .weights) → r ≡ sooner both weighted → r ≡ dataChecked labels d
+unfolding instancesChecked lineChecked labelsChecked weightsChecked dataChecked
 data-joined labels d a b c e f g h =
     let starts = instanceLimits (d .instances) (d .count) (d .starts) in
     let line = lineLimits (d .count) (d .words) in
@@ -70,7 +66,7 @@ data-joined labels d a b c e f g h =
     let ids = idsBelow referenceTable (d .references) (d .count) labels ∷ [] in
     let words = joined starts line these those tt tt tt a b c in
     let both = joined (starts ++ line) references (ordered (these ++ those)) ids tt tt tt words e f in
-    joined (starts ++ line ++ references) shares (ordered (ordered (these ++ those) ++ ids)) (numbersFinite instanceWeightTable (d .weights) (d .instances) ∷ []) tt tt tt both (g ∙ weights-of (d .instances) (d .weights)) h
+    joined (starts ++ line ++ references) shares (ordered (ordered (these ++ those) ++ ids)) (numbersFinite instanceWeightTable (d .weights) (d .instances) ∷ []) tt tt tt both g h
 
 module _ (d : Data) where
   abbrev opened : List Limit

@@ -10,10 +10,8 @@ use Rattle.refusals.specs.Refusals.{refusedAt, refuse, orNext, lowest}
 use Rattle.refusal_rows.specs.Limits.{inOrder}
 use Rattle.refusal_rows.specs.Tests.{inTableOrder}
 use Rattle.binary64.specs.Numbers.{nought, whole}
-use Rattle.parameters.specs.declared.Perceptron.{Perceptron}
-use Rattle.parameters.specs.declared.Passive.{Passive}
-use Rattle.parameters.specs.declared.Arow.{Arow}
-use Rattle.training_check.specs.Rows.{Input, inputCounts, inputStarts, inputIds, inputNumbers, trainingChecked, perceptronChecked, passiveChecked, arowChecked}
+use Rattle.parameters.specs.Parameters.{Parameter, perceptronsOwn, passivesOwn, arowsOwn}
+use Rattle.training_check.specs.Rows.{Input, inputCounts, inputStarts, inputIds, inputNumbers, trainingChecked}
 
 -- "L=2, one word, attribute 0 of value 1 listing State features to labels 0 and 1, instance weight 1, .. reference 0"; so many instances that begin so
 abbrev p9 : ℕ → List ℕ → Float → Input
@@ -35,47 +33,50 @@ p9 instances starts value = record {
   lent = record { weights = 2; beside = 2; truly = 2; predicted = 2; order = 2 };
 }
 
-abbrev perceptron : ℕ → Float → Perceptron
-perceptron epochs epsilon = record { epochs = epochs; epsilon = epsilon; seed = 0 }
+abbrev perceptron : ℕ → Float → List Parameter
+perceptron epochs epsilon = perceptronsOwn (record { epochs = epochs; epsilon = epsilon; seed = 0 })
 
-abbrev passive : Float → ℕ → Passive
-passive c variant = record { epochs = 1; epsilon = nought; seed = 0; variant = variant; c = c; sensitive = 0; averaging = 0 }
+abbrev passive : Float → ℕ → List Parameter
+passive c variant = passivesOwn (record { epochs = 1; epsilon = nought; seed = 0; variant = variant; c = c; sensitive = 0; averaging = 0 })
+
+abbrev arow : Float → List Parameter
+arow gamma = arowsOwn (record { epochs = 1; epsilon = nought; seed = 0; variance = (whole 1); gamma = gamma })
 
 abbrev minus-zero : Float
 minus-zero = fin true 0 (pos 0)
 
 -- P9, and "Epsilon of −0 is zero"
-accepted : perceptronChecked (p9 1 (0 ∷ 1 ∷ []) (whole 1)) (perceptron 1 minus-zero) ≡ Accepted
+accepted : trainingChecked (p9 1 (0 ∷ 1 ∷ []) (whole 1)) (perceptron 1 minus-zero) ≡ Accepted
 unfolding trainingChecked lowest orNext refuse ofInt lt
 accepted = refl
 
 -- "N of 0 is 2"
-no-instance : perceptronChecked (p9 0 (0 ∷ []) (whole 1)) (perceptron 1 nought) ≡ refusedAt 2 0
+no-instance : trainingChecked (p9 0 (0 ∷ []) (whole 1)) (perceptron 1 nought) ≡ refusedAt 2 0
 unfolding trainingChecked lowest orNext refuse ofInt lt
 no-instance = refl
 
 -- 4 "with the first bad instance as place", before 6
-no-words : perceptronChecked (p9 2 (0 ∷ 1 ∷ 1 ∷ []) nan) (perceptron 1 nought) ≡ refusedAt 4 1
+no-words : trainingChecked (p9 2 (0 ∷ 1 ∷ 1 ∷ []) nan) (perceptron 1 nought) ≡ refusedAt 4 1
 unfolding trainingChecked lowest orNext refuse ofInt lt
 no-words = refl
 
 -- "7 comes after every table"
-tables-first : perceptronChecked (p9 1 (0 ∷ 1 ∷ []) nan) (perceptron 0 nought) ≡ refusedAt 6 0
+tables-first : trainingChecked (p9 1 (0 ∷ 1 ∷ []) nan) (perceptron 0 nought) ≡ refusedAt 6 0
 unfolding trainingChecked lowest orNext refuse ofInt lt
 tables-first = refl
 
 -- "Epochs 0 and 1,001 are 7, place 1", also where epsilon is bad
-epochs : (perceptronChecked (p9 1 (0 ∷ 1 ∷ []) (whole 1)) (perceptron 0 nan) ≡ refusedAt 7 1) × (perceptronChecked (p9 1 (0 ∷ 1 ∷ []) (whole 1)) (perceptron 1001 nought) ≡ refusedAt 7 1)
+epochs : (trainingChecked (p9 1 (0 ∷ 1 ∷ []) (whole 1)) (perceptron 0 nan) ≡ refusedAt 7 1) × (trainingChecked (p9 1 (0 ∷ 1 ∷ []) (whole 1)) (perceptron 1001 nought) ≡ refusedAt 7 1)
 unfolding trainingChecked lowest orNext refuse ofInt lt
 epochs = (refl, refl)
 
 -- "C = 0, NaN": "tested for every variant"; "variant above 2"
-scales : (passiveChecked (p9 1 (0 ∷ 1 ∷ []) (whole 1)) (passive nought 0) ≡ refusedAt 7 3) × (passiveChecked (p9 1 (0 ∷ 1 ∷ []) (whole 1)) (passive nan 0) ≡ refusedAt 7 3) × (passiveChecked (p9 1 (0 ∷ 1 ∷ []) (whole 1)) (passive (whole 1) 3) ≡ refusedAt 7 5)
+scales : (trainingChecked (p9 1 (0 ∷ 1 ∷ []) (whole 1)) (passive nought 0) ≡ refusedAt 7 3) × (trainingChecked (p9 1 (0 ∷ 1 ∷ []) (whole 1)) (passive nan 0) ≡ refusedAt 7 3) × (trainingChecked (p9 1 (0 ∷ 1 ∷ []) (whole 1)) (passive (whole 1) 3) ≡ refusedAt 7 5)
 unfolding trainingChecked lowest orNext refuse ofInt lt
 scales = (refl, refl, refl)
 
 -- gamma not finite
-gammas : arowChecked (p9 1 (0 ∷ 1 ∷ []) (whole 1)) (record { epochs = 1; epsilon = nought; seed = 0; variance = (whole 1); gamma = inf true }) ≡ refusedAt 7 4
+gammas : trainingChecked (p9 1 (0 ∷ 1 ∷ []) (whole 1)) (arow (inf true)) ≡ refusedAt 7 4
 unfolding trainingChecked lowest orNext refuse ofInt lt
 gammas = refl
 

@@ -8,15 +8,11 @@ use Rattle.refusals.specs.Bounds.{theInstances, theWords, theAttributes, wordTa
 use Rattle.score_tables.specs.Rows.{one}
 use Rattle.refusal_rows.specs.Limits.{Limit, count, room, two}
 use Rattle.refusal_rows.specs.Tests.{Test, startsRise, linesFit, idsBelow, numbersFinite, checks}
-use Rattle.refusal_rows.specs.Parts.{partChecked}
 use Rattle.lines.specs.Tables.{Model}
 use Rattle.feature_gen.specs.Rows.{modelCounts, modelRooms, startTests, idTests}
-use Rattle.line_check.specs.Rows.{lineRooms, lineLimits, valueTests}
+use Rattle.line_check.specs.Rows.{lineRooms, valueTests}
 use Rattle.lines.specs.Data.{Data}
-use Rattle.parameters.specs.declared.Perceptron.{Perceptron}
-use Rattle.parameters.specs.declared.Passive.{Passive}
-use Rattle.parameters.specs.declared.Arow.{Arow}
-use Rattle.parameters.specs.Parameters.{Parameter, sevens, perceptronsOwn, passivesOwn, arowsOwn}
+use Rattle.parameters.specs.Parameters.{Parameter, sevens}
 use Rattle.training_check.specs.declared.Lent.{Lent}
 
 -- what every trainer is given: "Feature counts and trainers are lent no weight table"
@@ -94,81 +90,17 @@ inputNumbers d = valueTests (d .words) ++ numbersFinite instanceWeightTable (d .
 
 -- ---- the order: "The lowest number wins"
 
--- a trainer with these parameters of its own
-unfoldable pub trainingChecked : Input → List Parameter → Checked
-trainingChecked g parameters =
-    first
-    (one (g .model .labels)
+-- 1 to 6, which every trainer shares
+abbrev pub inputRows : Input → List Checked
+inputRows g =
+    one (g .model .labels)
     ∷ two (inputCounts g)
     ∷ two (inputRooms g)
     ∷ checks (inputStarts g)
     ++ checks (lengthTests (g .corpus))
     ++ checks (inputIds g)
     ++ checks (inputNumbers (g .corpus))
-    ++ sevens parameters)
 
-abbrev pub perceptronChecked : Input → Perceptron → Checked
-perceptronChecked g p = trainingChecked g (perceptronsOwn p)
-
-abbrev pub passiveChecked : Input → Passive → Checked
-passiveChecked g p = trainingChecked g (passivesOwn p)
-
-abbrev pub arowChecked : Input → Arow → Checked
-arowChecked g p = trainingChecked g (arowsOwn p)
-
--- what the three share: everything before 7
-unfoldable pub inputChecked : Input → Checked
-inputChecked g =
-    first
-    (one (g .model .labels)
-    ∷ two (inputCounts g)
-    ∷ two (inputRooms g)
-    ∷ checks (inputStarts g)
-    ++ checks (lengthTests (g .corpus))
-    ++ checks (inputIds g)
-    ++ checks (inputNumbers (g .corpus)))
-
--- ---- the same in the parts that are checked apart: the model's tables, the instances with what they are made of, the buffers
-
--- 2, 3 and 4 of so many instances, with so many words in all
-abbrev pub instanceLimits : ℕ → ℕ → List ℕ → List Limit
-instanceLimits instances words starts =
-    count theInstances instances
-    ∷ count theWords words
-    ∷ room (length starts) (instances + 1)
-    ∷ []
-
-abbrev pub instanceTests : ℕ → ℕ → List ℕ → List Test
-instanceTests instances words starts =
-    startsRise wordTable starts instances words
-    ∷ linesFit starts instances
-    ∷ []
-
-unfoldable pub instancesSized : ℕ → ℕ → List ℕ → Checked
-instancesSized instances words starts = two (instanceLimits instances words starts)
-
-unfoldable pub instancesChecked : ℕ → ℕ → List ℕ → Checked
-instancesChecked instances words starts = partChecked (instanceLimits instances words starts) (instanceTests instances words starts)
-
--- 2 to 6 of the instances, their words, a reference label for each word and a weight for each instance
-abbrev pub dataLimits : Data → List Limit
-dataLimits d =
-    instanceLimits (d .instances) (d .count) (d .starts)
-    ++ lineLimits (d .count) (d .words)
-    ++ (room (length (d .references)) (d .count) ∷ [])
-    ++ (room (length (d .weights)) (d .instances) ∷ [])
-
-abbrev pub dataTests : ℕ → Data → List Test
-dataTests labels d =
-    startsRise wordTable (d .starts) (d .instances) (d .count)
-    ∷ startsRise attributeTable (d .words .starts) (d .count) (d .words .size)
-    ∷ linesFit (d .starts) (d .instances)
-    ∷ idsBelow referenceTable (d .references) (d .count) labels
-    ∷ inputNumbers d
-
-unfoldable pub dataChecked : ℕ → Data → Checked
-dataChecked labels d = partChecked (dataLimits d) (dataTests labels d)
-
--- 2 of the result and work buffers
-unfoldable pub lentChecked : ℕ → ℕ → Lent → Checked
-lentChecked features instances lent = partChecked (lentRooms features instances lent) []
+-- then 7: a trainer with these parameters of its own
+unfoldable pub trainingChecked : Input → List Parameter → Checked
+trainingChecked g parameters = first (inputRows g ++ sevens parameters)

@@ -9,7 +9,7 @@ ghost use Rattle.refusals.specs.Bounds.{theLineWords, outsideIts};
 ghost use Rattle.refusal_rows.specs.Tests.{lengthsChecked};
 ghost use Rattle.feature_gen.specs.Lent.{modelWas};
 ghost use Rattle.lines.specs.Entry.{dataWas};
-ghost use Rattle.training_check.specs.Rows.{instancesSized, instancesChecked, dataChecked, lentChecked, inputChecked};
+ghost use Rattle.training_check.specs.Parts.{instancesSized, instancesChecked, dataChecked, lentChecked, inputChecked};
 use feature_gen::Counts;
 use lines::Totals;
 use refusals::Checked;

@@ -75,19 +75,19 @@ fn look_at(scored: bool, agree: bool, s: Progress) -> Found
     Found::Differ
 }
 
-// The labels agree where none is wrong, whichever the epoch: the visits of the first are those below the number of instances.
-fn agree(instances: usize, wrong: u32, visits: u64) -> bool
+// The labels agree where none is wrong, whichever the epoch.
+fn agree(wrong: u32) -> bool
     ensures { λ r. ⌜ r ≡ eqb wrong 0 ⌝ }
 {
     wrong == 0
 }
 
-// What a visit of a training with so many instances finds.
-pub fn look(instances: usize, scored: bool, wrong: u32, s: Progress) -> Found
+// What a visit finds.
+pub fn look(scored: bool, wrong: u32, s: Progress) -> Found
     requires { ⌜ (s .visits < 2 ^ 53) × (s .updates ≤ s .visits) ⌝ }
     ensures { λ r. ⌜ ((learned : Learned) → r ≡ looked scored (eqb wrong 0) (record { progress = s; learned = learned })) ⌝ }
 {
-    look_at(scored, agree(instances, wrong, s.visits), s)
+    look_at(scored, agree(wrong), s)
 }
 
 // 9: whether the tables that a visit changed are finite, and the epoch's loss.

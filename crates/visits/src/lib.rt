@@ -1,7 +1,7 @@
 // One visit, shared by the three trainers: predict with the present weights, compare with the reference, update. What differs
 // between the trainers is the update alone, in the crate updates.
 ghost use Rattle.training.specs.Visits.{visited};
-ghost use Rattle.prediction.specs.Tables.{modelAt, modelWas, wordsAt, wordsWas, dataAt, dataWas};
+ghost use Rattle.prediction.specs.Tables.{trainingModelAt, trainingModelWas, wordsAt, wordsWas, trainingDataAt, trainingDataWas};
 ghost use Rattle.parameters.specs.Trainers.{ruleOf};
 ghost use Rattle.updates.specs.Updating.{stateOf, Agreed, VisitCounted, settled};
 ghost use Rattle.visits.specs.Visitable.{Visitable, Correctable, mistakeOf};
@@ -37,11 +37,11 @@ fn correct(
     truly: &mut [f64],
     predicted: &mut [f64],
 ) -> Progress
-    requires { let m = modelAt sizes kinds destinations sources starts entries «label_starts» «label_entries» in
+    requires { let m = trainingModelAt sizes kinds destinations sources starts entries «label_starts» «label_entries» in
         let w = wordsAt sizes begins ids values in
         ⌜ Correctable sizes m w first words (now references) (now path) p s (now weights) (now beside) (now truly) (now predicted) ⌝ }
     ensures { λ r.
-        let m = modelWas sizes kinds destinations sources starts entries «label_starts» «label_entries» in
+        let m = trainingModelWas sizes kinds destinations sources starts entries «label_starts» «label_entries» in
         let w = wordsWas sizes begins ids values in
         let k = mistakeOf m w first words (now (references .entry)) (now (path .entry)) p weight (s .visits) in
         let before = stateOf s (now (weights .entry)) (now (beside .entry)) in
@@ -125,12 +125,12 @@ pub fn visit(
     truly: &mut [f64],
     predicted: &mut [f64],
 ) -> Progress
-    requires { let m = modelAt sizes kinds destinations sources starts entries «label_starts» «label_entries» in
-        let d = dataAt sizes lines begins ids values references shares in
+    requires { let m = trainingModelAt sizes kinds destinations sources starts entries «label_starts» «label_entries» in
+        let d = trainingDataAt sizes lines begins ids values references shares in
         ⌜ Visitable sizes m d i s (now weights) (now beside) (now truly) (now predicted) ⌝ }
     ensures { λ r.
-        let m = modelWas sizes kinds destinations sources starts entries «label_starts» «label_entries» in
-        let d = dataWas sizes lines begins ids values references shares in
+        let m = trainingModelWas sizes kinds destinations sources starts entries «label_starts» «label_entries» in
+        let d = trainingDataWas sizes lines begins ids values references shares in
         let before = stateOf s (now (weights .entry)) (now (beside .entry)) in
         ⌜ Agreed (stateOf r (now (weights .exit)) (now (beside .exit))) (visited (ruleOf trainer) m d i before) ⌝ }
     ensures { λ r. ⌜ VisitCounted s r ⌝ }
@@ -158,7 +158,7 @@ pub fn visit(
         reference,
         &mut path[..words],
     );
-    let found = updates::look(sizes.instances, p.finite, p.wrong, s);
+    let found = updates::look(p.finite, p.wrong, s);
     if let Found::Ended(progress) = found {
         return progress;
     }

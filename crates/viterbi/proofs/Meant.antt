@@ -4,17 +4,12 @@ use mathlib.Core.List.{List, [], _∷_}
 use mathlib.Core.Logic.{_↔_}
 use Prim.Native.Nat.{ℕ, _≤_, _<_}
 use native.Mathlib.Omega.{arith}
-use borrow.Author.Tests.{ltb-false, le-ltb}
-use lib.ListN.{length}
 use lib.Ieee.{Float}
-use Rattle.refusals.proofs.Laws.{passes}
-use Rattle.score_tables.specs.Meaning.{Row}
 use Rattle.score_tables.proofs.Laws.{sized-of}
-use Rattle.score_tables.proofs.Order.{row}
-use Rattle.score_tables.proofs.Meant.{one-means, four-means, two-means, finite-tables, tables-finite}
+use Rattle.score_tables.proofs.Meant.{one-means, four-means, two-means, short-means, finite-tables, tables-finite}
 use Rattle.refusal_rows.proofs.Groups.{Group, single, given-first, given-after, accepted-when, given-only}
 use Rattle.refusal_rows.proofs.TableGroups.{pair, tableSixes}
-use Rattle.viterbi.specs.Rows.{pathShort, decodeChecked}
+use Rattle.viterbi.specs.Rows.{decodeChecked}
 use Rattle.viterbi.specs.Meaning.{Meaning, DecodingMeans, AnswersMean}
 use Rattle.refusals.specs.declared.Checked.{Checked}
 use Rattle.refusals.specs.Refusals.{numbered}
@@ -24,9 +19,6 @@ use Rattle.best_path.specs.Decoded.{decodedSum}
 use Rattle.best_path.specs.Lead.{Lead, lead}
 use Rattle.viterbi.specs.Promise.{SumAndLead, decoded, scoresOf, checkedOf, answerTo}
 
-short-means : (path : List ℕ) (words : ℕ) → Row (pathShort words path) 2 (words ≤ length path)
-short-means path words = row 2 _ (λ h. ltb-false (length path) words (passes 2 0 _ h)) (λ l. le-ltb (length path) words l)
-
 module _ (labels words : ℕ) (transitions states : List Float) (path : List ℕ) where
   abbrev ones : Group
   ones = single (one-means labels)
@@ -35,7 +27,7 @@ module _ (labels words : ℕ) (transitions states : List Float) (path : List ℕ
   fours = single (four-means words)
 
   abbrev twos : Group
-  twos = pair (two-means labels words transitions states) (short-means path words)
+  twos = pair (two-means labels words transitions states) (short-means words path)
 
   abbrev sixes : Group
   sixes = tableSixes labels words transitions states

@@ -14,7 +14,7 @@ use Rattle.training.specs.Visits.{visited}
 use Rattle.training.specs.Epochs.{Run, epochUnlessOver}
 use Rattle.training.specs.Orders.{OrderOf}
 use Rattle.training.proofs.Orders.{places-below}
-use Rattle.prediction.specs.Tables.{modelOf, dataOf}
+use Rattle.prediction.specs.Tables.{trainingModelOf, trainingDataOf}
 use Rattle.parameters.specs.Trainers.{ruleOf}
 use Rattle.updates.specs.Updating.{stateOf, Exact}
 use Rattle.epochs.proofs.Laws.{dealt-keeps, all-run, run-on, run-ended}
@@ -29,7 +29,7 @@ Inv-loop trainer sizes kinds destinations sources starts entries label-starts la
     × (progress .visits ≤ e * most theInstances)
     × (progress .updates ≤ progress .visits)
     × OrderOf (sizes .instances) order
-    × (_≡_ {A = Run} (record { state = stateOf progress weights beside; deal = record { state = g; order = order }; epochs = e; over = false }) (through (epochUnlessOver (visited (ruleOf trainer) (modelOf sizes kinds destinations sources starts entries label-starts label-entries) (dataOf sizes lines begins ids values references shares)) (stops (ruleOf trainer) epsilon) (sizes .instances)) 0 e (record { state = stateOf progress₀ weights₀ beside₀; deal = record { state = seed; order = order₀ }; epochs = 0; over = false })))
+    × (_≡_ {A = Run} (record { state = stateOf progress weights beside; deal = record { state = g; order = order }; epochs = e; over = false }) (through (epochUnlessOver (visited (ruleOf trainer) (trainingModelOf sizes kinds destinations sources starts entries label-starts label-entries) (trainingDataOf sizes lines begins ids values references shares)) (stops (ruleOf trainer) epsilon) (sizes .instances)) 0 e (record { state = stateOf progress₀ weights₀ beside₀; deal = record { state = seed; order = order₀ }; epochs = 0; over = false })))
 
 abbrev μ-loop : tie.MeasureT-loop
 μ-loop trainer sizes kinds destinations sources starts entries label-starts label-entries lines begins ids values references shares allowed epsilon seed order₀ weights₀ beside₀ truly₀ predicted₀ n progress₀ g₀ e₀ order weights beside truly predicted progress g e = allowed - e

@@ -1,7 +1,7 @@
 -- `line_check::check_sizes` meets its contract. Assumes nothing.
 use borrow.Author.Needs.{needs}
 use Rattle.refusals.specs.Refusals.{orNext}
-use Rattle.line_check.specs.Rows.{lineSized}
+use Rattle.line_check.specs.Parts.{lineSized}
 use Rattle.line_check.proofs.check_sizes.Statement.{statement}
 use Rattle.line_check.proofs.check_sizes.Tie as tie
 

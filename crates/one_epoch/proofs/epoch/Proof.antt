@@ -10,7 +10,7 @@ use Rattle.lines.proofs.Laws.{through-none}
 use Rattle.training.specs.Visits.{TrainingState, visited}
 use Rattle.training.specs.Epochs.{isRefused, opened, visitedAt}
 use Rattle.training.proofs.Epochs.{epoch-end}
-use Rattle.prediction.specs.Tables.{modelOf, dataOf}
+use Rattle.prediction.specs.Tables.{trainingModelOf, trainingDataOf}
 use Rattle.parameters.specs.Trainers.{ruleOf}
 use Rattle.updates.specs.Updating.{stateOf, Exact}
 use Rattle.updates.proofs.Laws.{exactly}
@@ -25,7 +25,7 @@ Inv-loop trainer sizes kinds destinations sources starts entries label-starts la
     × (progress .visits ≤ progress₀ .visits + j)
     × (progress .updates ≤ progress .visits)
     × (isRefused (progress .visit) ≡ false)
-    × (stateOf progress weights beside ≡ through (visitedAt (visited (ruleOf trainer) (modelOf sizes kinds destinations sources starts entries label-starts label-entries) (dataOf sizes lines begins ids values references shares)) order) 0 j (stateOf progress₀ weights₀ beside₀))
+    × (stateOf progress weights beside ≡ through (visitedAt (visited (ruleOf trainer) (trainingModelOf sizes kinds destinations sources starts entries label-starts label-entries) (trainingDataOf sizes lines begins ids values references shares)) order) 0 j (stateOf progress₀ weights₀ beside₀))
 
 abbrev μ-loop : tie.MeasureT-loop
 μ-loop trainer sizes kinds destinations sources starts entries label-starts label-entries lines begins ids values references shares order weights₀ beside₀ truly₀ predicted₀ n progress₀ j₀ weights beside truly predicted progress j = n - j

@@ -5,7 +5,7 @@ use borrow.Author.Needs.{needs}
 use Rattle.lines.specs.Tables.{Model, Words}
 use Rattle.fronts.proofs.Filled.{all-of}
 use Rattle.labelling.proofs.Laws.{labelled-in}
-use Rattle.prediction.specs.Tables.{modelOf, wordsFrom}
+use Rattle.prediction.specs.Tables.{trainingModelOf, wordsFrom}
 use Rattle.prediction.proofs.Laws.{transitions-sound, judged-as}
 use Rattle.prediction.proofs.predict_in.Statement.{statement}
 use Rattle.prediction.proofs.predict_in.Tie as tie
@@ -14,7 +14,7 @@ use Rattle.prediction.proofs.predict_in.Tie as tie
 abbrev model : tie.Start → Model
 model s =
     let a = s .args in
-    modelOf (a .sizes) (a .kinds .now) (a .destinations .now) (a .sources .now) (a .starts .now) (a .entries .now) (a .label-starts .now) (a .label-entries .now)
+    trainingModelOf (a .sizes) (a .kinds .now) (a .destinations .now) (a .sources .now) (a .starts .now) (a .entries .now) (a .label-starts .now) (a .label-entries .now)
 
 abbrev line : tie.Start → Words
 line s = wordsFrom (s .args .sizes) (s .args .begins .now) (s .args .ids .now) (s .args .values .now)

@@ -1,7 +1,7 @@
 -- `sequence_score::check_path` meets its contract: where the sizes are accepted there is room for what is read. Assumes nothing.
 use mathlib.Core.Path.{sym, _∙_}
 use borrow.Author.Needs.{needs}
-use Rattle.sequence_score.specs.Rows.{sizesChecked, pathChecked}
+use Rattle.sequence_score.specs.Rows.{pathSized, pathChecked}
 use Rattle.sequence_score.proofs.Laws.{after, stopped, path-room, tables-room}
 use Rattle.sequence_score.proofs.check_path.Statement.{statement}
 use Rattle.sequence_score.proofs.check_path.Tie as tie
@@ -28,7 +28,7 @@ or-next-requires : tie.Need-or-next-requires
 or-next-requires c κs = search needs
 
 returns-2 : tie.Need-returns-2
-unfolding pathChecked sizesChecked
+unfolding pathChecked pathSized
 returns-2 c =
     let a = c .before .before .before in
     rw (← a .before .before .check-sizes .ensures, c .or-next .ensures, c .before .check-finite .ensures, c .before .before .check-ids .ensures)

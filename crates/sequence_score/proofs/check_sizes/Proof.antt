@@ -1,6 +1,6 @@
 -- `sequence_score::check_sizes` meets its contract. Assumes nothing.
 use borrow.Author.Needs.{needs}
-use Rattle.sequence_score.specs.Rows.{sizesChecked}
+use Rattle.sequence_score.specs.Rows.{pathSized}
 use Rattle.sequence_score.proofs.check_sizes.Statement.{statement}
 use Rattle.sequence_score.proofs.check_sizes.Tie as tie
 
@@ -17,7 +17,7 @@ refuse-if-requires-2 : tie.Need-refuse-if-requires-2
 refuse-if-requires-2 c κs = search needs
 
 returns : tie.Need-returns
-unfolding sizesChecked
+unfolding pathSized
 returns c = rw (c .refuse-if2 .ensures, c .before .check-room .ensures, c .before .before .refuse-if .ensures, c .before .before .before .check-bounds .ensures)
 
 pub check-sizes-spec : {M : Type 1} → statement M

@@ -1,9 +1,10 @@
--- `refusals::check_ids` meets its contract, by the laws of a search. Assumes nothing.
+-- `table_checks::check_ids` meets its contract, by the laws of a search. Assumes nothing.
 use Prim.Native.Nat.{_-_}
 use native.Mathlib.Omega.{arith}
 use borrow.Author.Needs.{needs}
 use Rattle.refusals.specs.Tables.{notBelow}
-use Rattle.refusals.proofs.Laws.{Passed, begin, step, answered}
+use Rattle.refusals.proofs.Laws.{Passed, step, answered}
+use Rattle.table_checks.proofs.Passing.{begun}
 use Rattle.table_checks.proofs.check_ids.Statement.{statement}
 use Rattle.table_checks.proofs.check_ids.Tie as tie
 
@@ -16,8 +17,14 @@ abbrev μ-loop : tie.MeasureT-loop
 to-check-requires : tie.Need-to-check-requires Inv-loop μ-loop
 to-check-requires c κs = search needs
 
+all-below-requires : tie.Need-all-below-requires Inv-loop μ-loop
+all-below-requires c κs = search needs
+
+begin-at-requires : tie.Need-begin-at-requires Inv-loop μ-loop
+begin-at-requires c κs = search needs
+
 loop-holds : tie.Need-loop-holds Inv-loop μ-loop
-loop-holds c = begin
+loop-holds c = begun (c .before .all-below .ensures) (c .begin-at .ensures)
 
 mul-bad : tie.Need-mul-bad Inv-loop μ-loop
 mul-bad c = search needs
@@ -38,7 +45,7 @@ refuse-if-requires : tie.Need-refuse-if-requires Inv-loop μ-loop
 refuse-if-requires c κs = search needs
 
 returns : tie.Need-returns Inv-loop μ-loop
-returns c = answered _ _ (c .refuse-if .ensures) (c .before .before .before .to-check .ensures .1) (c .before .before .loop .inv) (λ w. w .left) (λ w. (w .0 .taken, w .2 .taken)) (c .before .loop-test .came)
+returns c = answered _ _ (c .refuse-if .ensures) (c .before .before .before .before .before .to-check .ensures .1) (c .before .before .loop .inv) (λ w. w .left) (λ w. (w .0 .taken, w .2 .taken)) (c .before .loop-test .came)
 
 pub check-ids-spec : {M : Type 1} → statement M
 check-ids-spec =
@@ -47,6 +54,8 @@ check-ids-spec =
     Inv-loop
     μ-loop
     to-check-requires
+    all-below-requires
+    begin-at-requires
     loop-holds
     mul-bad
     shared-slice-read-bad

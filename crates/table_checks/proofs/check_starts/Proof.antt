@@ -1,4 +1,4 @@
--- `refusals::check_starts` meets its contract, by the laws of a search. Assumes nothing.
+-- `table_checks::check_starts` meets its contract, by the laws of a search. Assumes nothing.
 use Prim.Native.Nat.{_-_}
 use mathlib.Core.Path.{_≡_, refl}
 use native.Mathlib.Numerals.{add-one}

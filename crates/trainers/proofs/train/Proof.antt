@@ -7,7 +7,7 @@ use Rattle.refusals.specs.declared.Checked.the-variants.{Accepted}
 use Rattle.lines.specs.Tables.{Model}
 use Rattle.lines.specs.Data.{Data}
 use Rattle.prediction.specs.declared.Sizes.{Sizes}
-use Rattle.prediction.specs.Tables.{modelOf, dataOf}
+use Rattle.prediction.specs.Tables.{trainingModelOf, trainingDataOf}
 use Rattle.training_check.specs.Sound.{LentSized}
 use Rattle.trainers.specs.Promise.{Given, Buffers, inputOf, checkedOf}
 use Rattle.trainers.specs.Lent.{sizesOf}
@@ -19,12 +19,12 @@ use Rattle.trainers.proofs.train.Tie as tie
 abbrev model : tie.Start → Sizes → Model
 model s sizes =
     let a = s .args in
-    modelOf sizes (a .kinds .now) (a .destinations .now) (a .sources .now) (a .attribute-starts .now) (a .attribute-entries .now) (a .label-starts .now) (a .label-entries .now)
+    trainingModelOf sizes (a .kinds .now) (a .destinations .now) (a .sources .now) (a .attribute-starts .now) (a .attribute-entries .now) (a .label-starts .now) (a .label-entries .now)
 
 abbrev corpus : tie.Start → Sizes → Data
 corpus s sizes =
     let a = s .args in
-    dataOf sizes (a .lines .now) (a .begins .now) (a .ids .now) (a .values .now) (a .references .now) (a .shares .now)
+    trainingDataOf sizes (a .lines .now) (a .begins .now) (a .ids .now) (a .values .now) (a .references .now) (a .shares .now)
 
 abbrev sized : tie.Start → Sizes
 sized s = sizesOf (s .args .labels) (s .args .counts) (s .args .totals)

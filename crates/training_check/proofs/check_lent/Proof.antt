@@ -1,7 +1,7 @@
 -- `training_check::check_lent` meets its contract. Assumes nothing.
 use borrow.Author.Needs.{needs}
 use Rattle.refusal_rows.specs.Parts.{partChecked}
-use Rattle.training_check.specs.Rows.{lentChecked}
+use Rattle.training_check.specs.Parts.{lentChecked}
 use Rattle.training_check.proofs.check_lent.Statement.{statement}
 use Rattle.training_check.proofs.check_lent.Tie as tie
 

@@ -1,7 +1,7 @@
 -- `training_check::check_sizes` meets its contract. Assumes nothing.
 use borrow.Author.Needs.{needs}
 use Rattle.refusals.specs.Refusals.{orNext}
-use Rattle.training_check.specs.Rows.{instancesSized}
+use Rattle.training_check.specs.Parts.{instancesSized}
 use Rattle.training_check.proofs.check_sizes.Statement.{statement}
 use Rattle.training_check.proofs.check_sizes.Tie as tie
 

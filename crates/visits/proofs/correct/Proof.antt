@@ -4,7 +4,7 @@ use native.Mathlib.Nat.{le-of-eq}
 use native.Mathlib.Omega.{arith}
 use borrow.Author.Needs.{needs}
 use Rattle.lines.specs.Tables.{Model}
-use Rattle.prediction.specs.Tables.{modelOf}
+use Rattle.prediction.specs.Tables.{trainingModelOf}
 use Rattle.fronts.proofs.Filled.{all-of}
 use Rattle.visits.proofs.Laws.{settled-as}
 use Rattle.visits.proofs.correct.Statement.{statement}
@@ -14,7 +14,7 @@ use Rattle.visits.proofs.correct.Tie as tie
 abbrev model : tie.Start → Model
 model s =
     let a = s .args in
-    modelOf (a .sizes) (a .kinds .now) (a .destinations .now) (a .sources .now) (a .starts .now) (a .entries .now) (a .label-starts .now) (a .label-entries .now)
+    trainingModelOf (a .sizes) (a .kinds .now) (a .destinations .now) (a .sources .now) (a .starts .now) (a .entries .now) (a .label-starts .now) (a .label-entries .now)
 
 -- the places that facts are taken from, each found from the one after it
 abbrev entry : tie.After-count-line → tie.Start

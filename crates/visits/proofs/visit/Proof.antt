@@ -9,7 +9,7 @@ use lib.Seq.{length-take-le}
 use Rattle.lines.specs.Tables.{Model}
 use Rattle.lines.specs.Data.{Data}
 use Rattle.training.specs.Visits.{TrainingState}
-use Rattle.prediction.specs.Tables.{modelOf, dataOf}
+use Rattle.prediction.specs.Tables.{trainingModelOf, trainingDataOf}
 use Rattle.updates.specs.Updating.{stateOf}
 use Rattle.visits.proofs.Laws.{some-words, few-words, all-words, line-sound, ended-counted, ended-there, other-front}
 use Rattle.visits.proofs.visit.Statement.{statement}
@@ -19,12 +19,12 @@ use Rattle.visits.proofs.visit.Tie as tie
 abbrev model : tie.Start → Model
 model s =
     let a = s .args in
-    modelOf (a .sizes) (a .kinds .now) (a .destinations .now) (a .sources .now) (a .starts .now) (a .entries .now) (a .label-starts .now) (a .label-entries .now)
+    trainingModelOf (a .sizes) (a .kinds .now) (a .destinations .now) (a .sources .now) (a .starts .now) (a .entries .now) (a .label-starts .now) (a .label-entries .now)
 
 abbrev data-of : tie.Start → Data
 data-of s =
     let a = s .args in
-    dataOf (a .sizes) (a .lines .now) (a .begins .now) (a .ids .now) (a .values .now) (a .references .now) (a .shares .now)
+    trainingDataOf (a .sizes) (a .lines .now) (a .begins .now) (a .ids .now) (a .values .now) (a .references .now) (a .shares .now)
 
 abbrev state : tie.Start → TrainingState
 state s = stateOf (s .args .s) (s .args .weights .now) (s .args .beside .now)

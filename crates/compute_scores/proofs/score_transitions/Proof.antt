@@ -1,4 +1,4 @@
--- `line_scores::score_transitions` meets its contract. The loop's invariant: the label lists before this one are added. Assumes nothing.
+-- `compute_scores::score_transitions` meets its contract. The loop's invariant: the label lists before this one are added. Assumes nothing.
 use Prim.Native.Nat.{_≤_, _<_, _-_}
 use mathlib.Core.Path.{_≡_, refl}
 use native.Mathlib.Omega.{arith}
@@ -10,9 +10,9 @@ use Rattle.lines.specs.Scored.{transitionEntry}
 use Rattle.lines.specs.Lent.{bare, withTransitions}
 use Rattle.lines.proofs.Laws.{through-none, through-next}
 use Rattle.lines.proofs.Spans.{span-sound, list-turn}
-use Rattle.line_scores.proofs.TransitionTurns.{labels-end}
-use Rattle.line_scores.proofs.score_transitions.Statement.{statement}
-use Rattle.line_scores.proofs.score_transitions.Tie as tie
+use Rattle.compute_scores.proofs.TransitionTurns.{labels-end}
+use Rattle.compute_scores.proofs.score_transitions.Statement.{statement}
+use Rattle.compute_scores.proofs.score_transitions.Tie as tie
 
 abbrev Inv-loop : tie.InvT-loop
 Inv-loop labels features kinds destinations sources weights lists starts entries transitions₀ shared label₀ transitions label =

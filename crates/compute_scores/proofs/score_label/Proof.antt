@@ -1,4 +1,4 @@
--- `line_scores::score_label` meets its contract. The loop's invariant: the entries before this one are added. Assumes nothing.
+-- `compute_scores::score_label` meets its contract. The loop's invariant: the entries before this one are added. Assumes nothing.
 use Prim.Native.Nat.{_-_}
 use mathlib.Core.Path.{_≡_, refl}
 use mathlib.Core.List.{[]}
@@ -8,8 +8,8 @@ use lib.ListN.{length}
 use Rattle.lines.specs.Scored.{transitionEntry}
 use Rattle.lines.proofs.Laws.{Passed, passed-none, passed-next, passed-end}
 use Rattle.lines.specs.Lent.{bare, withTransitions}
-use Rattle.line_scores.proofs.score_label.Statement.{statement}
-use Rattle.line_scores.proofs.score_label.Tie as tie
+use Rattle.compute_scores.proofs.score_label.Statement.{statement}
+use Rattle.compute_scores.proofs.score_label.Tie as tie
 
 abbrev Inv-loop : tie.InvT-loop
 Inv-loop labels features kinds destinations sources weights entries transitions₀ last e₀ transitions e =

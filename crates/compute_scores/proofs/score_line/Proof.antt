@@ -1,4 +1,4 @@
--- `line_scores::score_line` meets its contract. The loop's invariant: the words before this one are scored. Assumes nothing.
+-- `compute_scores::score_line` meets its contract. The loop's invariant: the words before this one are scored. Assumes nothing.
 use Prim.Native.Nat.{_≤_, _<_, _-_, _+_}
 use mathlib.Core.Path.{_≡_, refl}
 use native.Mathlib.Omega.{arith}
@@ -10,9 +10,9 @@ use Rattle.lines.specs.Scored.{scoredAt, scoredWord}
 use Rattle.lines.proofs.Laws.{through-none, through-next}
 use Rattle.lines.proofs.Fronts.{row-room}
 use Rattle.lines.specs.Lent.{bare, withStates}
-use Rattle.line_scores.proofs.StateTurns.{word-turn, line-end}
-use Rattle.line_scores.proofs.score_line.Statement.{statement}
-use Rattle.line_scores.proofs.score_line.Tie as tie
+use Rattle.compute_scores.proofs.StateTurns.{word-turn, line-end}
+use Rattle.compute_scores.proofs.score_line.Statement.{statement}
+use Rattle.compute_scores.proofs.score_line.Tie as tie
 
 abbrev Inv-loop : tie.InvT-loop
 Inv-loop labels features kinds destinations weights lists starts entries begins ids values first words states₀ word₀ states word =

@@ -1,4 +1,4 @@
--- `line_scores::state_entry` meets its contract: the destination is a label, so its place is in the word's row. Assumes nothing.
+-- `compute_scores::state_entry` meets its contract: the destination is a label, so its place is in the word's row. Assumes nothing.
 use Prim.Native.Nat.{_+_, _*_, _<_}
 use native.Mathlib.Omega.{arith}
 use borrow.Author.Needs.{needs}
@@ -6,8 +6,8 @@ use borrow.Author.Tests.{eq-eqb, ne-eqb}
 use lib.ListN.{length}
 use Rattle.lines.specs.Passes.{raised}
 use Rattle.lines.specs.Scored.{stateEntry}
-use Rattle.line_scores.proofs.state_entry.Statement.{statement}
-use Rattle.line_scores.proofs.state_entry.Tie as tie
+use Rattle.compute_scores.proofs.state_entry.Statement.{statement}
+use Rattle.compute_scores.proofs.state_entry.Tie as tie
 
 abbrev start : tie.After-at → tie.Start
 start a = search

@@ -1,4 +1,4 @@
--- `line_scores::score_attribute` meets its contract. The loop's invariant: the entries before this one are added. Assumes nothing.
+-- `compute_scores::score_attribute` meets its contract. The loop's invariant: the entries before this one are added. Assumes nothing.
 use Prim.Native.Nat.{_-_}
 use mathlib.Core.Path.{_≡_, refl}
 use mathlib.Core.List.{[]}
@@ -8,8 +8,8 @@ use lib.ListN.{length}
 use Rattle.lines.specs.Scored.{stateEntry}
 use Rattle.lines.proofs.Laws.{Passed, passed-none, passed-next, passed-end}
 use Rattle.lines.specs.Lent.{bare, withStates}
-use Rattle.line_scores.proofs.score_attribute.Statement.{statement}
-use Rattle.line_scores.proofs.score_attribute.Tie as tie
+use Rattle.compute_scores.proofs.score_attribute.Statement.{statement}
+use Rattle.compute_scores.proofs.score_attribute.Tie as tie
 
 abbrev Inv-loop : tie.InvT-loop
 Inv-loop labels features kinds destinations weights entries word states₀ value last e₀ states e =

@@ -1,4 +1,4 @@
--- `line_scores::score_word` meets its contract. The loop's invariant: the attributes before this one are scored, and this one and the places of its list are at hand. Assumes nothing.
+-- `compute_scores::score_word` meets its contract. The loop's invariant: the attributes before this one are scored, and this one and the places of its list are at hand. Assumes nothing.
 use Prim.Native.Nat.{_-_}
 use mathlib.Core.Path.{refl, _≡_}
 use mathlib.Core.List.{[]}
@@ -9,10 +9,10 @@ use Rattle.lines.specs.Spans.{attributeBefore, spanOf}
 use Rattle.lines.specs.Scored.{stateEntry, scoredAt}
 use Rattle.lines.proofs.Laws.{between-nothing, Passed, passed-none, passed-next, passed-end}
 use Rattle.lines.proofs.Spans.{span-sound}
-use Rattle.line_scores.proofs.StateTurns.{scored-turn}
+use Rattle.compute_scores.proofs.StateTurns.{scored-turn}
 use Rattle.lines.specs.Lent.{bare, withStates}
-use Rattle.line_scores.proofs.score_word.Statement.{statement}
-use Rattle.line_scores.proofs.score_word.Tie as tie
+use Rattle.compute_scores.proofs.score_word.Statement.{statement}
+use Rattle.compute_scores.proofs.score_word.Tie as tie
 
 abbrev Inv-loop : tie.InvT-loop
 Inv-loop labels features kinds destinations weights lists starts entries ids values from to word states₀ a₀ attribute₀ span₀ states a attribute span =

@@ -1,4 +1,4 @@
--- `line_scores::transition_entry` meets its contract: source and destination are labels, so their place is in the table. Assumes nothing.
+-- `compute_scores::transition_entry` meets its contract: source and destination are labels, so their place is in the table. Assumes nothing.
 use Prim.Native.Nat.{ℕ, _+_, _*_, _≤_, _<_}
 use native.Mathlib.Omega.{arith}
 use native.Mathlib.Nat.{mul-le-mul-right, le-of-lt}
@@ -8,8 +8,8 @@ use lib.ListN.{length}
 use Rattle.lines.specs.Passes.{raised}
 use Rattle.lines.specs.Scored.{transitionEntry}
 use Rattle.lines.proofs.Fronts.{in-row}
-use Rattle.line_scores.proofs.transition_entry.Statement.{statement}
-use Rattle.line_scores.proofs.transition_entry.Tie as tie
+use Rattle.compute_scores.proofs.transition_entry.Statement.{statement}
+use Rattle.compute_scores.proofs.transition_entry.Tie as tie
 
 abbrev start : tie.After-at → tie.Start
 start a = search

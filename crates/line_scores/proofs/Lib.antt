@@ -1,2 +1,0 @@
-mod StateTurns
-mod TransitionTurns

@@ -1,2 +1,0 @@
-pub mod StateEntry
-pub mod TransitionEntry
