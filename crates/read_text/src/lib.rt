@@ -89,8 +89,8 @@ fn fill_checked(
         scale_starts: scale_starts.len(),
         scale_bytes: scales.len(),
     };
-    let checked = text_check::check_text(survey, have);
-    if let Checked::Refused(why) = checked {
+    let answer = text_check::check_text(survey, have);
+    if let Checked::Refused(why) = answer {
         return TextReading::Refused(why);
     }
     let known = survey.labels;

@@ -1,6 +1,5 @@
 // What is refused of a text's bytes before anything is counted: 11, then 2 of the text's own length.
 ghost use mathlib.Core.Path.{_≡_};
-ghost use Rattle.refusals.specs.Refusals.{orNext};
 ghost use Rattle.text_check.specs.Rows.{tooLong};
 ghost use Rattle.text_bytes.specs.Bytes.{malformedAt, bytesChecked};
 use layout::Found;
@@ -23,17 +22,10 @@ fn too_long(length: usize) -> Checked
     refusals::refuse_if(Checked::Accepted, 2, 0, 4294967295 < length)
 }
 
-// 11 goes first, though 2 is the lower number.
-fn in_turn(formed: Checked, long: Checked) -> Checked
-    ensures { λ r. ⌜ r ≡ orNext formed long ⌝ }
-{
-    refusals::or_next(formed, long)
-}
-
-// 11, then 2 of the length.
+// 11, then 2 of the length: 11 goes first, though 2 is the lower number.
 pub fn check_bytes(text: &[u8]) -> Checked
     ensures { λ r. ⌜ r ≡ bytesChecked (now (text .entry)) ⌝ }
 {
     let formed = well_formed(look::look_through(text));
-    in_turn(formed, too_long(text.len()))
+    refusals::or_next(formed, too_long(text.len()))
 }

@@ -13,17 +13,17 @@ well-formed-requires c κs = search needs
 too-long-requires : tie.Need-too-long-requires
 too-long-requires c κs = search needs
 
-in-turn-requires : tie.Need-in-turn-requires
-in-turn-requires c κs = search needs
+or-next-requires : tie.Need-or-next-requires
+or-next-requires c κs = search needs
 
 returns : tie.Need-returns
 returns c =
-    let r : tie.After-in-turn = search in
+    let r : tie.After-or-next = search in
     let n : tie.After-too-long = search in
     let w : tie.After-well-formed = search in
     let l : tie.After-look-through = search in
-    bytes-said _ (l .look-through .ensures) (w .well-formed .ensures) (n .too-long .ensures) (r .in-turn .ensures)
+    bytes-said _ (l .look-through .ensures) (w .well-formed .ensures) (n .too-long .ensures) (r .or-next .ensures)
 
 pub check-bytes-spec : {M : Type 1} → statement M
 check-bytes-spec =
-    tie.close (tie.spec look-through-requires well-formed-requires too-long-requires in-turn-requires returns)
+    tie.close (tie.spec look-through-requires well-formed-requires too-long-requires or-next-requires returns)
