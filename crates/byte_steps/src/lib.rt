@@ -51,6 +51,13 @@ fn at_begin(c: Class) -> Mode
     }
 }
 
+// A bare colon ends an attribute's name; no label has one.
+fn at_colon(attribute: bool) -> Mode
+    ensures { λ r. ⌜ r ≡ cond attribute Mode.Value Mode.Bad ⌝ }
+{
+    if attribute { Mode::Value } else { Mode::Bad }
+}
+
 // Inside a name, an attribute's or a label.
 fn in_name(attribute: bool, c: Class) -> Mode
     ensures { λ r. ⌜ r ≡ nextMode (Mode.Inside attribute) c ⌝ }
@@ -58,7 +65,7 @@ fn in_name(attribute: bool, c: Class) -> Mode
     match c {
         Class::Tab => Mode::Field,
         Class::Feed => Mode::Begin,
-        Class::Colon => { if attribute { Mode::Value } else { Mode::Bad } }
+        Class::Colon => at_colon(attribute),
         Class::Slash => Mode::Slashed(attribute),
         Class::Minus => Mode::Inside(attribute),
         Class::Point => Mode::Inside(attribute),

@@ -12,8 +12,8 @@ use Rattle.layout.specs.declared.Found.{Found}
 use Rattle.layout.specs.declared.Found.the-variants.{Whole, At}
 use Rattle.layout.specs.Scan.{nextMode, classOf, alive, accepting, lookFrom, look}
 use Rattle.layout.proofs.Laws.{look-on, look-dead, look-end}
-use Rattle.names.specs.declared.Stop.{Stop}
-use Rattle.names.specs.Windows.{Window, WalkedTo, Passed, nameMode}
+use Rattle.look.specs.declared.Stop.{Stop}
+use Rattle.look.specs.Windows.{Window, WalkedTo, Passed, nameMode}
 use Rattle.look.specs.declared.Reached.{Reached}
 use Rattle.look.specs.Turns.{Onward, Turned}
 

@@ -1,14 +1,84 @@
-// The look through a text for 11, window by window.
-ghost use mathlib.Core.Bool.{true};
+// The look through a text for 11, window by window. Through a name the plain-character step and the after-backslash step call each
+// other as the remaining bytes fall; a window has at most 64 bytes, so that no text can exhaust the stack.
+ghost use mathlib.Core.Bool.{true, false};
 ghost use mathlib.Core.Path.{_≡_};
-ghost use Prim.Native.Nat.{_<_, _≤_};
+ghost use Prim.Native.Nat.{_+_, _<_, _≤_};
 ghost use lib.ListN.{length};
 ghost use Rattle.layout.specs.Scan.{look, alive};
-ghost use Prim.Native.Nat.{_+_};
-ghost use Rattle.names.specs.Windows.{Window, nameMode};
+ghost use Rattle.look.specs.Windows.{Window, nameMode, Passed, WalkedTo};
 ghost use Rattle.look.specs.Turns.{Onward, Turned};
 use layout::Found;
 use layout::Mode;
+
+// Where a walk stopped, and in which of its two states.
+pub struct Stop {
+    pub at: usize,
+    pub slashed: bool,
+}
+
+// Over a run of plain characters, which need no step each: to the first byte that is none, or to the end of the window.
+fn plain_run(text: &[u8], at: usize, end: usize) -> usize
+    requires { ⌜ Window (now text) at end ⌝ }
+    ensures { λ r. ⌜ Passed (now (text .entry)) at end r ⌝ }
+{
+    let mut i = at;
+    while i < end {
+        let b = text[i];
+        if b == 92 {
+            return i;
+        }
+        if (b == 9) | (b == 10) | (b == 58) {
+            return i;
+        }
+        i += 1;
+    }
+    i
+}
+
+// From a place inside a name.
+fn plain(text: &[u8], at: usize, end: usize) -> Stop
+    requires { ⌜ Window (now text) at end ⌝ }
+    ensures { λ r. ⌜ WalkedTo (now (text .entry)) false at end r ⌝ }
+{
+    if at == end {
+        return Stop {
+            at: at,
+            slashed: false,
+        };
+    }
+    let b = text[at];
+    if b == 92 {
+        return behind(text, at + 1, end);
+    }
+    if (b == 9) | (b == 10) | (b == 58) {
+        return Stop {
+            at: at,
+            slashed: false,
+        };
+    }
+    plain(text, at + 1, end)
+}
+
+// From the place behind a backslash.
+fn behind(text: &[u8], at: usize, end: usize) -> Stop
+    requires { ⌜ Window (now text) at end ⌝ }
+    ensures { λ r. ⌜ WalkedTo (now (text .entry)) true at end r ⌝ }
+{
+    if at == end {
+        return Stop {
+            at: at,
+            slashed: true,
+        };
+    }
+    let b = text[at];
+    if (b == 58) | (b == 92) {
+        return plain(text, at + 1, end);
+    }
+    Stop {
+        at: at,
+        slashed: true,
+    }
+}
 
 // How far a look has come.
 pub struct Reached {
@@ -49,12 +119,12 @@ fn through_name(text: &[u8], at: usize, end: usize, mode: Mode) -> Reached
 {
     match mode {
         Mode::Inside(k) => {
-            let i = names::plain_run(text, at, end);
-            let s = names::plain(text, i, end);
+            let i = plain_run(text, at, end);
+            let s = plain(text, i, end);
             in_mode(s.at, s.slashed, k)
         }
         Mode::Slashed(k) => {
-            let s = names::behind(text, at, end);
+            let s = behind(text, at, end);
             in_mode(s.at, s.slashed, k)
         }
         Mode::Begin => Reached { at: at, mode: mode },

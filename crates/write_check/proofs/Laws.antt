@@ -21,7 +21,7 @@ use Rattle.refusal_rows.proofs.Means.{two-means, broken-parts, test-means, fitt
 use Rattle.text_tables.specs.Tables.{Strings}
 use Rattle.text_tables.specs.Written.{writtenText}
 use Rattle.text_writing.specs.Ready.{StringStands, ListStands, AttributeStands, WordStands, SequenceStands}
-use Rattle.text_length.specs.Sums.{LabelStands, Measurable}
+use Rattle.text_writing.specs.Sums.{LabelStands, Measurable}
 use Rattle.write_check.specs.Rows.{Unchecked, writtenCounts, wordRooms, stringRooms, writtenRooms, writtenStarts, writtenLengths, writtenIds, textRoom, readRows, textRows, writeChecked, writeSized, writeRead}
 use Rattle.write_check.specs.Sound.{WriteFits, SoundUnwritten}
 

@@ -12,7 +12,7 @@ use Rattle.layout.specs.Layout.{escaped, scaleText, attributesText, lineText, m
 use Rattle.text_tables.specs.Tables.{Strings}
 use Rattle.text_tables.specs.Written.{stringAt, placesFrom, allLines}
 use Rattle.text_writing.specs.Ready.{strings, lentTables}
-use Rattle.carried.specs.Carry.{unclean, noScaleFrom, behindMinus}
+use Rattle.write_check.specs.Carry.{unclean, noScaleFrom, behindMinus}
 use Rattle.write_check.specs.Rows.{Unchecked, writtenCounts, writtenStarts, writtenIds, writeChecked}
 
 -- T1's tables with these ids, label names, attribute names and kept texts

@@ -1,3 +1,4 @@
+pub mod Carry
 pub mod Rows
 pub mod Sound
 pub mod Examples

@@ -14,7 +14,7 @@ use Rattle.lines.specs.declared.Totals.{Totals}
 use Rattle.lines.specs.Entry.{Numbers}
 use Rattle.text_tables.specs.Written.{Unwritten, writtenText}
 use Rattle.text_writing.specs.Ready.{strings, lentTables}
-use Rattle.carried.specs.Carry.{Carry, named, kept, carries}
+use Rattle.write_check.specs.Carry.{Carry, named, kept, carries}
 use Rattle.write_check.specs.declared.Names.{Names}
 
 -- what the writer is given to read: how many there are of each, and the tables, with the instances among them

@@ -12,8 +12,8 @@ use Rattle.refusal_rows.proofs.Groups.{Group}
 use Rattle.text_tables.specs.Tables.{Strings}
 use Rattle.text_tables.specs.Written.{stringAt}
 use Rattle.layout.specs.Layout.{Name, KeptText}
-use Rattle.carried.specs.Carry.{noName, notKept, Carry, named, kept, carried, carries, rowsIn, Uncarried, EachCarried, AllCarried, FirstUncarried}
-use Rattle.carried.proofs.Meant.{names-mean, kept-means}
+use Rattle.write_check.specs.Carry.{noName, notKept, Carry, named, kept, carried, carries, rowsIn, Uncarried, EachCarried, AllCarried, FirstUncarried}
+use Rattle.write_check.proofs.Carried.{names-mean, kept-means}
 
 -- a test that fails exactly where something holds, holds exactly where it does not
 otherwise : {Fine : Type 0} (b : Bool) → b ≡ false ↔ Fine → b ≡ true ↔ (Fine → ⊥)

@@ -12,7 +12,7 @@ use Rattle.refusal_rows.specs.Limits.{AllWithin, Fitting}
 use Rattle.refusal_rows.specs.Tests.{AllGood, FirstBadOf}
 use Rattle.refusal_rows.specs.Given.{AtZero, OneOf}
 use Rattle.layout.specs.Layout.{Bytes}
-use Rattle.carried.specs.Carry.{AllCarried, FirstUncarried}
+use Rattle.write_check.specs.Carry.{AllCarried, FirstUncarried}
 use Rattle.write_check.specs.Rows.{Unchecked, writtenCounts, writtenRooms, writtenStarts, writtenLengths, writtenIds, textRoom, writtenCarries, writeChecked}
 use Rattle.write_text.specs.Promise.{Outcome, said, Promised}
 

@@ -1,3 +1,4 @@
+-- `distinct::ends_at` meets its contract. Assumes nothing.
 use Rattle.distinct.proofs.Loops.{ends-inside, ends-behind}
 use borrow.Author.Needs.{needs}
 use Rattle.distinct.proofs.ends_at.Statement.{statement}
@@ -5,15 +6,12 @@ use Rattle.distinct.proofs.ends_at.Tie as tie
 use Rattle.distinct.proofs.ends_at.Reads as reads
 use Rattle.distinct.proofs.ends_at.Lts as lts
 
--- src/lib.rt:49:17
 shared-slice-read-b : tie.Need-shared-slice-read-b
 shared-slice-read-b c = search needs
 
--- src/lib.rt:50:9
 returns : tie.Need-returns
 returns c = ends-inside _ _ (c .before .if1 .taken)
 
--- src/lib.rt:45:1
 returns-2 : tie.Need-returns-2
 returns-2 c = ends-behind _ _ (c .if1 .left)
 

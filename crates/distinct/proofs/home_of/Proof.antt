@@ -1,3 +1,4 @@
+-- `distinct::home_of` meets its contract. Assumes nothing.
 use Prim.Native.Nat.{_*_}
 use native.Mathlib.Nat.{mod-lt}
 use lib.Dec.{lit<}
@@ -18,45 +19,36 @@ Inv-loop text from to size h₀ i₀ h i = Hashing text from to h i
 abbrev μ-loop : tie.MeasureT-loop
 μ-loop text from to size h₀ i₀ h i = to - i
 
--- src/lib.rt:37:5
 loop-holds : tie.Need-loop-holds Inv-loop μ-loop
 loop-holds c = hash-begins _ _ _ (c .before .pre .0)
 
--- src/lib.rt:38:26
 shared-slice-read-hash-byte : tie.Need-shared-slice-read-hash-byte Inv-loop μ-loop
 shared-slice-read-hash-byte c = search needs
 
--- src/lib.rt:38:9
 hash-byte-requires : tie.Need-hash-byte-requires Inv-loop μ-loop
 hash-byte-requires c κs = c .before .before .loop .inv .small
 
--- src/lib.rt:39:9
 add-i : tie.Need-add-i Inv-loop μ-loop
 add-i c = search needs
 
--- src/lib.rt:37:5
 loop-less : tie.Need-loop-less Inv-loop μ-loop
 loop-less c = search needs
 
--- src/lib.rt:37:5
 loop-again : tie.Need-loop-again Inv-loop μ-loop
 loop-again c =
     let s : tie.Start Inv-loop μ-loop = search in
     let l : tie.At-loop Inv-loop μ-loop = search in
     hash-on _ _ _ _ _ _ (s .pre .1) (l .loop .inv) (c .before .before .loop-test .taken) (c .hash-byte .ensures)
 
--- src/lib.rt:41:6
 mul-result : tie.Need-mul-result Inv-loop μ-loop
 mul-result c = search needs
 
--- src/lib.rt:41:6
 mul-result-2 : tie.Need-mul-result-2 Inv-loop μ-loop
 mul-result-2 c =
     let s : tie.Start Inv-loop μ-loop = search in
     let l : tie.At-loop Inv-loop μ-loop = search in
     omega (arith, share-fits (s .args .size) _ (mod-lt (l .loop .h * 2654435769) (lit< tt)) (s .pre .2))
 
--- src/lib.rt:31:1
 returns : tie.Need-returns Inv-loop μ-loop
 returns c =
     let l : tie.At-loop Inv-loop μ-loop = search in

@@ -1,3 +1,4 @@
+-- `distinct::id_of` meets its contract. Assumes nothing.
 use native.Mathlib.Omega.{arith}
 use Rattle.distinct.proofs.Learning.{searchable, slot-inside, id-new, id-old}
 use Rattle.distinct.proofs.id_of.Statement.{statement}
@@ -7,23 +8,19 @@ use Rattle.distinct.proofs.id_of.Lts as lts
 use Rattle.distinct.proofs.seek.Reads as seek-reads
 use Rattle.lines.proofs.at.Reads as at-reads
 
--- src/lib.rt:115:9
 seek-requires : tie.Need-seek-requires
 seek-requires c κs =
     let s : tie.Start = search in
     (searchable _ _ _ _ (s .pre .0), s .pre .1)
 
--- src/lib.rt:116:9
 at-requires : tie.Need-at-requires
 at-requires c κs =
     let s : tie.Start = search in
     slot-inside _ _ _ _ _ _ (s .pre .0) (c .seek .ensures)
 
--- src/lib.rt:117:32
 sub-result : tie.Need-sub-result
 sub-result c = omega (arith, c .if1 .left)
 
--- src/lib.rt:109:1
 returns : tie.Need-returns
 returns c known k =
     let s : tie.Start = search in
@@ -31,7 +28,6 @@ returns c known k =
     let v : tie.After-at = search in
     id-new _ _ _ _ _ _ _ (s .pre .0) (a .seek .ensures) (v .at .ensures) known k (c .if1 .taken)
 
--- src/lib.rt:109:1
 returns-2 : tie.Need-returns-2
 returns-2 c known k =
     let s : tie.Start = search in

@@ -1,3 +1,4 @@
+-- `distinct::label_id` meets its contract. Assumes nothing.
 use mathlib.Core.Path.{_∙_, ap}
 use mathlib.Core.List.{List}
 use Prim.Native.Nat.{_-_}
@@ -20,24 +21,20 @@ Inv-loop text positions count from to i₀ i = Comparing (namesAt text positions
 abbrev μ-loop : tie.MeasureT-loop
 μ-loop text positions count from to i₀ i = count - i
 
--- src/lib.rt:147:5
 loop-holds : tie.Need-loop-holds Inv-loop μ-loop
 loop-holds c = compare-begins _ _
 
--- src/lib.rt:148:13
 at-requires : tie.Need-at-requires Inv-loop μ-loop
 at-requires c κs =
     let s : tie.Start Inv-loop μ-loop = search in
     omega (arith, c .loop-test .taken, s .pre .0 .room)
 
--- src/lib.rt:149:12
 same-name-requires : tie.Need-same-name-requires Inv-loop μ-loop
 same-name-requires c κs =
     let s : tie.Start Inv-loop μ-loop = search in
     let b : tie.In-loop Inv-loop μ-loop = search in
     (s .pre .1, position-inside _ _ _ _ _ (s .pre .0) (b .loop-test .taken) (c .at .ensures))
 
--- src/lib.rt:150:13
 returns : tie.Need-returns Inv-loop μ-loop
 returns c known k =
     let s : tie.Start Inv-loop μ-loop = search in
@@ -48,15 +45,12 @@ returns c known k =
     compare-here _ _ _ _ _ _ _ (s .pre .0 .room) (b .loop-test .taken) (l .loop .inv) (p .at .ensures) (n .same-name .ensures) (c .if1 .taken)
     ∙ ap (λ (x : List Bytes). idIn x (nameAt (s .args .text .now) (s .args .from))) (k .names)
 
--- src/lib.rt:152:9
 add-i : tie.Need-add-i Inv-loop μ-loop
 add-i c = search needs
 
--- src/lib.rt:147:5
 loop-less : tie.Need-loop-less Inv-loop μ-loop
 loop-less c = search needs
 
--- src/lib.rt:147:5
 loop-again : tie.Need-loop-again Inv-loop μ-loop
 loop-again c =
     let s : tie.Start Inv-loop μ-loop = search in
@@ -66,7 +60,6 @@ loop-again c =
     let n : tie.After-same-name Inv-loop μ-loop = search in
     compare-on _ _ _ _ _ _ _ (s .pre .0 .room) (b .loop-test .taken) (l .loop .inv) (p .at .ensures) (n .same-name .ensures) (c .if1 .left)
 
--- src/lib.rt:140:1
 returns-2 : tie.Need-returns-2 Inv-loop μ-loop
 returns-2 c known k =
     let s : tie.Start Inv-loop μ-loop = search in

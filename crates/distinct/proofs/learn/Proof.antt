@@ -1,3 +1,4 @@
+-- `distinct::learn` meets its contract. Assumes nothing.
 use native.Mathlib.Omega.{arith}
 use Rattle.distinct.proofs.Learning.{searchable, slot-inside, name-new, name-old}
 use borrow.Author.Needs.{needs}
@@ -9,58 +10,47 @@ use Rattle.distinct.proofs.in_slot.Reads as in-slot-reads
 use Rattle.distinct.proofs.seek.Reads as seek-reads
 use Rattle.lines.proofs.at.Reads as at-reads
 
--- src/lib.rt:137:9
 seek-requires : tie.Need-seek-requires
 seek-requires c κs =
     let s : tie.Start = search in
     (searchable _ _ _ _ (s .pre .0 .0), s .pre .0 .1)
 
--- src/lib.rt:138:9
 at-requires : tie.Need-at-requires
 at-requires c κs =
     let s : tie.Start = search in
     let a : tie.After-seek = search in
     slot-inside _ _ _ _ _ _ (s .pre .0 .0) (a .seek .ensures)
 
--- src/lib.rt:140:20
 in-slot-requires : tie.Need-in-slot-requires
 in-slot-requires c κs = search needs
 
--- src/lib.rt:140:9
 mul-slots : tie.Need-mul-slots
 mul-slots c =
     let s : tie.Start = search in
     let a : tie.After-seek = search in
     omega (arith, slot-inside _ _ _ _ _ _ (s .pre .0 .0) (a .seek .ensures), s .pre .0 .0 .few)
 
--- src/lib.rt:140:9
 slice-write-slots : tie.Need-slice-write-slots
 slice-write-slots c =
     let s : tie.Start = search in
     let a : tie.After-seek = search in
     slot-inside _ _ _ _ _ _ (s .pre .0 .0) (a .seek .ensures)
 
--- src/lib.rt:141:28
 cast-positions : tie.Need-cast-positions
 cast-positions c = search needs
 
--- src/lib.rt:141:9
 mul-positions : tie.Need-mul-positions
 mul-positions c = search needs
 
--- src/lib.rt:141:9
 slice-write-positions : tie.Need-slice-write-positions
 slice-write-positions c = search needs
 
--- src/lib.rt:142:9
 same-length : tie.Need-same-length
 same-length c = search needs
 
--- src/lib.rt:142:9
 same-length-2 : tie.Need-same-length-2
 same-length-2 c = search needs
 
--- src/lib.rt:142:9
 returns : tie.Need-returns
 returns c known k =
     let s : tie.Start = search in
@@ -70,19 +60,15 @@ returns c known k =
     let w : tie.After-in-slot = search in
     name-new _ _ _ _ _ _ _ (s .pre .0 .0) (a .seek .ensures) (v .at .ensures) known k (s .pre .1 .0) (omega (arith, s .pre .0 .1 .1 .low, s .pre .0 .1 .1 .inside)) _ (w .in-slot .ensures) (z .if1 .taken)
 
--- src/lib.rt:144:5
 sub-result : tie.Need-sub-result
 sub-result c = search needs
 
--- src/lib.rt:129:1
 same-length-3 : tie.Need-same-length-3
 same-length-3 c = search needs
 
--- src/lib.rt:129:1
 same-length-4 : tie.Need-same-length-4
 same-length-4 c = search needs
 
--- src/lib.rt:129:1
 returns-2 : tie.Need-returns-2
 returns-2 c known k =
     let s : tie.Start = search in

@@ -1,3 +1,4 @@
+-- `distinct::same_name` meets its contract. Assumes nothing.
 use mathlib.Core.Path.{refl, sym}
 use Prim.Native.Nat.{_-_}
 use native.Mathlib.Omega.{arith}
@@ -15,69 +16,54 @@ Inv-loop text p from to n k₀ k = Alike text p from n k
 abbrev μ-loop : tie.MeasureT-loop
 μ-loop text p from to n k₀ k = n - k
 
--- src/lib.rt:60:13
 sub-n : tie.Need-sub-n Inv-loop μ-loop
 sub-n c = search needs
 
--- src/lib.rt:61:8
 sub-if1 : tie.Need-sub-if1 Inv-loop μ-loop
 sub-if1 c = search needs
 
--- src/lib.rt:62:9
 returns : tie.Need-returns Inv-loop μ-loop
 returns c = let s : tie.Start Inv-loop μ-loop = search in sym (too-short _ _ _ _ _ (s .pre .0) refl (c .if1 .taken))
 
--- src/lib.rt:65:5
 loop-holds : tie.Need-loop-holds Inv-loop μ-loop
 loop-holds c = alike-begins _ _ _ _
 
--- src/lib.rt:66:17
 add-if2 : tie.Need-add-if2 Inv-loop μ-loop
 add-if2 c = search needs
 
--- src/lib.rt:66:12
 shared-slice-read-if2 : tie.Need-shared-slice-read-if2 Inv-loop μ-loop
 shared-slice-read-if2 c = search needs
 
--- src/lib.rt:66:32
 add-if2-2 : tie.Need-add-if2-2 Inv-loop μ-loop
 add-if2-2 c = search needs
 
--- src/lib.rt:66:27
 shared-slice-read-if2-2 : tie.Need-shared-slice-read-if2-2 Inv-loop μ-loop
 shared-slice-read-if2-2 c = search needs
 
--- src/lib.rt:67:13
 returns-2 : tie.Need-returns-2 Inv-loop μ-loop
 returns-2 c =
     let s : tie.Start Inv-loop μ-loop = search in
     let b : tie.In-loop Inv-loop μ-loop = search in
     sym (differs _ _ _ _ _ (s .pre .0) refl _ (b .loop-test .taken) (c .if2 .taken))
 
--- src/lib.rt:69:9
 add-k : tie.Need-add-k Inv-loop μ-loop
 add-k c = search needs
 
--- src/lib.rt:65:5
 loop-less : tie.Need-loop-less Inv-loop μ-loop
 loop-less c = search needs
 
--- src/lib.rt:65:5
 loop-again : tie.Need-loop-again Inv-loop μ-loop
 loop-again c =
     let b : tie.In-loop Inv-loop μ-loop = search in
     let l : tie.At-loop Inv-loop μ-loop = search in
     alike-on _ _ _ _ _ (l .loop .inv) (b .loop-test .taken) (c .if2 .left)
 
--- src/lib.rt:71:19
 add-ends-at : tie.Need-add-ends-at Inv-loop μ-loop
 add-ends-at c = search needs
 
--- src/lib.rt:71:5
 ends-at-requires : tie.Need-ends-at-requires Inv-loop μ-loop
 ends-at-requires c κs = tt
 
--- src/lib.rt:56:1
 returns-3 : tie.Need-returns-3 Inv-loop μ-loop
 returns-3 c =
     let s : tie.Start Inv-loop μ-loop = search in

@@ -1,3 +1,4 @@
+-- `distinct::seek` meets its contract. Assumes nothing.
 use mathlib.Core.Path.{_∙_}
 use Prim.Native.Nat.{_-_}
 use native.Mathlib.Omega.{arith}
@@ -19,25 +20,21 @@ Inv-loop text slots positions count from to size i₀ k₀ i k = Seeking size (n
 abbrev μ-loop : tie.MeasureT-loop
 μ-loop text slots positions count from to size i₀ k₀ i k = size - k
 
--- src/lib.rt:91:9
 home-of-requires : tie.Need-home-of-requires Inv-loop μ-loop
 home-of-requires c κs =
     let s : tie.Start Inv-loop μ-loop = search in
     (s .pre .1 .1 .low, s .pre .1 .1 .inside, s .pre .0 .few)
 
--- src/lib.rt:93:5
 loop-holds : tie.Need-loop-holds Inv-loop μ-loop
 loop-holds c =
     let s : tie.Start Inv-loop μ-loop = search in
     seek-begins _ _ _ _ _ _ _ (s .pre .0 .some) (s .pre .1) (c .home-of .ensures)
 
--- src/lib.rt:94:13
 at-requires : tie.Need-at-requires Inv-loop μ-loop
 at-requires c κs =
     let l : tie.At-loop Inv-loop μ-loop = search in
     seek-inside _ _ _ _ _ _ (l .loop .inv) (c .loop-test .taken)
 
--- src/lib.rt:96:13
 returns : tie.Need-returns Inv-loop μ-loop
 returns c =
     let l : tie.At-loop Inv-loop μ-loop = search in
@@ -45,18 +42,15 @@ returns c =
     let v : tie.After-at Inv-loop μ-loop = search in
     seek-here _ _ _ _ _ _ (l .loop .inv) (b .loop-test .taken) (free-here _ _ _ _ _ _ (l .loop .inv) _ (v .at .ensures) (c .if1 .taken))
 
--- src/lib.rt:98:38
 sub-at : tie.Need-sub-at Inv-loop μ-loop
 sub-at c = omega (arith, c .if1 .left)
 
--- src/lib.rt:98:13
 at-requires-2 : tie.Need-at-requires-2 Inv-loop μ-loop
 at-requires-2 c κs =
     let s : tie.Start Inv-loop μ-loop = search in
     let v : tie.After-at Inv-loop μ-loop = search in
     omega (arith, id-inside _ _ _ _ _ _ (s .pre .0) (v .at .ensures) (c .if1 .left), s .pre .0 .listed .room)
 
--- src/lib.rt:99:12
 same-name-requires : tie.Need-same-name-requires Inv-loop μ-loop
 same-name-requires c κs =
     let s : tie.Start Inv-loop μ-loop = search in
@@ -64,7 +58,6 @@ same-name-requires c κs =
     let e : tie.Else1 Inv-loop μ-loop = search in
     (s .pre .1, position-inside _ _ _ _ _ (s .pre .0 .listed) (id-inside _ _ _ _ _ _ (s .pre .0) (v .at .ensures) (e .if1 .left)) (c .at2 .ensures))
 
--- src/lib.rt:100:13
 returns-2 : tie.Need-returns-2 Inv-loop μ-loop
 returns-2 c =
     let s : tie.Start Inv-loop μ-loop = search in
@@ -77,22 +70,18 @@ returns-2 c =
     seek-here _ _ _ _ _ _ (l .loop .inv) (b .loop-test .taken)
     (slot-says _ _ _ _ _ _ _ _ _ _ _ (l .loop .inv) (s .pre .0) (v .at .ensures) (e .if1 .left) (p .at2 .ensures) (n .same-name .ensures) ∙ c .if2 .taken)
 
--- src/lib.rt:102:9
 slot-after-requires : tie.Need-slot-after-requires Inv-loop μ-loop
 slot-after-requires c κs =
     let l : tie.At-loop Inv-loop μ-loop = search in
     let b : tie.In-loop Inv-loop μ-loop = search in
     seek-inside _ _ _ _ _ _ (l .loop .inv) (b .loop-test .taken)
 
--- src/lib.rt:103:9
 add-k : tie.Need-add-k Inv-loop μ-loop
 add-k c = search needs
 
--- src/lib.rt:93:5
 loop-less : tie.Need-loop-less Inv-loop μ-loop
 loop-less c = search needs
 
--- src/lib.rt:93:5
 loop-again : tie.Need-loop-again Inv-loop μ-loop
 loop-again c =
     let s : tie.Start Inv-loop μ-loop = search in
@@ -106,7 +95,6 @@ loop-again c =
     seek-on _ _ _ _ _ _ (l .loop .inv) _ (b .loop-test .taken) (c .slot-after .ensures)
     (slot-says _ _ _ _ _ _ _ _ _ _ _ (l .loop .inv) (s .pre .0) (v .at .ensures) (e .if1 .left) (p .at2 .ensures) (n .same-name .ensures) ∙ f .if2 .left)
 
--- src/lib.rt:83:1
 returns-3 : tie.Need-returns-3 Inv-loop μ-loop
 returns-3 c =
     let l : tie.At-loop Inv-loop μ-loop = search in

@@ -1,3 +1,4 @@
+-- `distinct::slot_after` meets its contract. Assumes nothing.
 use native.Mathlib.Omega.{arith}
 use Rattle.distinct.proofs.Loops.{next-slot, first-slot}
 use borrow.Author.Needs.{needs}
@@ -6,19 +7,15 @@ use Rattle.distinct.proofs.slot_after.Tie as tie
 use Rattle.distinct.proofs.slot_after.Reads as reads
 use Rattle.distinct.proofs.slot_after.Lts as lts
 
--- src/lib.rt:79:8
 add-if1 : tie.Need-add-if1
 add-if1 c = search needs
 
--- src/lib.rt:79:23
 add-result : tie.Need-add-result
 add-result c = search needs
 
--- src/lib.rt:75:1
 returns : tie.Need-returns
 returns c = omega (arith, next-slot (c .before .args .i) (c .before .args .size) (omega (arith, c .if1 .taken)))
 
--- src/lib.rt:75:1
 returns-2 : tie.Need-returns-2
 returns-2 c = first-slot _ _ (c .before .pre) (c .if1 .left)
 

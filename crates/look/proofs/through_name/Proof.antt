@@ -1,3 +1,4 @@
+-- `look::through_name` meets its contract. Assumes nothing.
 use mathlib.Core.Bool.{true, false}
 use Rattle.look.proofs.Turns.{named, later, walked-on}
 use borrow.Author.Needs.{needs}
@@ -6,11 +7,10 @@ use Rattle.look.proofs.through_name.Tie as tie
 use Rattle.look.proofs.through_name.Reads as reads
 use Rattle.look.proofs.through_name.Lts as lts
 use Rattle.look.proofs.in_mode.Reads as in-mode-reads
-use Rattle.names.proofs.behind.Reads as behind-reads
-use Rattle.names.proofs.plain.Reads as plain-reads
-use Rattle.names.proofs.plain_run.Reads as plain-run-reads
+use Rattle.look.proofs.behind.Reads as behind-reads
+use Rattle.look.proofs.plain.Reads as plain-reads
+use Rattle.look.proofs.plain_run.Reads as plain-run-reads
 
--- src/lib.rt:49:22
 enum-known-mode : tie.Need-enum-known-mode
 enum-known-mode c = search needs
 
@@ -22,67 +22,51 @@ plain-requires c κs =
     let s : tie.Start = search in
     later _ _ _ _ (s .pre) (c .plain-run .ensures)
 
--- src/lib.rt:51:13
 in-mode-requires : tie.Need-in-mode-requires
 in-mode-requires c κs = search needs
 
--- src/lib.rt:53:23
 enum-known-mode-2 : tie.Need-enum-known-mode-2
 enum-known-mode-2 c = search needs
 
--- src/lib.rt:54:17
 behind-requires : tie.Need-behind-requires
 behind-requires c κs = search needs
 
--- src/lib.rt:55:13
 in-mode-requires-2 : tie.Need-in-mode-requires-2
 in-mode-requires-2 c κs = search needs
 
--- src/lib.rt:57:24
 enum-told : tie.Need-enum-told
 enum-told c = search needs
 
--- src/lib.rt:58:24
 enum-told-2 : tie.Need-enum-told-2
 enum-told-2 c = search needs
 
--- src/lib.rt:59:24
 enum-told-3 : tie.Need-enum-told-3
 enum-told-3 c = search needs
 
--- src/lib.rt:60:31
 enum-told-4 : tie.Need-enum-told-4
 enum-told-4 c = search needs
 
--- src/lib.rt:61:22
 enum-told-5 : tie.Need-enum-told-5
 enum-told-5 c = search needs
 
--- src/lib.rt:44:1
 returns : tie.Need-returns
 returns c = named _ false _ _ _ _ _ _ (c .before .before .before .before .mode .given .1) (walked-on _ _ _ _ _ (c .before .before .plain-run .ensures) (c .before .plain .ensures)) (c .in-mode .ensures)
 
--- src/lib.rt:44:1
 returns-2 : tie.Need-returns-2
 returns-2 c = named _ true _ _ _ _ _ _ (c .before .before .before .mode2 .given .1) (c .before .behind .ensures) (c .in-mode2 .ensures)
 
--- src/lib.rt:44:1
 returns-3 : tie.Need-returns-3
 returns-3 c = search needs
 
--- src/lib.rt:44:1
 returns-4 : tie.Need-returns-4
 returns-4 c = search needs
 
--- src/lib.rt:44:1
 returns-5 : tie.Need-returns-5
 returns-5 c = search needs
 
--- src/lib.rt:44:1
 returns-6 : tie.Need-returns-6
 returns-6 c = search needs
 
--- src/lib.rt:44:1
 returns-7 : tie.Need-returns-7
 returns-7 c = search needs
 

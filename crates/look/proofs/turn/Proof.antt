@@ -1,3 +1,4 @@
+-- `look::turn` meets its contract. Assumes nothing.
 use mathlib.Core.Path.{_∙_, sym, ap}
 use Rattle.layout.specs.Scan.{nextMode}
 use Rattle.look.proofs.Turns.{turned-end, turned-on, turned-stuck}
@@ -12,43 +13,33 @@ use Rattle.byte_steps.proofs.next_mode.Reads as next-mode-reads
 use Rattle.look.proofs.through_name.Reads as through-name-reads
 use Rattle.look.proofs.window_end.Reads as window-end-reads
 
--- src/lib.rt:70:9
 window-end-requires : tie.Need-window-end-requires
 window-end-requires c κs = search needs
 
--- src/lib.rt:71:9
 through-name-requires : tie.Need-through-name-requires
 through-name-requires c κs = search needs
 
--- src/lib.rt:74:9
 returns : tie.Need-returns
 returns c = turned-end _ _ _ _ _ (c .before .through-name .ensures) (c .before .before .before .before .pre .1) (c .if1 .taken) (c .before .before .window-end .ensures .0 .0) (c .before .before .window-end .ensures .0 .1)
 
--- src/lib.rt:77:62
 shared-slice-read-class-of : tie.Need-shared-slice-read-class-of
 shared-slice-read-class-of c = search needs
 
--- src/lib.rt:77:41
 class-of-requires : tie.Need-class-of-requires
 class-of-requires c κs = search needs
 
--- src/lib.rt:77:9
 next-mode-requires : tie.Need-next-mode-requires
 next-mode-requires c κs = search needs
 
--- src/lib.rt:78:8
 is-alive-requires : tie.Need-is-alive-requires
 is-alive-requires c κs = search needs
 
--- src/lib.rt:79:30
 add-t15 : tie.Need-add-t15
 add-t15 c = search needs
 
--- src/lib.rt:79:9
 returns-2 : tie.Need-returns-2
 returns-2 c = turned-on _ _ _ _ _ _ (c .before .before .before .before .before .before .through-name .ensures) (c .before .before .before .before .before .if1 .left) (c .before .before .before .before .before .before .before .window-end .ensures .0 .1) (c .before .before .next-mode .ensures ∙ ap (nextMode (c .before .before .before .before .before .before .through-name .result .mode)) (c .before .before .before .class-of .ensures)) (sym (c .before .is-alive .ensures) ∙ c .if2 .taken)
 
--- src/lib.rt:66:1
 returns-3 : tie.Need-returns-3
 returns-3 c = turned-stuck _ _ _ _ _ _ (c .before .before .before .before .before .before .through-name .ensures) (c .before .before .before .before .before .if1 .left) (c .before .before .before .before .before .before .before .window-end .ensures .0 .1) (c .before .before .next-mode .ensures ∙ ap (nextMode (c .before .before .before .before .before .before .through-name .result .mode)) (c .before .before .before .class-of .ensures)) (sym (c .before .is-alive .ensures) ∙ c .if2 .left)
 

@@ -9,38 +9,30 @@ use Rattle.table_checks.proofs.check_ids.Reads as check-ids-reads
 use Rattle.training_check.proofs.check_lengths.Reads as check-lengths-reads
 use Rattle.write_check.proofs.check_rising.Reads as check-rising-reads
 
--- src/lib.rt:164:9
 check-rising-requires : tie.Need-check-rising-requires
 check-rising-requires c κs = search needs
 
--- src/lib.rt:175:60
 cast-check-lengths : tie.Need-cast-check-lengths
 cast-check-lengths c = search needs
 
--- src/lib.rt:175:9
 check-lengths-requires : tie.Need-check-lengths-requires
 check-lengths-requires c κs = search needs
 
--- src/lib.rt:176:52
 cast-check-ids : tie.Need-cast-check-ids
 cast-check-ids c = search needs
 
--- src/lib.rt:176:9
 check-ids-requires : tie.Need-check-ids-requires
 check-ids-requires c κs = search needs
 
--- src/lib.rt:177:48
 cast-check-ids-2 : tie.Need-cast-check-ids-2
 cast-check-ids-2 c = search needs
 
--- src/lib.rt:177:5
 check-ids-requires-2 : tie.Need-check-ids-requires-2
 check-ids-requires-2 c κs =
     let s : tie.Start = search in
     let r = s .pre .rooms in
     r .1 .1 .1 .0
 
--- src/lib.rt:143:1
 returns : tie.Need-returns
 returns c =
     let b : tie.After-check-ids2 = search in

@@ -6,43 +6,33 @@ use Rattle.write_check.proofs.check_rising.Reads as reads
 use Rattle.write_check.proofs.check_rising.Lts as lts
 use Rattle.table_checks.proofs.check_starts.Reads as check-starts-reads
 
--- src/lib.rt:129:21
 cast-instances : tie.Need-cast-instances
 cast-instances c = search needs
 
--- src/lib.rt:130:9
 check-starts-requires : tie.Need-check-starts-requires
 check-starts-requires c κs = search needs
 
--- src/lib.rt:131:60
 cast-check-starts : tie.Need-cast-check-starts
 cast-check-starts c = search needs
 
--- src/lib.rt:131:9
 check-starts-requires-2 : tie.Need-check-starts-requires-2
 check-starts-requires-2 c κs = search needs
 
--- src/lib.rt:133:9
 check-starts-requires-3 : tie.Need-check-starts-requires-3
 check-starts-requires-3 c κs = search needs
 
--- src/lib.rt:134:17
 cast-known : tie.Need-cast-known
 cast-known c = search needs
 
--- src/lib.rt:136:9
 check-starts-requires-4 : tie.Need-check-starts-requires-4
 check-starts-requires-4 c κs = search needs
 
--- src/lib.rt:137:53
 cast-check-starts-2 : tie.Need-cast-check-starts-2
 cast-check-starts-2 c = search needs
 
--- src/lib.rt:137:5
 check-starts-requires-5 : tie.Need-check-starts-requires-5
 check-starts-requires-5 c κs = search needs
 
--- src/lib.rt:109:1
 returns : tie.Need-returns
 returns c =
     let e : tie.After-check-starts5 = search in

@@ -5,56 +5,46 @@ use Rattle.write_check.proofs.check_text.Statement.{statement}
 use Rattle.write_check.proofs.check_text.Tie as tie
 use Rattle.write_check.proofs.check_text.Reads as reads
 use Rattle.write_check.proofs.check_text.Lts as lts
-use Rattle.carried.proofs.check_names.Reads as check-names-reads
-use Rattle.carried.proofs.check_scales.Reads as check-scales-reads
+use Rattle.write_check.proofs.check_names.Reads as check-names-reads
+use Rattle.write_check.proofs.check_scales.Reads as check-scales-reads
 use Rattle.refusals.proofs.refuse_if.Reads as refuse-if-reads
-use Rattle.text_length.proofs.written_length.Reads as written-length-reads
+use Rattle.text_writing.proofs.written_length.Reads as written-length-reads
 
--- src/lib.rt:201:17
 cast-words : tie.Need-cast-words
 cast-words c = search needs
 
--- src/lib.rt:202:22
 cast-attributes : tie.Need-cast-attributes
 cast-attributes c = search needs
 
--- src/lib.rt:204:9
 cast-written-length : tie.Need-cast-written-length
 cast-written-length c = search needs
 
--- src/lib.rt:203:9
 written-length-requires : tie.Need-written-length-requires
 written-length-requires c κs =
     let s : tie.Start = search in
     measurable (s .pre)
 
--- src/lib.rt:218:9
 refuse-if-requires : tie.Need-refuse-if-requires
 refuse-if-requires c κs = search needs
 
--- src/lib.rt:219:9
 check-names-requires : tie.Need-check-names-requires
 check-names-requires c κs =
     let s : tie.Start = search in
     labels-stand (s .pre)
 
--- src/lib.rt:220:17
 cast-known : tie.Need-cast-known
 cast-known c = search needs
 
--- src/lib.rt:221:9
 check-names-requires-2 : tie.Need-check-names-requires-2
 check-names-requires-2 c κs =
     let s : tie.Start = search in
     names-stand (s .pre)
 
--- src/lib.rt:222:5
 check-scales-requires : tie.Need-check-scales-requires
 check-scales-requires c κs =
     let s : tie.Start = search in
     scales-stand (s .pre)
 
--- src/lib.rt:181:1
 returns : tie.Need-returns
 returns c =
     let k : tie.After-check-scales = search in

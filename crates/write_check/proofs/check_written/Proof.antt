@@ -17,15 +17,12 @@ sized c = search
 abbrev told : tie.After-check-lists → tie.After-enum-told
 told c = search
 
--- src/lib.rt:244:9
 written-sizes-requires : tie.Need-written-sizes-requires
 written-sizes-requires c κs = search needs
 
--- src/lib.rt:259:29
 enum-known-sizes : tie.Need-enum-known-sizes
 enum-known-sizes c = search needs
 
--- src/lib.rt:260:9
 returns : tie.Need-returns
 returns c =
     let z : tie.After-written-sizes = search in
@@ -35,17 +32,14 @@ returns c =
 enum-told : tie.Need-enum-told
 enum-told c = search needs
 
--- src/lib.rt:262:9
 check-lists-requires : tie.Need-check-lists-requires
 check-lists-requires c κs =
     let e : tie.After-enum-told = search in
     write-fits _ _ (sized e .written-sizes .ensures) (e .enum-told .given .1)
 
--- src/lib.rt:278:29
 enum-known-lists : tie.Need-enum-known-lists
 enum-known-lists c = search needs
 
--- src/lib.rt:279:9
 returns-2 : tie.Need-returns-2
 returns-2 c =
     let k : tie.After-lists = search in
@@ -56,7 +50,6 @@ returns-2 c =
 enum-told-2 : tie.Need-enum-told-2
 enum-told-2 c = search needs
 
--- src/lib.rt:281:5
 check-text-requires : tie.Need-check-text-requires
 check-text-requires c κs =
     let e : tie.After-enum-told2 = search in
@@ -64,7 +57,6 @@ check-text-requires c κs =
     let z = sized (told l) in
     write-sound _ _ (lists-read _ (z .written-sizes .ensures) (l .check-lists .ensures)) (e .enum-told2 .given .1)
 
--- src/lib.rt:226:1
 returns-3 : tie.Need-returns-3
 returns-3 c =
     let t : tie.After-check-text = search in

@@ -6,11 +6,9 @@ use Rattle.write_check.proofs.exceeds_written.Reads as reads
 use Rattle.write_check.proofs.exceeds_written.Lts as lts
 use Rattle.refusals.proofs.is_outside.Reads as is-outside-reads
 
--- src/lib.rt:28:11
 is-outside-requires : tie.Need-is-outside-requires
 is-outside-requires c κs = search needs
 
--- src/lib.rt:24:1
 returns : tie.Need-returns
 returns c =
     let o : tie.After-is-outside = search in

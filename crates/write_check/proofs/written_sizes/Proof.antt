@@ -12,35 +12,27 @@ use Rattle.write_check.proofs.exceeds_written.Reads as exceeds-written-
 use Rattle.write_check.proofs.lacks_strings.Reads as lacks-strings-reads
 use Rattle.write_check.proofs.lacks_words.Reads as lacks-words-reads
 
--- src/lib.rt:89:9
 is-outside-requires : tie.Need-is-outside-requires
 is-outside-requires c κs = search needs
 
--- src/lib.rt:90:9
 refuse-if-requires : tie.Need-refuse-if-requires
 refuse-if-requires c κs = search needs
 
--- src/lib.rt:91:9
 exceeds-written-requires : tie.Need-exceeds-written-requires
 exceeds-written-requires c κs = search needs
 
--- src/lib.rt:92:9
 refuse-if-requires-2 : tie.Need-refuse-if-requires-2
 refuse-if-requires-2 c κs = search needs
 
--- src/lib.rt:93:9
 lacks-words-requires : tie.Need-lacks-words-requires
 lacks-words-requires c κs = search needs
 
--- src/lib.rt:94:9
 lacks-strings-requires : tie.Need-lacks-strings-requires
 lacks-strings-requires c κs = search needs
 
--- src/lib.rt:105:5
 refuse-if-requires-3 : tie.Need-refuse-if-requires-3
 refuse-if-requires-3 c κs = search needs
 
--- src/lib.rt:72:1
 returns : tie.Need-returns
 returns c =
     let r : tie.After-refuse-if3 = search in
