@@ -2,46 +2,30 @@
 use mathlib.Core.Path.{_≡_, refl, sym, ap, subst, _∙_}
 use mathlib.Core.List.{List, _∷_}
 use Prim.Native.Nat.{ℕ, _≤_}
-use native.Mathlib.Omega.{arith}
-use lib.Dec.{ltb}
 use lib.ListN.{length}
 use lib.Ieee.{Float}
-use borrow.Author.Tests.{ltb-false}
 use Rattle.refusals.specs.declared.Refusal.{Refusal}
 use Rattle.refusals.specs.declared.Checked.{Checked}
 use Rattle.refusals.specs.declared.Checked.the-variants.{Accepted, Refused}
 use Rattle.refusals.specs.Refusals.{numbered, refusedAt, refuse, orNext, firstFrom}
 use Rattle.refusals.specs.Said.{Said, accepted, refused, orRefused}
-use Rattle.refusals.proofs.Laws.{settled, passes, never}
+use Rattle.refusals.proofs.Laws.{settled}
 use Rattle.refusal_rows.specs.Limits.{two}
 use Rattle.refusal_rows.specs.Tests.{checks}
 use Rattle.layout.specs.Layout.{Bytes, Word, Line, WellFormed, sequences}
-use Rattle.layout.specs.Scan.{look, PlaceOf}
-use Rattle.layout.specs.declared.Found.{Found}
-use Rattle.layout.specs.declared.Found.the-variants.{Whole, At}
-use Rattle.layout.proofs.Place.{whole-meant, place-meant}
+use Rattle.layout.specs.Scan.{PlaceOf}
 use Rattle.text_tables.specs.Tables.{Tables, tables}
 use Rattle.fill_text.specs.Filled.{StringsLaid, WordsLaid, AttributesLaid}
 use Rattle.text_check.specs.Rows.{tooLong, textCounts, textRooms, sequenceTests, textSized, textChecked}
 use Rattle.text_check.specs.declared.Lengths.{Lengths}
+use Rattle.text_bytes.specs.Bytes.{bytesChecked}
+use Rattle.text_bytes.proofs.Told.{bytes-mean}
 use Rattle.read_text.specs.declared.TextSizes.{TextSizes}
 use Rattle.read_text.specs.declared.TextReading.{TextReading}
 use Rattle.read_text.specs.Promise.{Buffers, Outcome, said, sizesOf, lengthsOf, checkedOf, laidOver, holding, Yields, ReadOf, Promised}
 use Rattle.read_text.specs.Sizes.{sizedOf, SizesPromised}
-use Rattle.read_text.specs.Steps.{malformedAt, bytesChecked, Readable}
 
 -- ---- the bytes
-
-pub bytes-said : (text : Bytes) {found : Found} {formed r : Checked} → found ≡ look text → formed ≡ malformedAt found → r ≡ orNext formed (tooLong (length text)) → r ≡ bytesChecked text
-bytes-said text {found} {formed} {r} l f e = e ∙ ap (λ (c : Checked). orNext c (tooLong (length text))) (f ∙ ap malformedAt l)
-
-pub bytes-accepted : (text : Bytes) → bytesChecked text ≡ Accepted → Readable text
-unfolding orNext
-bytes-accepted text e = go (look text) refl e
-  where
-    go : (f : Found) → look text ≡ f → orNext (malformedAt f) (tooLong (length text)) ≡ Accepted → Readable text
-    go Whole w e = record { formed = whole-meant text .0 w; small = ltb-false 4294967295 (length text) (passes 2 0 (ltb 4294967295 (length text)) e) }
-    go (At p) w e = absurd (never {A = ⊥} e refl)
 
 -- 2 of the length comes first of what is refused of a well-formed text
 long-first : (bytes : ℕ) (ss : List (List Word)) (have : Lengths) (why : Refusal) → tooLong bytes ≡ Refused why → (textSized bytes ss ≡ Refused why) × (textChecked bytes ss have ≡ Refused why)
@@ -52,28 +36,6 @@ long-first bytes ss have why e =
       settled (orNext Accepted (tooLong bytes)) (two (textCounts ss) ∷ two (textRooms (tables ss) have) ∷ checks (sequenceTests ss)) why f,
     )
 
--- what a refusal of the bytes is
-record BytesRefused (text : Bytes) (why : Refusal) : Type 0 where
-  malformed : (place : ℕ) → PlaceOf text place → why ≡ numbered 11 place
-  whole : (h : WellFormed text) → tooLong (length text) ≡ Refused why
-
-whole-at : {A : Type 0} {p : ℕ} → Whole ≡ At p → A
-whole-at {A} {p} e = let z : _≡_ {A = ℕ} 0 1 = cc in absurd (omega arith)
-
-refused-bytes : (text : Bytes) (why : Refusal) → bytesChecked text ≡ Refused why → BytesRefused text why
-unfolding orNext
-refused-bytes text why e = go (look text) refl e
-  where
-    go : (f : Found) → look text ≡ f → orNext (malformedAt f) (tooLong (length text)) ≡ Refused why → BytesRefused text why
-    go Whole w e = record {
-      malformed = λ place g. whole-at (sym w ∙ place-meant text place .1 g);
-      whole = λ h. e;
-    }
-    go (At p) w e = record {
-      malformed = λ place g. let same : At p ≡ At place = sym w ∙ place-meant text place .1 g in cc;
-      whole = λ h. whole-at (sym (whole-meant text .1 h) ∙ w);
-    }
-
 -- a refusal is given, and the tables are as they were
 refused-read : (text : Bytes) (ss : List (List Word)) (before : Buffers) (why : Refusal) → checkedOf text ss before ≡ Refused why → ReadOf text ss before (record { answer = TextReading.Refused why; after = before })
 refused-read text ss before why e =
@@ -82,7 +44,7 @@ refused-read text ss before why e =
 
 pub bytes-refused : (text : Bytes) (before : Buffers) (why : Refusal) → bytesChecked text ≡ Refused why → Promised text before (record { answer = TextReading.Refused why; after = before })
 bytes-refused text before why e =
-    let r = refused-bytes text why e in
+    let r = bytes-mean text .refused why e in
     record {
       malformed = λ place g. record { answers = ap refused (r .malformed place g); after = refl };
       whole = λ ls sound made.
@@ -136,7 +98,7 @@ filled-read text ss before after sizes e s f =
 
 pub sizes-refused : (text : Bytes) (why : Refusal) → bytesChecked text ≡ Refused why → SizesPromised text (TextReading.Refused why)
 sizes-refused text why e =
-    let r = refused-bytes text why e in
+    let r = bytes-mean text .refused why e in
     record {
       malformed = λ place g. ap refused (r .malformed place g);
       whole = λ ls sound made.

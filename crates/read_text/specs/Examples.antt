@@ -1,4 +1,4 @@
--- Desk cases T1, T3 and T6 of the promise: what any outcome of a reading that keeps it is. Assumes nothing.
+-- Desk cases T1, T3 and T6 of the promises: what any outcome of a reading that keeps it is, and any answer of the sizes. Assumes nothing.
 use mathlib.Core.Path.{_≡_, refl, ap, _∙_}
 use mathlib.Core.List.{List, [], _∷_, flatten}
 use mathlib.Core.Bool.{true, false}
@@ -12,9 +12,11 @@ use Rattle.refusals.specs.Said.{accepted, refused}
 use Rattle.layout.specs.Layout.{Bytes, Line, empty, word, Scale, point, none, SoundText, textOf, moreLines, lineText, attributesText, escaped, scaleText, sequencesFrom}
 use Rattle.text_tables.specs.Distinct.{same, idIn, learnt, learntAll}
 use Rattle.text_tables.specs.Tables.{startsFrom, tables}
-use Rattle.text_check.specs.Rows.{textChecked}
+use Rattle.text_check.specs.Rows.{textSized, textChecked}
 use Rattle.read_text.specs.declared.TextSizes.{TextSizes}
+use Rattle.read_text.specs.declared.TextReading.{TextReading}
 use Rattle.read_text.specs.Promise.{Buffers, Outcome, said, Promised}
+use Rattle.read_text.specs.Sizes.{SizesPromised}
 
 -- tables with room for this many ids, and for everything else that T1 needs
 abbrev lent : ℕ → Buffers
@@ -83,3 +85,13 @@ t6-refused outcome p = (p .whole t1-lines t1-sound t1-made .answers, p .whole t1
 t3-refused : (before : Buffers) (outcome : Outcome) → Promised [] before outcome → (said (outcome .answer) ≡ refused (numbered 2 0)) × (outcome .after ≡ before)
 unfolding textOf moreLines lineText textChecked tables sequencesFrom startsFrom flatten learntAll learnt idIn same lowest orNext refuse
 t3-refused before outcome p = (p .whole (empty ∷ []) (tt, tt) refl .answers, p .whole (empty ∷ []) (tt, tt) refl .after)
+
+-- T1 and T3 of the sizes, which need no table
+t1-sized : (answer : TextReading) → SizesPromised t1 answer →
+    said answer ≡ accepted (record { labels = 2; names = 2; instances = 2; words = 3; attributes = 3; «label_bytes» = 2; «name_bytes» = 2; «scale_bytes» = 5 })
+unfolding textSized tables sequencesFrom startsFrom flatten learntAll learnt idIn same lowest orNext refuse
+t1-sized answer p = p .whole t1-lines t1-sound t1-made
+
+t3-sized : (answer : TextReading) → SizesPromised [] answer → said answer ≡ refused (numbered 2 0)
+unfolding textOf moreLines lineText textSized tables sequencesFrom startsFrom flatten learntAll learnt idIn same lowest orNext refuse
+t3-sized answer p = p .whole (empty ∷ []) (tt, tt) refl

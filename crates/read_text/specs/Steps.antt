@@ -3,30 +3,15 @@ use mathlib.Core.Path.{_≡_}
 use mathlib.Core.List.{List, []}
 use Prim.Native.Nat.{ℕ, _≤_}
 use lib.ListN.{length}
-use Rattle.refusals.specs.declared.Checked.{Checked}
-use Rattle.refusals.specs.declared.Checked.the-variants.{Accepted}
-use Rattle.refusals.specs.Refusals.{refusedAt, orNext}
-use Rattle.layout.specs.declared.Found.{Found}
-use Rattle.layout.specs.declared.Found.the-variants.{Whole, At}
 use Rattle.layout.specs.Layout.{Bytes, WellFormed}
-use Rattle.layout.specs.Scan.{look}
 use Rattle.text_tables.specs.Pieces.{piecesOf}
 use Rattle.text_tables.specs.Tally.{tallyOf}
 use Rattle.distinct.specs.Slots.{Filed}
 use Rattle.survey.specs.declared.Survey.{Survey}
 use Rattle.survey.specs.Surveyed.{Surveys}
-use Rattle.text_check.specs.Rows.{tooLong}
+use Rattle.text_bytes.specs.Bytes.{Readable}
 use Rattle.text_check.specs.Told.{FewSurvey}
 use Rattle.read_text.specs.declared.TextSizes.{TextSizes}
-
--- 11 where the look found a place
-abbrev pub malformedAt : Found → Checked
-malformedAt Whole = Accepted
-malformedAt (At place) = refusedAt 11 place
-
--- "11 .. tested before 1"; a text that is too long "right after 11 and before the other counts"
-abbrev pub bytesChecked : Bytes → Checked
-bytesChecked text = orNext (malformedAt (look text)) (tooLong (length text))
 
 -- the sizes that a survey's figures are, where all names are counted
 abbrev pub sizesIn : Survey → TextSizes
@@ -47,11 +32,6 @@ pub record SmallSurvey (s : Survey) : Type 0 where
   pub labelBytes : s .labels .bytes ≤ 4294967295
   pub nameBytes : s .names .bytes ≤ 4294967295
   pub scaleBytes : s .figures .scales ≤ 4294967295
-
--- a well-formed text that is not too long
-pub record Readable (text : Bytes) : Type 0 where
-  pub formed : WellFormed text
-  pub small : length text ≤ 4294967295
 
 -- so many slots, all of them free
 pub record FreeSlots (slots : List ℕ) : Type 0 where

@@ -5,8 +5,8 @@ ghost use Rattle.layout.specs.Layout.{WellFormed, sequences};
 ghost use Rattle.read_text.specs.Promise.{ReadOf, Promised, said};
 ghost use Rattle.read_text.specs.Sizes.{sizedOf, SizesPromised};
 ghost use Rattle.read_text.specs.Lent.{buffersWere, buffersAre};
-ghost use Rattle.read_text.specs.Steps.{malformedAt, bytesChecked, sizesIn, SmallSurvey, Readable, FreeSlots, SurveyMade};
-use layout::Found;
+ghost use Rattle.text_bytes.specs.Bytes.{Readable};
+ghost use Rattle.read_text.specs.Steps.{sizesIn, SmallSurvey, FreeSlots, SurveyMade};
 use refusals::Checked;
 use refusals::Refusal;
 use survey::Survey;
@@ -27,24 +27,6 @@ pub struct TextSizes {
 pub enum TextReading {
     Read(TextSizes),
     Refused(Refusal),
-}
-
-// 11, with the place that the look found.
-fn well_formed(found: Found) -> Checked
-    ensures { λ r. ⌜ r ≡ malformedAt found ⌝ }
-{
-    match found {
-        Found::Whole => Checked::Accepted,
-        Found::At(place) => refusals::refused(11, place),
-    }
-}
-
-// 11, then 2 of the text's own length: starts are numbers of 32 bits.
-fn check_bytes(text: &[u8]) -> Checked
-    ensures { λ r. ⌜ r ≡ bytesChecked (now (text .entry)) ⌝ }
-{
-    let formed = well_formed(look::look_through(text));
-    refusals::refuse_if(formed, 2, 0, 4294967295 < text.len())
 }
 
 // The figures of a survey as an answer.
@@ -107,8 +89,8 @@ fn fill_checked(
         scale_starts: scale_starts.len(),
         scale_bytes: scales.len(),
     };
-    let checked = text_check::check_text(survey, have);
-    if let Checked::Refused(why) = checked {
+    let answer = text_check::check_text(survey, have);
+    if let Checked::Refused(why) = answer {
         return TextReading::Refused(why);
     }
     let known = survey.labels;
@@ -183,47 +165,6 @@ fn read_with(
     )
 }
 
-// A well-formed text that is not too long.
-fn read_readable(
-    text: &[u8],
-    line_starts: &mut [u32],
-    word_starts: &mut [u32],
-    ids: &mut [u32],
-    values: &mut [f64],
-    references: &mut [u32],
-    instance_weights: &mut [f64],
-    label_name_starts: &mut [u32],
-    label_names: &mut [u8],
-    attribute_name_starts: &mut [u32],
-    attribute_names: &mut [u8],
-    scale_starts: &mut [u32],
-    scales: &mut [u8],
-) -> TextReading
-    requires { ⌜ Readable (now text) ⌝ }
-    ensures { λ r.
-        let before = buffersWere «line_starts» «word_starts» ids values references «instance_weights» «label_name_starts» «label_names» «attribute_name_starts» «attribute_names» «scale_starts» scales in
-        let after = buffersAre «line_starts» «word_starts» ids values references «instance_weights» «label_name_starts» «label_names» «attribute_name_starts» «attribute_names» «scale_starts» scales in
-        ⌜ ((h : WellFormed (now (text .entry))) → ReadOf (now (text .entry)) (sequences (h .lines)) before (record { answer = r; after = after })) ⌝ }
-{
-    let mut slots = [0u32; 131072];
-    read_with(
-        text,
-        &mut slots,
-        line_starts,
-        word_starts,
-        ids,
-        values,
-        references,
-        instance_weights,
-        label_name_starts,
-        label_names,
-        attribute_name_starts,
-        attribute_names,
-        scale_starts,
-        scales,
-    )
-}
-
 // The tables of a text at the fronts of what is lent, and their sizes; or the refusal.
 pub fn read_text(
     text: &[u8],
@@ -245,12 +186,14 @@ pub fn read_text(
         let after = buffersAre «line_starts» «word_starts» ids values references «instance_weights» «label_name_starts» «label_names» «attribute_name_starts» «attribute_names» «scale_starts» scales in
         ⌜ Promised (now (text .entry)) before (record { answer = r; after = after }) ⌝ }
 {
-    let checked = check_bytes(text);
+    let checked = text_bytes::check_bytes(text);
     if let Checked::Refused(why) = checked {
         return TextReading::Refused(why);
     }
-    read_readable(
+    let mut slots = [0u32; 131072];
+    read_with(
         text,
+        &mut slots,
         line_starts,
         word_starts,
         ids,
@@ -283,7 +226,7 @@ fn sizes_readable(text: &[u8]) -> TextReading
 pub fn text_sizes(text: &[u8]) -> TextReading
     ensures { λ r. ⌜ SizesPromised (now (text .entry)) r ⌝ }
 {
-    let checked = check_bytes(text);
+    let checked = text_bytes::check_bytes(text);
     if let Checked::Refused(why) = checked {
         return TextReading::Refused(why);
     }

@@ -53,15 +53,15 @@ check-text-requires c κs =
     let s : tie.Start = search in
     few-made (s .pre)
 
-enum-known-checked : tie.Need-enum-known-checked
-enum-known-checked c = search needs
+enum-known-answer : tie.Need-enum-known-answer
+enum-known-answer c = search needs
 
 returns : tie.Need-returns
 returns c =
-    let k : tie.After-checked = search in
+    let k : tie.After-answer = search in
     let w : tie.After-check-text = search in
     let s = entry w in
-    check-refused (s .args .text .now) (given s) _ (λ h. sym (checked-as (s .pre) (given s) (w .check-text .ensures) h) ∙ k .checked .given .1)
+    check-refused (s .args .text .now) (given s) _ (λ h. sym (checked-as (s .pre) (given s) (w .check-text .ensures) h) ∙ k .answer .given .1)
 
 enum-told : tie.Need-enum-told
 enum-told c = search needs
@@ -79,42 +79,6 @@ sizes-in-requires c κs =
     let s = entry (checked e) in
     small-made (s .pre) (given s) (accepted e)
 
-same-length : tie.Need-same-length
-same-length c = search needs
-
-same-length-2 : tie.Need-same-length-2
-same-length-2 c = search needs
-
-same-length-3 : tie.Need-same-length-3
-same-length-3 c = search needs
-
-same-length-4 : tie.Need-same-length-4
-same-length-4 c = search needs
-
-same-length-5 : tie.Need-same-length-5
-same-length-5 c = search needs
-
-same-length-6 : tie.Need-same-length-6
-same-length-6 c = search needs
-
-same-length-7 : tie.Need-same-length-7
-same-length-7 c = search needs
-
-same-length-8 : tie.Need-same-length-8
-same-length-8 c = search needs
-
-same-length-9 : tie.Need-same-length-9
-same-length-9 c = search needs
-
-same-length-10 : tie.Need-same-length-10
-same-length-10 c = search needs
-
-same-length-11 : tie.Need-same-length-11
-same-length-11 c = search needs
-
-same-length-12 : tie.Need-same-length-12
-same-length-12 c = search needs
-
 returns-2 : tie.Need-returns-2
 returns-2 c = λ h.
     let z : tie.After-sizes-in = search in
@@ -130,21 +94,21 @@ fill-checked-spec =
     tie.close
     (tie.spec
     check-text-requires
-    enum-known-checked
+    enum-known-answer
     returns
     enum-told
     fill-requires
     sizes-in-requires
-    same-length
-    same-length-2
-    same-length-3
-    same-length-4
-    same-length-5
-    same-length-6
-    same-length-7
-    same-length-8
-    same-length-9
-    same-length-10
-    same-length-11
-    same-length-12
+    (λ c. search needs)
+    (λ c. search needs)
+    (λ c. search needs)
+    (λ c. search needs)
+    (λ c. search needs)
+    (λ c. search needs)
+    (λ c. search needs)
+    (λ c. search needs)
+    (λ c. search needs)
+    (λ c. search needs)
+    (λ c. search needs)
+    (λ c. search needs)
     returns-2)

@@ -1,13 +1,15 @@
 -- `read_text::read_text` meets its contract. Assumes nothing.
 use mathlib.Core.Path.{_≡_, sym, _∙_}
-use Rattle.read_text.specs.Steps.{Readable}
-use Rattle.read_text.proofs.Kept.{bytes-accepted, bytes-refused, read-kept}
+use Rattle.text_check.proofs.Tells.{new-slots}
+use Rattle.text_bytes.specs.Bytes.{Readable}
+use Rattle.text_bytes.proofs.Told.{bytes-mean}
+use Rattle.read_text.proofs.Kept.{bytes-refused, read-kept}
 use borrow.Author.Needs.{needs}
 use Rattle.read_text.proofs.read_text.Statement.{statement}
 use Rattle.read_text.proofs.read_text.Tie as tie
 
 -- the places that facts are taken from, each found from the one after it
-abbrev told : tie.After-read-readable → tie.After-enum-told
+abbrev told : tie.After-read-with → tie.After-enum-told
 told c = search
 
 abbrev checked : tie.After-enum-told → tie.After-check-bytes
@@ -17,7 +19,7 @@ abbrev entry : tie.After-check-bytes → tie.Start
 entry c = search
 
 readable : (e : tie.After-enum-told) → Readable (entry (checked e) .args .text .now)
-readable e = bytes-accepted _ (sym (checked e .check-bytes .ensures) ∙ e .enum-told .given .1)
+readable e = bytes-mean _ .accepted (sym (checked e .check-bytes .ensures) ∙ e .enum-told .given .1)
 
 check-bytes-requires : tie.Need-check-bytes-requires
 check-bytes-requires c κs = search needs
@@ -34,10 +36,13 @@ returns c =
 enum-told : tie.Need-enum-told
 enum-told c = search needs
 
-read-readable-requires : tie.Need-read-readable-requires
-read-readable-requires c κs =
+slice-aggregate-read-with : tie.Need-slice-aggregate-read-with
+slice-aggregate-read-with c = search needs
+
+read-with-requires : tie.Need-read-with-requires
+read-with-requires c κs =
     let e : tie.After-enum-told = search in
-    readable e
+    (readable e, record { long = new-slots .0; free = new-slots .1 })
 
 same-length : tie.Need-same-length
 same-length c = search needs
@@ -77,8 +82,8 @@ same-length-12 c = search needs
 
 returns-2 : tie.Need-returns-2
 returns-2 c =
-    let r : tie.After-read-readable = search in
-    read-kept _ _ _ (readable (told r) .formed) (r .read-readable .ensures)
+    let r : tie.After-read-with = search in
+    read-kept _ _ _ (readable (told r) .formed) (r .read-with .ensures)
 
 pub read-text-spec : {M : Type 1} → statement M
 read-text-spec =
@@ -88,7 +93,8 @@ read-text-spec =
     enum-known-checked
     returns
     enum-told
-    read-readable-requires
+    slice-aggregate-read-with
+    read-with-requires
     same-length
     same-length-2
     same-length-3

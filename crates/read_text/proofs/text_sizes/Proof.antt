@@ -1,7 +1,8 @@
 -- `read_text::text_sizes` meets its contract. Assumes nothing.
 use mathlib.Core.Path.{_≡_, sym, _∙_}
-use Rattle.read_text.specs.Steps.{Readable}
-use Rattle.read_text.proofs.Kept.{bytes-accepted, sizes-refused, sizes-kept}
+use Rattle.text_bytes.specs.Bytes.{Readable}
+use Rattle.text_bytes.proofs.Told.{bytes-mean}
+use Rattle.read_text.proofs.Kept.{sizes-refused, sizes-kept}
 use borrow.Author.Needs.{needs}
 use Rattle.read_text.proofs.text_sizes.Statement.{statement}
 use Rattle.read_text.proofs.text_sizes.Tie as tie
@@ -14,7 +15,7 @@ abbrev entry : tie.After-check-bytes → tie.Start
 entry c = search
 
 readable : (e : tie.After-enum-told) → Readable (entry (checked e) .args .text .now)
-readable e = bytes-accepted _ (sym (checked e .check-bytes .ensures) ∙ e .enum-told .given .1)
+readable e = bytes-mean _ .accepted (sym (checked e .check-bytes .ensures) ∙ e .enum-told .given .1)
 
 check-bytes-requires : tie.Need-check-bytes-requires
 check-bytes-requires c κs = search needs

@@ -1,9 +1,9 @@
--- `read_text::well_formed` meets its contract. Assumes nothing.
+-- `text_bytes::well_formed` meets its contract. Assumes nothing.
 use mathlib.Core.Path.{_≡_, sym, ap, _∙_}
-use Rattle.read_text.specs.Steps.{malformedAt}
+use Rattle.text_bytes.specs.Bytes.{malformedAt}
 use borrow.Author.Needs.{needs}
-use Rattle.read_text.proofs.well_formed.Statement.{statement}
-use Rattle.read_text.proofs.well_formed.Tie as tie
+use Rattle.text_bytes.proofs.well_formed.Statement.{statement}
+use Rattle.text_bytes.proofs.well_formed.Tie as tie
 
 enum-told : tie.Need-enum-told
 enum-told c = search needs
