@@ -25,7 +25,7 @@
  *    viterbi_decode                 12,288    (8,136 were used)
  *    label_line                     49,152    (46,496)
  *    the three trainers             53,248    (51,592)
- *    read_text, text_sizes       1,048,576    (two tables that find names again are most of it: 786,432)
+ *    read_text, text_sizes       1,048,576    (787,544 and 787,096; two tables that find names again are most of it: 786,432)
  *    write_text                      1,024
  */
 #ifndef BODKINBLOOM_H

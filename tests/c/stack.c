@@ -87,7 +87,6 @@ static void arow(void) {
     number = bodkinbloom_arow(parameters, TRAINED).number;
 }
 
-#ifdef TEXT_CALLS /* the archive has them */
 /* A text with as many names as there may be, each six bytes long, and one word. */
 enum { NAMES = BODKINBLOOM_MOST_ATTRIBUTE_NAMES };
 static uint8_t text[1 + NAMES * 6], written[sizeof text + 2], label_names[1], attribute_names[NAMES * 5], scales[1];
@@ -124,7 +123,6 @@ static void write_text(void) {
                                     TABLE(written))
                  .number;
 }
-#endif
 
 /* the header's table */
 static const struct {
@@ -144,11 +142,9 @@ static const struct {
     {"averaged_perceptron", perceptron, 53248},
     {"passive_aggressive", passive, 53248},
     {"arow", arow, 53248},
-#ifdef TEXT_CALLS
     {"read_text", read_text, BODKINBLOOM_TEXT_STACK},
     {"text_sizes", text_sizes, BODKINBLOOM_TEXT_STACK},
     {"write_text", write_text, 1024},
-#endif
 };
 
 /* ---- the painted stack */

@@ -5,7 +5,7 @@
 use std::hint::black_box;
 use std::time::Instant;
 
-use compare::text::{Lent, STAND_IN, read_text, write_text};
+use compare::text::{Lent, read_text, write_text};
 use oracle::cases::Rng;
 use oracle::training_text::writer::Given;
 use oracle::training_text::{Tables, cases, plain};
@@ -20,10 +20,6 @@ const WORDS: u32 = 20;
 const BYTES: usize = 60_000_000;
 
 pub fn print() {
-    if STAND_IN && std::env::var_os("STAND_IN").is_none() {
-        println!("training texts: the archive has no calls for them yet (STAND_IN=1 times what stands in)");
-        return;
-    }
     println!("training texts, nanoseconds a byte, medians; ratio: plain Rust over library");
     let plain_names = |count: u32| (0..count).map(|name| format!("n{name:05}").into_bytes()).collect::<Vec<_>>();
     for (bytes, names) in

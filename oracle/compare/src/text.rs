@@ -3,16 +3,10 @@
 use oracle::training_text::Sizes;
 use oracle::training_text::writer::Given;
 
-#[cfg(text_calls)]
 use crate::calls::{
     Names, Text, Totals, Written, bodkinbloom_read_text, bodkinbloom_text_sizes, bodkinbloom_write_text,
 };
 use crate::{Refusal, pointer, pointer_mut};
-#[cfg(not(text_calls))]
-use text_calls::{Names, Text, Totals, Written, bodkinbloom_read_text, bodkinbloom_text_sizes, bodkinbloom_write_text};
-
-/// What is called is no proved call: the archive has none yet.
-pub const STAND_IN: bool = cfg!(not(text_calls));
 
 /// The twelve tables that the reader is lent.
 pub struct Lent<'a> {

@@ -8,7 +8,7 @@ use std::fs;
 use std::path::Path;
 
 use compare::Refusal;
-use compare::text::{Lent, STAND_IN, read_text, text_sizes, write_text};
+use compare::text::{Lent, read_text, text_sizes, write_text};
 use oracle::cases::{Mix, Rng};
 use oracle::training_text::cases::{self, Case, Kind};
 use oracle::training_text::layout::{self, FAULTS};
@@ -176,7 +176,6 @@ fn reads_as_the_second_reading_does() {
     for name in short_names {
         mix = mix.require(name, 0.15);
     }
-    println!("{}", if STAND_IN { "what stands in for the calls is compared" } else { "the archive is compared" });
     for number in 0..CASES * rounds() {
         let mut rng = Rng::of_case(0x7E87, number);
         let Case { kind, text } = cases::text(&mut rng);
