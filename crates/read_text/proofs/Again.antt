@@ -30,7 +30,7 @@ use Rattle.read_text.specs.Again.{lentBack, SameRead, ReadsAgain, ReadsT
 use Rattle.read_text.proofs.Unique.{told, either}
 
 -- what lies behind the tables of sequences
-abbrev behind : Tables → Buffers → Tails
+abbrev pub behind : Tables → Buffers → Tails
 behind t b = record {
   lineStarts = drop (length (t .corpus .starts)) (b .lineStarts);
   wordStarts = drop (length (t .corpus .words .starts)) (b .wordStarts);

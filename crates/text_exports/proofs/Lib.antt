@@ -1,3 +1,4 @@
 mod Kept
 mod OnlyOne
 mod Meant
+mod RoundTrip

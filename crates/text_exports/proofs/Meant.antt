@@ -1,5 +1,5 @@
 -- What C is told of a training text means what `Meaning` says. Assumes nothing.
-use mathlib.Core.Path.{_≡_, refl, ap, _∙_}
+use mathlib.Core.Path.{_≡_, refl, sym, ap, _∙_}
 use mathlib.Core.List.{List, [], _∷_}
 use Prim.Native.Nat.{ℕ, _<_}
 use native.Mathlib.Omega.{arith}
@@ -13,7 +13,7 @@ use Rattle.layout.specs.Layout.{Bytes, Word}
 use Rattle.text_tables.specs.Written.{writtenText}
 use Rattle.read_text.specs.declared.TextSizes.{TextSizes}
 use Rattle.read_text.specs.declared.TextReading.{TextReading}
-use Rattle.read_text.specs.Promise.{said, sizesOf}
+use Rattle.read_text.specs.Promise.{Buffers, said, sizesOf}
 use Rattle.read_text.specs.Meaning.{sequencesOf, TextAnswerMeans}
 use Rattle.read_text.proofs.Meant.{promise-means, sizes-mean}
 use Rattle.write_text.specs.Promise.{checkedOf, answerTo}
@@ -22,6 +22,7 @@ use Rattle.answers.specs.Given.{Gives}
 use Rattle.answers.proofs.Told.{gives-refusal, refusal-given, zero-accepted}
 use Rattle.text_exports.specs.declared.ReadText.{ReadText}
 use Rattle.text_exports.specs.Numbers.{readNumbers, writtenNumbers}
+use Rattle.text_exports.specs.Promise.{ReadOutcome, Reads}
 use Rattle.text_exports.specs.Meaning.{ReadingTells, ReadsMean, SizesMean, WritesMean}
 
 -- ---- reading: a number other than 0 tells the refusal, and 0 that there is none
@@ -57,6 +58,13 @@ tells text Fits reading answer e m =
 
 pub reads-mean : ReadsMean
 reads-mean text before outcome kept = tells text _ (kept .reading) (outcome .answer) (kept .answers) (promise-means text before _ (kept .promised))
+
+-- of an accepted reading
+pub accepted-sizes : (text : Bytes) (before : Buffers) (outcome : ReadOutcome) (kept : Reads text before outcome) → outcome .answer .number ≡ 0 → (sizes : TextSizes) × (said (kept .reading) ≡ accepted sizes)
+accepted-sizes text before outcome kept zero =
+    let m = promise-means text before _ (kept .promised) in
+    let number : readNumbers (said (kept .reading)) .number ≡ 0 = sym (ap (λ (a : ReadText). a .number) (kept .answers)) ∙ zero in
+    zero-taken (said (kept .reading)) (λ why h. above-zero (2 ∷ 4 ∷ 11 ∷ []) (why .number) tt (m .only why h)) number
 
 pub sizes-tell : SizesMean
 sizes-tell text answer kept = tells text _ (kept .reading) answer (kept .answers) (sizes-mean text (kept .reading) (kept .promised))
