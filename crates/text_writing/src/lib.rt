@@ -228,9 +228,11 @@ pub fn put_sequences(
     scales: &[u8],
 ) -> usize
     requires { ⌜ ((i : ℕ) → i < instances → SequenceStands (lentTables instances (now lines) (now begins) (now ids) (now references) (strings (now «label_starts») (now labels)) (strings (now «name_starts») (now names)) (strings (now «scale_starts») (now scales))) i) ⌝ }
-    requires { ⌜ RoomFor (eachFrom (sequenceBytes (lentTables instances (now lines) (now begins) (now ids) (now references) (strings (now «label_starts») (now labels)) (strings (now «name_starts») (now names)) (strings (now «scale_starts») (now scales)))) 0 instances) (now text) 0 ⌝ }
+    requires { let t = lentTables instances (now lines) (now begins) (now ids) (now references) (strings (now «label_starts») (now labels)) (strings (now «name_starts») (now names)) (strings (now «scale_starts») (now scales)) in
+        ⌜ RoomFor (eachFrom (sequenceBytes t) 0 instances) (now text) 0 ⌝ }
     ensures { λ r.
-        let t = lentTables instances (now (lines .entry)) (now (begins .entry)) (now (ids .entry)) (now (references .entry)) (strings (now («label_starts» .entry)) (now (labels .entry))) (strings (now («name_starts» .entry)) (now (names .entry))) (strings (now («scale_starts» .entry)) (now (scales .entry))) in
+        let t = lentTables instances (now (lines .entry)) (now (begins .entry)) (now (ids .entry)) (now (references .entry))
+        (strings (now («label_starts» .entry)) (now (labels .entry))) (strings (now («name_starts» .entry)) (now (names .entry))) (strings (now («scale_starts» .entry)) (now (scales .entry))) in
         ⌜ Put (eachFrom (sequenceBytes t) 0 instances) (now (text .entry)) 0 r (now (text .exit)) ⌝ }
 {
     let mut i = 0usize;
@@ -384,7 +386,10 @@ pub fn written_length(
     scales: &[u8],
 ) -> usize
     requires { ⌜ Measurable (lentTables instances (now lines) (now begins) (now ids) (now references) (strings (now «label_starts») (now labels)) (strings (now «name_starts») (now names)) (strings (now «scale_starts») (now scales))) words attributes ⌝ }
-    ensures { λ r. ⌜ r ≡ length (writtenText (lentTables instances (now (lines .entry)) (now (begins .entry)) (now (ids .entry)) (now (references .entry)) (strings (now («label_starts» .entry)) (now (labels .entry))) (strings (now («name_starts» .entry)) (now (names .entry))) (strings (now («scale_starts» .entry)) (now (scales .entry))))) ⌝ }
+    ensures { λ r.
+        let t = lentTables instances (now (lines .entry)) (now (begins .entry)) (now (ids .entry)) (now (references .entry))
+        (strings (now («label_starts» .entry)) (now (labels .entry))) (strings (now («name_starts» .entry)) (now (names .entry))) (strings (now («scale_starts» .entry)) (now (scales .entry))) in
+        ⌜ r ≡ length (writtenText t) ⌝ }
 {
     let named = labels_length(references, label_starts, labels, words);
     let marked = attributes_length(ids, name_starts, names, scale_starts, scales, attributes);

@@ -68,7 +68,8 @@ fn lacks_strings(
     scale_starts: &[u32],
     scales: &[u8],
 ) -> bool
-    ensures { λ r. ⌜ r ≡ anyBroken (stringLimits labels attributes names (length (now («label_name_starts» .entry))) (length (now («label_names» .entry))) (length (now («attribute_name_starts» .entry))) (length (now («attribute_names» .entry))) (length (now («scale_starts» .entry))) (length (now (scales .entry)))) ⌝ }
+    ensures { λ r. ⌜ r ≡ anyBroken (stringLimits labels attributes names
+        (length (now («label_name_starts» .entry))) (length (now («label_names» .entry))) (length (now («attribute_name_starts» .entry))) (length (now («attribute_names» .entry))) (length (now («scale_starts» .entry))) (length (now (scales .entry)))) ⌝ }
 {
     (label_name_starts.len() < labels as usize + 1)
         | (label_names.len() < names.label_bytes as usize)

@@ -129,7 +129,9 @@ plain-returns-4 : (t : ℕ) → plain-lts.Need-returns-4 (
   plain-below t,
   plain.Post,
 ) (plain-at t) plain.Post
-plain-returns-4 t c = on _ false false _ _ _ (c .before .before .before .before .before .before .pre .1) (c .before .before .before .before .if1 .left) (λ k. step-plain k _ (c .before .before .if2 .left) (c .before .if3 .left)) (c .plain .ensures)
+plain-returns-4 t c =
+    let s : plain-lts.Start (behind-below t, behind.Post, plain-below t, plain.Post) (plain-at t) plain.Post = search in
+    on _ false false _ _ _ (s .pre .1) (c .before .before .before .before .if1 .left) (λ k. step-plain k _ (c .before .before .if2 .left) (c .before .if3 .left)) (c .plain .ensures)
 
 pub +behind+plain-spec : {M : Type 1} → statement M
 +behind+plain-spec =

@@ -38,10 +38,26 @@ add-t15 : tie.Need-add-t15
 add-t15 c = search needs
 
 returns-2 : tie.Need-returns-2
-returns-2 c = turned-on _ _ _ _ _ _ (c .before .before .before .before .before .before .through-name .ensures) (c .before .before .before .before .before .if1 .left) (c .before .before .before .before .before .before .before .window-end .ensures .0 .1) (c .before .before .next-mode .ensures ∙ ap (nextMode (c .before .before .before .before .before .before .through-name .result .mode)) (c .before .before .before .class-of .ensures)) (sym (c .before .is-alive .ensures) ∙ c .if2 .taken)
+returns-2 c =
+    let a : tie.After-is-alive = search in
+    let n : tie.After-next-mode = search in
+    let k : tie.After-class-of = search in
+    let e : tie.Else1 = search in
+    let t : tie.After-through-name = search in
+    let w : tie.After-window-end = search in
+    turned-on _ _ _ _ _ _ (t .through-name .ensures) (e .if1 .left) (w .window-end .ensures .0 .1)
+    (n .next-mode .ensures ∙ ap (nextMode (t .through-name .result .mode)) (k .class-of .ensures)) (sym (a .is-alive .ensures) ∙ c .if2 .taken)
 
 returns-3 : tie.Need-returns-3
-returns-3 c = turned-stuck _ _ _ _ _ _ (c .before .before .before .before .before .before .through-name .ensures) (c .before .before .before .before .before .if1 .left) (c .before .before .before .before .before .before .before .window-end .ensures .0 .1) (c .before .before .next-mode .ensures ∙ ap (nextMode (c .before .before .before .before .before .before .through-name .result .mode)) (c .before .before .before .class-of .ensures)) (sym (c .before .is-alive .ensures) ∙ c .if2 .left)
+returns-3 c =
+    let a : tie.After-is-alive = search in
+    let n : tie.After-next-mode = search in
+    let k : tie.After-class-of = search in
+    let e : tie.Else1 = search in
+    let t : tie.After-through-name = search in
+    let w : tie.After-window-end = search in
+    turned-stuck _ _ _ _ _ _ (t .through-name .ensures) (e .if1 .left) (w .window-end .ensures .0 .1)
+    (n .next-mode .ensures ∙ ap (nextMode (t .through-name .result .mode)) (k .class-of .ensures)) (sym (a .is-alive .ensures) ∙ c .if2 .left)
 
 pub turn-spec : {M : Type 1} → statement M
 turn-spec =
