@@ -539,7 +539,11 @@ bodkinbloom_trained bodkinbloom_arow(
  * Names get ids by first appearance, from 0, labels and attributes apart. Each call starts with no names: the ids of two texts
  * agree only where names appear first in the same order. To use a text with a model that was trained on another, look each of
  * its names up among the names of the other, and put the other's id for its own in `ids` and `references`. An attribute that the
- * other does not have takes any id without an attribute list, which adds nothing. */
+ * other does not have takes any id without an attribute list, which adds nothing.
+ *
+ * Names are found by hashing, so that reading takes time in proportion to the text. Only in a text that is made for it, with names
+ * whose searches all begin in the same place, is every attribute compared with the names before it, at most 65,535 of them: the
+ * time then grows with names x attributes. Who takes texts from strangers bounds their length. */
 
 /* What reading a text answers; all but number and place are 0 after a refusal.
  *    number           0, or the refusal's
