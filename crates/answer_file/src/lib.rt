@@ -1,5 +1,7 @@
 // From an open file to its answer line on standard output. What is read and written stands in no contract: everything
 // between is `answer_front`.
+#![tactic(auto)]
+
 ghost use Rattle.std.specs.Prelude.{◌≤◌, ◌<◌, length};
 ghost use Rattle.decode_sheet.specs.Front.{longest_sheet};
 ghost use Rattle.answer_file.specs.EveryFile.{PrintedOfEvery};

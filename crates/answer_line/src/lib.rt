@@ -1,4 +1,6 @@
 // The answer line: what the program prints of a path or a refusal, written to a lent buffer.
+#![tactic(auto)]
+
 ghost use Rattle.std.specs.Prelude.{◌≡◌, not, [], ◌∷◌, ◌+◌, ◌≤◌, ◌<◌, T, length};
 ghost use Rattle.std.specs.Float.Ieee.{is_nan};
 ghost use Rattle.answer_line.specs.Digits.{digit as Digits·digit, digits, decimal_places, decimal};

@@ -7,7 +7,7 @@ use refusals::Checked;
 
 // A refusal of document 01; the number 0 says that nothing was refused.
 #[repr(C)]
-#[derive(Drop)]
+#[derive(Clone, Copy)]
 pub struct Refused {
     pub number: u32,
     pub place: u64,

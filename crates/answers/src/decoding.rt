@@ -10,7 +10,7 @@ use viterbi_end::{Found, Lead};
 
 // The answer of a decoded line: `has_lead` is 0 where there is no lead.
 #[repr(C)]
-#[derive(Drop)]
+#[derive(Clone, Copy)]
 pub struct Decoded {
     pub number: u32,
     pub has_lead: u32,
@@ -21,7 +21,7 @@ pub struct Decoded {
 
 // The answer of a scored path.
 #[repr(C)]
-#[derive(Drop)]
+#[derive(Clone, Copy)]
 pub struct Scored {
     pub number: u32,
     pub place: u64,

@@ -7,7 +7,7 @@ use training::Training;
 
 // The refusal's number and place, or epochs run, visits and updates; what has no value is 0.
 #[repr(C)]
-#[derive(Drop)]
+#[derive(Clone, Copy)]
 pub struct Trained {
     pub number: u32,
     pub place: u64,

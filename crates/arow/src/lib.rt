@@ -1,4 +1,6 @@
 // AROW's update: weights and covariance after a visit whose labels differ, and what it adds to the epoch's loss.
+#![tactic(auto)]
+
 ghost use Rattle.std.specs.Prelude.{◌≡◌, length, ◌≤◌, ℕ, Float};
 ghost use Rattle.training.specs.Rules.{narrowed, ◌⊘◌, spread, arow, ◌⊕◌, ◌⊖◌};
 ghost use Rattle.training_tables.specs.Tables.{Held, Moved, Both, Updated};

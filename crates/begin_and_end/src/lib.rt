@@ -1,5 +1,7 @@
 // How a training begins and ends: the tables at the start, the order of an epoch, the final averaging, the answer, and the
 // zeroing of what is not the result.
+#![tactic(auto)]
+
 ghost use Rattle.std.specs.Prelude.{◌≡◌, cond, ℕ, ◌≤◌, ◌<◌, length, Float};
 ghost use Rattle.shuffle.specs.Shuffle.{Deal, shuffled};
 ghost use Rattle.lines.specs.Passes.{through};
@@ -16,7 +18,7 @@ use parameters::Trainer;
 use training::{Progress, Trained, Training, Visit};
 
 // What a run of epochs comes to: the last progress, and how many epochs were run.
-#[derive(Drop)]
+#[derive(Clone, Copy)]
 pub struct Ran {
     pub progress: Progress,
     pub epochs: u64,

@@ -1,5 +1,7 @@
 // Binary64: the finite tests and the smaller of two. The order of its values and what a rounded sum does to it stand in
 // specs/ and proofs/, for the decoder to cite.
+#![tactic(auto)]
+
 ghost use Rattle.std.specs.Prelude.{◌&&◌, ◌≡◌};
 ghost use Rattle.std.specs.Float.Ieee.Scale.{finite};
 ghost use Rattle.binary64.specs.Smaller.{smaller};

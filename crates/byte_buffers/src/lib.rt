@@ -1,5 +1,7 @@
 // Bytes written to a lent buffer, part by part: each function writes from a place on, leaves the rest as it was, and answers the
 // place after what it wrote. The answer line and the training text are written so.
+#![tactic(auto)]
+
 ghost use Rattle.std.specs.Prelude.{[], ◌∷◌, ◌≤◌, length};
 ghost use Rattle.std.proofs.Math.Seq.{slice};
 ghost use Rattle.byte_buffers.specs.Stored.{RoomFor, Put};

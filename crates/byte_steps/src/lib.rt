@@ -1,4 +1,6 @@
 // The automaton of the layout in code: the class of a byte, and the step from mode to mode.
+#![tactic(auto)]
+
 ghost use Rattle.std.specs.Prelude.{◌≡◌, cond, ◌+◌, ltb};
 ghost use Rattle.layout.specs.Scan.{class_of, next_mode_of, ends_scale, accepting, alive};
 

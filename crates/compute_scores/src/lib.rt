@@ -1,6 +1,8 @@
 // The state and transition scores of a line: `compute_scores` of crf_context.rs, over flat tables and into lent buffers. For each
 // attribute of a word the State entries of its list are added up in the word's row, and the Transition entries of the label lists by
 // source and destination; training uses these loops too. The call tests all it is given, with refusals 1 to 6 beforehand and 8 afterwards.
+#![tactic(auto)]
+
 ghost use Rattle.std.specs.Prelude.{◌≡◌, ◌++◌, [], ◌*◌, ◌≤◌, ◌<◌, ◌+◌, ℕ, ◌-◌, length, drop, get_or};
 ghost use Rattle.lines.specs.Spans.{through_span, SoundSpan};
 ghost use Rattle.lines.specs.Sound.{SoundStates, SoundLists, SoundWords, SoundTransitions};

@@ -1,4 +1,6 @@
 // The feature counts of a line, for programs in C and Rust: one call of the crate extract_features, and its answer as numbers.
+#![tactic(auto)]
+
 ghost use Rattle.lines.specs.Entry.{line_was};
 ghost use Rattle.feature_gen.specs.Lent.{model_was};
 ghost use Rattle.counting_exports.specs.Counts.{Counted};

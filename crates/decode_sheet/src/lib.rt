@@ -1,4 +1,6 @@
 // From a sheet's bytes to its answer line: read, decoded, written. What the program `decode` runs between its input and its output.
+#![tactic(auto)]
+
 ghost use Rattle.std.specs.Prelude.{◌≡◌, ◌≤◌, length};
 ghost use Rattle.best_path.specs.Scores.{tabled};
 ghost use Rattle.best_path.specs.Decoded.{decoded_path, decoded_sum};
@@ -13,7 +15,7 @@ use refusals::Refusal;
 use score_tables::entries;
 use sheet::Reading;
 
-#[derive(Drop)]
+#[derive(Clone, Copy)]
 pub enum Written {
     Path(usize),
     Refused(Refusal),

@@ -1,5 +1,7 @@
 // Decoding a line, and the score of a path, for programs in C and Rust. Each is thin: one call of a crate below, and its answer
 // as numbers.
+#![tactic(auto)]
+
 ghost use Rattle.decoding_exports.specs.Decoding.{Decodes, ScoresPath};
 
 use answers::decoding::{Decoded, Scored};

@@ -1,6 +1,8 @@
 // Ids of names by first appearance, over places in the text: nothing is copied, a name is known by where it first stands. Attribute
 // names are found by open addressing in lent slots, labels are compared one by one. The search is right whatever the slots' homes
 // are; homes that lie apart make it short.
+#![tactic(auto)]
+
 ghost use Rattle.std.specs.Prelude.{◌≡◌, List, ◌+◌, ◌*◌, ◌/◌, ◌%◌, ◌≤◌, ◌<◌, length};
 ghost use Rattle.std.proofs.Math.Seq.{slice};
 ghost use Rattle.layout.specs.Layout.{Bytes};

@@ -1,4 +1,6 @@
 // A draw, and the shuffle of an order, for programs in C and Rust.
+#![tactic(auto)]
+
 ghost use Rattle.std.specs.Prelude.{◌≡◌};
 ghost use Rattle.draw_exports.specs.Draws.{Drew, Shuffled, Shuffling};
 

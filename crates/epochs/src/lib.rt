@@ -1,4 +1,6 @@
 // Epochs until training ends.
+#![tactic(auto)]
+
 ghost use Rattle.std.specs.Prelude.{false};
 ghost use Rattle.lines.specs.Passes.{through};
 ghost use Rattle.training.specs.Rules.{stops};

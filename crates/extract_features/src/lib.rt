@@ -1,5 +1,7 @@
 // The feature counts of a line under labels: `extract_features` of trainer.rs, over flat tables and into a lent buffer. The loops
 // are in `line_counts`; the call tests all it is given, with refusals 1 to 6 beforehand and 8 afterwards.
+#![tactic(auto)]
+
 ghost use Rattle.std.specs.Prelude.{◌≡◌, ◌++◌, ◌≤◌, ◌+◌, ℕ, length, drop};
 ghost use Rattle.lines.specs.Sound.{SoundLists, SoundCounts, SoundWords};
 ghost use Rattle.lines.specs.Counted.{counts_of};

@@ -1,5 +1,7 @@
 // Features and the model that holds them, after `feature_gen.rs`: kinds State 0 and Transition 1, and the check of a model: of
 // its tables, and of its weights apart. Every call that is lent a model takes the sooner of these checks and its own.
+#![tactic(auto)]
+
 ghost use Rattle.std.specs.Prelude.{◌≡◌, [], ◌∷◌, ◌<◌, ◌≤◌, length};
 ghost use Rattle.refusals.specs.Refusals.{first_from};
 ghost use Rattle.refusal_rows.specs.Limits.{any_broken};
@@ -26,7 +28,7 @@ pub const MOST_ENTRIES: u32 = 1048576;
 
 // The counts of a model, which are numbers of their own beside the tables.
 #[repr(C)]
-#[derive(Drop)]
+#[derive(Clone, Copy)]
 pub struct Counts {
     pub features: u32,
     pub attribute_lists: u32,

@@ -1,5 +1,7 @@
 // The tables of a text that is known to be well-formed, filled: names from where they first stand, then words and attributes, each
 // in one pass over the pieces. Sizes and names are known, and every table has room.
+#![tactic(auto)]
+
 ghost use Rattle.std.specs.Prelude.{◌≡◌, cond, List, map, ℕ, ◌+◌, ◌≤◌, ◌<◌, length, set};
 ghost use Rattle.std.proofs.Math.Seq.{slice};
 ghost use Rattle.layout.specs.Layout.{Bytes, WellFormed, sequences};
@@ -15,7 +17,7 @@ ghost use Rattle.fill_text.specs.OnePiece.{WordMay, WordBegun, WordPieceMay, Wor
 use pieces::{Kind, Span};
 
 // How much the tables of words hold so far, and whether a sequence is open.
-#[derive(Drop)]
+#[derive(Clone, Copy)]
 pub struct WordsSoFar {
     pub sequences: usize,
     pub words: usize,
@@ -24,7 +26,7 @@ pub struct WordsSoFar {
 }
 
 // How much the tables of attributes hold so far.
-#[derive(Drop)]
+#[derive(Clone, Copy)]
 pub struct KeptSoFar {
     pub attributes: usize,
     pub bytes: usize,

@@ -1,5 +1,7 @@
 // Refusal 8 of a call on a single line: the finished scores, or the finished counts, are looked at, and where one of them is not
 // finite the needed front of what was made is zero again. A refusal that comes before them is handed on, and leaves the buffers.
+#![tactic(auto)]
+
 ghost use Rattle.std.specs.Prelude.{◌≡◌, ◌*◌, ◌≤◌, length};
 ghost use Rattle.refusals.specs.declared.Checked.TheVariants.{Accepted, Refused};
 ghost use Rattle.score_tables.specs.Sound.{ScoresSized};

@@ -1,5 +1,7 @@
 // The needed front of a lent table, whichever the call: whether its numbers are finite, and filling or zeroing it. What lies
 // behind is not touched.
+#![tactic(auto)]
+
 ghost use Rattle.std.specs.Prelude.{◌≡◌, ◌+◌, ◌≤◌, length};
 ghost use Rattle.fronts.specs.Finite.{all_finite_of};
 ghost use Rattle.fronts.specs.Cleared.{cleared};

@@ -1,4 +1,6 @@
 // The generator's room: what the shuffle draws from. `draw` is lent the generator and advances it; `draw_from` is a draw with plain numbers in and out.
+#![tactic(auto)]
+
 ghost use Rattle.std.specs.Prelude.{◌≡◌};
 ghost use Rattle.generator.specs.SplitMix64.{folded, wrapped, advanced, mixed};
 ghost use Rattle.generator.specs.Draw.{next, number};
@@ -32,13 +34,13 @@ pub fn mix(z: u64) -> u64
 }
 
 // "The generator's state goes from epoch to epoch", so the generator is lent and not copied.
-#[derive(Drop)]
+#[derive(Clone, Copy)]
 pub struct Generator {
     pub state: u64,
 }
 
 // What a draw gives: the number, and the state to go on with.
-#[derive(Drop)]
+#[derive(Clone, Copy)]
 pub struct Drawn {
     pub number: u64,
     pub state: u64,

@@ -1,5 +1,7 @@
 // What a visit has to know of an instance that was labelled: 8 of its scores, the predicted path beside the reference, and their
 // path scores.
+#![tactic(auto)]
+
 ghost use Rattle.std.specs.Prelude.{◌≡◌, ◌≤◌, length};
 ghost use Rattle.training.specs.Wrong.{wrong_of};
 ghost use Rattle.judging.specs.Judged.{is_decoded_of, Judged, Judgeable};
@@ -7,7 +9,7 @@ ghost use Rattle.judging.specs.Judged.{is_decoded_of, Judged, Judgeable};
 use viterbi::Decoding;
 
 // Whether the scores are finite, how many labels are wrong, and where some are, the scores of the predicted and the true path.
-#[derive(Drop)]
+#[derive(Clone, Copy)]
 pub struct Prediction {
     pub finite: bool,
     pub wrong: u32,

@@ -1,5 +1,7 @@
 // Score, then decode: the labels of a line, for programs in C and Rust. One call of the crate label_line, and its answer as
 // numbers.
+#![tactic(auto)]
+
 ghost use Rattle.lines.specs.Entry.{line_was};
 ghost use Rattle.feature_gen.specs.Lent.{model_was};
 ghost use Rattle.label_exports.specs.Labels.{Labels};

@@ -1,4 +1,6 @@
 // Labelling a line under a model: its scores, which stay inside, then the decoded path with its sum and lead.
+#![tactic(auto)]
+
 ghost use Rattle.std.specs.Prelude.{◌≡◌, ◌*◌, ◌≤◌, length};
 ghost use Rattle.lines.specs.Scored.{states_of, transitions_of};
 ghost use Rattle.lines.specs.Entry.{line_at, line_was};

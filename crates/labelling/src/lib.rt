@@ -1,5 +1,7 @@
 // The labels of one line of flat tables: its states are scored, 8 is looked for, and the path is decoded. The call on a single
 // line and a training both go this way; the transitions, which are the same for every line, are scored beforehand.
+#![tactic(auto)]
+
 ghost use Rattle.std.specs.Prelude.{◌≡◌, ◌*◌, ◌+◌, ◌≤◌, ℕ};
 ghost use Rattle.lines.specs.Tables.{Model};
 ghost use Rattle.lines.specs.Entry.{line_was};

@@ -1,4 +1,6 @@
 // A whole training, over result and work tables that are exactly as long as they have to be: its beginning, its epochs, its end.
+#![tactic(auto)]
+
 ghost use Rattle.std.specs.Prelude.{◌≡◌};
 ghost use Rattle.training.specs.Epochs.{Result, trained};
 ghost use Rattle.prediction.specs.Tables.{training_model_at, training_model_was, training_data_at, training_data_was};

@@ -1,5 +1,7 @@
 // The checks of a call on a single line under a model: document 01's refusals 1 and 4, then the sooner of the model's check,
 // the line's, and that of what else is lent. A trainer's words and labels are checked by the same functions.
+#![tactic(auto)]
+
 ghost use Rattle.std.specs.Prelude.{◌≡◌};
 ghost use Rattle.refusal_rows.specs.Limits.{any_broken};
 ghost use Rattle.feature_gen.specs.Lent.{model_was};

@@ -1,6 +1,8 @@
 // The feature counts of a line under labels, added up in a lent buffer: for each attribute of a word the entries of its list that are
 // of the word's label, noted first and then added; and from the second word on the entries of the previous label's list that lead
 // from that label to the word's. The loops of `extract_features`, which training uses too.
+#![tactic(auto)]
+
 ghost use Rattle.std.specs.Prelude.{◌≡◌, [], cond, ◌-◌, ◌≤◌, ◌<◌, ◌+◌, eqb, length, get_or, set};
 ghost use Rattle.lines.specs.Passes.{through};
 ghost use Rattle.lines.specs.Spans.{through_span, SoundSpan};

@@ -1,11 +1,13 @@
 // The tables of a model and of lines, what the scores and the feature counts of a line are, and the laws of these definitions.
 // Of code only what scoring and counting share: the attribute that they hand on, and how an attribute and the places of its list
 // are read. The loops over these are in compute_scores and extract_features.
+#![tactic(auto)]
+
 ghost use Rattle.std.specs.Prelude.{◌≡◌, ◌≤◌, ◌<◌, min, length, get_or};
 ghost use Rattle.lines.specs.Spans.{attribute_before_of, span_of};
 
 // "An attribute is an id with a value."
-#[derive(Drop)]
+#[derive(Clone, Copy)]
 pub struct Attribute {
     pub id: u32,
     pub value: f64,
@@ -13,7 +15,7 @@ pub struct Attribute {
 
 // Instances, words in all and attributes in all, which are numbers of their own beside the tables.
 #[repr(C)]
-#[derive(Drop)]
+#[derive(Clone, Copy)]
 pub struct Totals {
     pub instances: u32,
     pub words: u32,
@@ -21,7 +23,7 @@ pub struct Totals {
 }
 
 // The places of a list among the entries: from the first up to the last, which is not one of them.
-#[derive(Drop)]
+#[derive(Clone, Copy)]
 pub struct Span {
     pub first: usize,
     pub last: usize,

@@ -1,5 +1,7 @@
 // The look through a text for 11, window by window. Through a name the plain-character step and the after-backslash step call each
 // other as the remaining bytes fall; a window has at most 64 bytes, so that no text can exhaust the stack.
+#![tactic(auto)]
+
 ghost use Rattle.std.specs.Prelude.{true, false, ◌≡◌, ◌+◌, ◌<◌, ◌≤◌, length};
 ghost use Rattle.layout.specs.Scan.{look, alive};
 ghost use Rattle.look.specs.Windows.{Window, name_mode, Passed, WalkedTo};
@@ -8,7 +10,7 @@ ghost use Rattle.look.specs.Turns.{Onward, Turned};
 use layout::{Found, Mode};
 
 // Where a walk stopped, and in which of its two states.
-#[derive(Drop)]
+#[derive(Clone, Copy)]
 pub struct Stop {
     pub at: usize,
     pub slashed: bool,
@@ -81,7 +83,7 @@ fn behind(text: &[u8], at: usize, end: usize) -> Stop
 }
 
 // How far a look has come.
-#[derive(Drop)]
+#[derive(Clone, Copy)]
 pub struct Reached {
     pub at: usize,
     pub mode: Mode,

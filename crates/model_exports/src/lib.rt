@@ -1,5 +1,7 @@
 // The check of a model, and its weights, for programs in C and Rust. Each is thin: one call of the crate feature_gen, and its
 // answer as numbers.
+#![tactic(auto)]
+
 ghost use Rattle.feature_gen.specs.Lent.{model_was};
 ghost use Rattle.model_exports.specs.Model.{Checks, Sets};
 

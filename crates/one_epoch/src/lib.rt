@@ -1,4 +1,6 @@
 // An epoch's visits, in the order of the shuffle.
+#![tactic(auto)]
+
 ghost use Rattle.training.specs.Visits.{visited};
 ghost use Rattle.training.specs.Epochs.{epoch_over};
 ghost use Rattle.prediction.specs.Tables.{training_model_at, training_model_was, training_data_at, training_data_was};

@@ -1,4 +1,6 @@
 // The parameters of the three trainers, the trainer that they stand for, and refusal 7: "each trainer tests only its own".
+#![tactic(auto)]
+
 ghost use Rattle.std.specs.Prelude.{◌≡◌, [], ◌∷◌};
 ghost use Rattle.refusals.specs.Refusals.{first_from};
 ghost use Rattle.parameters.specs.Trainers.{on, rule_of, rule_for, settings_in, settings_for};
@@ -11,7 +13,7 @@ pub const MOST_EPOCHS: u32 = 1000;
 pub const LAST_VARIANT: u32 = 2;
 
 #[repr(C)]
-#[derive(Drop)]
+#[derive(Clone, Copy)]
 pub struct Perceptron {
     pub epochs: u32,
     pub epsilon: f64,
@@ -20,7 +22,7 @@ pub struct Perceptron {
 
 // Variants 0 Pa, 1 PaI, 2 PaII. Of the two switches 0 is off and all else on.
 #[repr(C)]
-#[derive(Drop)]
+#[derive(Clone, Copy)]
 pub struct Passive {
     pub epochs: u32,
     pub epsilon: f64,
@@ -32,7 +34,7 @@ pub struct Passive {
 }
 
 #[repr(C)]
-#[derive(Drop)]
+#[derive(Clone, Copy)]
 pub struct Arow {
     pub epochs: u32,
     pub epsilon: f64,
@@ -42,7 +44,7 @@ pub struct Arow {
 }
 
 // Which trainer is called, and with which parameters.
-#[derive(Drop)]
+#[derive(Clone, Copy)]
 pub enum Method {
     AveragedPerceptron(Perceptron),
     PassiveAggressive(Passive),
@@ -50,7 +52,7 @@ pub enum Method {
 }
 
 // The epochs allowed, epsilon and the seed, which every method has.
-#[derive(Drop)]
+#[derive(Clone, Copy)]
 pub struct Settings {
     pub epochs: u32,
     pub epsilon: f64,
@@ -58,7 +60,7 @@ pub struct Settings {
 }
 
 // A trainer with its own parameters; variants 0 Pa, 1 PaI, 2 PaII.
-#[derive(Drop)]
+#[derive(Clone, Copy)]
 pub enum Trainer {
     Perceptron,
     Passive {

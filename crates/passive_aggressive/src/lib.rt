@@ -1,5 +1,7 @@
 // The passive-aggressive update: weights and, with averaging, running sums after a visit whose labels differ, and what it
 // adds to the epoch's loss.
+#![tactic(auto)]
+
 ghost use Rattle.std.specs.Prelude.{cond, false, ◌≡◌, ◌+◌, ◌-◌, ◌<◌, ◌≤◌, ℕ, length, set};
 ghost use Rattle.lines.specs.Passes.{through};
 ghost use Rattle.binary64.specs.Numbers.{nought, whole};

@@ -1,5 +1,7 @@
 // The averaged perceptron's update: weights and running sums after a visit whose labels differ, and what it adds to the
 // epoch's loss.
+#![tactic(auto)]
+
 ghost use Rattle.std.specs.Prelude.{◌≡◌, length, Float};
 ghost use Rattle.binary64.specs.Numbers.{whole};
 ghost use Rattle.training.specs.Rules.{pushed, perceptron, ◌⊗◌, ◌⊘◌};

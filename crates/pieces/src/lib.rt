@@ -1,5 +1,7 @@
 // The pieces of a training text that is known to be well-formed, one after another: empty lines, labels, attributes. A cursor stands
 // where a piece begins. Nothing is stored: a piece is told by its places in the text.
+#![tactic(auto)]
+
 ghost use Rattle.std.specs.Prelude.{◌≡◌, true, false, ℕ, ◌+◌, ◌≤◌, length};
 ghost use Rattle.std.proofs.Math.Seq.{slice};
 ghost use Rattle.layout.specs.Layout.{Bytes};
@@ -9,7 +11,7 @@ ghost use Rattle.pieces.specs.Standing.{ends_name_of, ends_field_of, Named, Some
 ghost use Rattle.pieces.specs.Unescaped.{is_skipped, unescaped};
 
 // An empty line, a word's label, an attribute.
-#[derive(Drop)]
+#[derive(Clone, Copy)]
 pub enum Kind {
     Blank,
     Label,
@@ -17,14 +19,14 @@ pub enum Kind {
 }
 
 // Where a piece begins, and whether it is an attribute; past the text's end behind the last.
-#[derive(Drop)]
+#[derive(Clone, Copy)]
 pub struct Cursor {
     pub at: usize,
     pub field: bool,
 }
 
 // Where a piece stands: its name from `from` to `split`, its colon and scale from there to `to`.
-#[derive(Drop)]
+#[derive(Clone, Copy)]
 pub struct Span {
     pub kind: Kind,
     pub from: usize,

@@ -1,4 +1,6 @@
 // What a visit does before it learns: it labels an instance with the present weights and has the labels judged.
+#![tactic(auto)]
+
 ghost use Rattle.std.specs.Prelude.{◌≡◌, ◌*◌, ◌≤◌, length};
 ghost use Rattle.lines.specs.Scored.{states_of, transitions_of};
 ghost use Rattle.feature_gen.specs.Sound.{SoundModel};
@@ -8,7 +10,7 @@ ghost use Rattle.judging.specs.Judged.{Judged};
 use judging::Prediction;
 
 // The counts of a trainer's tables.
-#[derive(Drop)]
+#[derive(Clone, Copy)]
 pub struct Sizes {
     pub labels: usize,
     pub features: usize,

@@ -1,5 +1,7 @@
 // The reader of a training text, and the sizes of one. 11 of the text comes first, then 2 of its length; then it is surveyed, and 2
 // and 4 come from the figures; only then is anything filled.
+#![tactic(auto)]
+
 ghost use Rattle.std.specs.Prelude.{◌≡◌};
 ghost use Rattle.layout.specs.Layout.{WellFormed, sequences};
 ghost use Rattle.read_text.specs.Promise.{ReadOf, Promised, said};
@@ -13,7 +15,7 @@ use survey::Survey;
 use text_check::Lengths;
 
 // How many names, instances, words and attributes were read, and how many bytes the names and the scales have.
-#[derive(Drop)]
+#[derive(Clone, Copy)]
 pub struct TextSizes {
     pub labels: u32,
     pub names: u32,
@@ -25,7 +27,7 @@ pub struct TextSizes {
     pub scale_bytes: u32,
 }
 
-#[derive(Drop)]
+#[derive(Clone, Copy)]
 pub enum TextReading {
     Read(TextSizes),
     Refused(Refusal),

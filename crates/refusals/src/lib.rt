@@ -1,15 +1,17 @@
 // Refusals: the numbers and places of document 01's table, and which of two comes first.
+#![tactic(auto)]
+
 ghost use Rattle.std.specs.Prelude.{◌≡◌, ◌≤◌};
 ghost use Rattle.refusals.specs.Refusals.{numbered as Refusals·numbered, refused_at, refuse, or_next_of, goes_before_of, sooner as Refusals·sooner, to_check_of};
 ghost use Rattle.refusals.specs.Tables.{outside, short};
 
-#[derive(Drop)]
+#[derive(Clone, Copy)]
 pub struct Refusal {
     pub number: u32,
     pub place: u64,
 }
 
-#[derive(Drop)]
+#[derive(Clone, Copy)]
 pub enum Checked {
     Accepted,
     Refused(Refusal),

@@ -90,7 +90,7 @@ fn last_of(seed: u64, draws: u64) -> u64 {
     number
 }
 
-#[derive(Drop)]
+#[derive(Clone, Copy)]
 struct Dealt {
     state: u64,
     order: [u32; 12],

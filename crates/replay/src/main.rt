@@ -1,6 +1,8 @@
 // Replays the oracle's answers. Standard input is a row of records of sixteen 64-bit words, little-endian: an operation,
 // three numbers and a table of twelve. For each record the call is made and its answer written on a line; the oracle wrote
 // both the records and the lines that are expected.
+#![tactic(auto)]
+
 mod answers;
 mod text;
 

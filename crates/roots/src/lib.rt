@@ -1,4 +1,6 @@
 // Square roots of counts: the passive-aggressive trainer takes the root of the number of wrong labels here.
+#![tactic(auto)]
+
 ghost use Rattle.std.specs.Prelude.{◌≤◌};
 ghost use Rattle.roots.specs.Root.{NearestRoot};
 

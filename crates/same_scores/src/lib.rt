@@ -1,1 +1,2 @@
 // What a scoring call names of its tables, and the theorem that nothing else matters. Definitions and theorems only.
+#![tactic(auto)]

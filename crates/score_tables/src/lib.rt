@@ -1,5 +1,7 @@
 // The score tables of one line: their bounds, and the refusals 1, 4, 2 and 6 that every call shares which is lent
 // them (decode, path score). Each check takes the answer so far, so that a call can put its own tests between.
+#![tactic(auto)]
+
 ghost use Rattle.std.specs.Prelude.{◌≡◌, ◌*◌};
 ghost use Rattle.refusals.specs.Refusals.{or_next_of, first_from};
 ghost use Rattle.score_tables.specs.Rows.{one, scores_short, sixes, bounds_checked};

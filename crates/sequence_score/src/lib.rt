@@ -1,4 +1,6 @@
 // Path score: `sequence_score` of crf_context.rs, the score of a given path over the score tables of a line.
+#![tactic(auto)]
+
 ghost use Rattle.std.specs.Prelude.{◌≡◌, ◌+◌, ◌*◌, ◌<◌, length, get_or};
 ghost use Rattle.std.specs.Float.{nan};
 ghost use Rattle.best_path.specs.Scores.{tabled};
@@ -9,7 +11,7 @@ ghost use Rattle.sequence_score.specs.Promise.{Promised};
 
 use refusals::{Checked, Refusal};
 
-#[derive(Drop)]
+#[derive(Clone, Copy)]
 pub enum PathScore {
     Scored(f64),
     Refused(Refusal),

@@ -1,4 +1,6 @@
 // `set_weights` of `feature_gen.rs`: every feature gets a new weight.
+#![tactic(auto)]
+
 ghost use Rattle.std.specs.Prelude.{◌≡◌, ◌++◌, ◌≤◌, length, take, drop};
 ghost use Rattle.set_weights.specs.SetWeights.{new_checked, WeightsSet};
 

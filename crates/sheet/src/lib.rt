@@ -1,4 +1,6 @@
 // The sheet file: bytes into the score tables of one line, or a refusal that leaves the lent tables as they were.
+#![tactic(auto)]
+
 ghost use Rattle.std.specs.Prelude.{◌≡◌, [], ◌∷◌, ◌+◌, ◌*◌, ◌≤◌, ◌<◌, length, drop, get_or, take};
 ghost use Rattle.refusals.specs.Refusals.{or_next_of, first};
 ghost use Rattle.refusals.specs.Tables.{numbers_checked};
@@ -162,7 +164,7 @@ pub fn check_sheet(bytes: &[u8], transitions: &[f64], states: &[f64]) -> Checked
     check_part(first, bytes, states_from(bytes), entries(words, labels))
 }
 
-#[derive(Drop)]
+#[derive(Clone, Copy)]
 pub enum Reading {
     Read { labels: u32, words: u32 },
     Refused(Refusal),

@@ -1,4 +1,5 @@
 // Answers the sheets 000.tlg, 001.tlg and so on, a line each, as far as there are such files: what the gate replays.
+#![tactic(auto)]
 
 fn digit(n: usize) -> u8 {
     48 + (n % 10) as u8

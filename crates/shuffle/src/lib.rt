@@ -1,4 +1,6 @@
 // The shuffle: the order in which an epoch visits its instances.
+#![tactic(auto)]
+
 ghost use Rattle.std.specs.Prelude.{◌≡◌, ◌<◌, ◌≤◌, length};
 ghost use Rattle.shuffle.specs.Shuffle.{Deal, chosen, swapped, shuffled};
 

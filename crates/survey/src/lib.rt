@@ -1,6 +1,8 @@
 // The counting pass over a training text that is known to be well-formed: sequences, words, attributes, bytes of scales, the first
 // sequence above 128 words, and the names by first appearance, each known by where it first stands. Nothing that is lent to the
 // reader's caller is written.
+#![tactic(auto)]
+
 ghost use Rattle.std.specs.Prelude.{◌≡◌, cond, ◌&&◌, List, [], ℕ, ◌+◌, ◌-◌, ◌≤◌, eqb, ltb, length};
 ghost use Rattle.std.proofs.Math.Seq.{slice};
 ghost use Rattle.layout.specs.Layout.{Bytes, WellFormed};
@@ -15,7 +17,7 @@ use pieces::{Kind, Span};
 
 // Sequences begun, words and attributes so far, the words of the present sequence, the bytes of the scales; the first sequence
 // above 128 words, counted from 1, and 0 while there is none.
-#[derive(Drop)]
+#[derive(Clone, Copy)]
 pub struct Figures {
     pub sequences: usize,
     pub words: usize,
@@ -26,13 +28,13 @@ pub struct Figures {
 }
 
 // How many names are known, and how many bytes they have.
-#[derive(Drop)]
+#[derive(Clone, Copy)]
 pub struct NameSums {
     pub count: usize,
     pub bytes: usize,
 }
 
-#[derive(Drop)]
+#[derive(Clone, Copy)]
 pub struct Survey {
     pub figures: Figures,
     pub labels: NameSums,

@@ -1,6 +1,8 @@
 // The checks of one table, which every call shares: the answer so far where that refuses, or else a refusal at the lowest bad
 // place. A pass without a way out in the middle tells first whether all is well, at a fraction of what a branch an entry costs;
 // only where it is not does a search find the place.
+#![tactic(auto)]
+
 ghost use Rattle.std.specs.Prelude.{◌≡◌, true, cond, ◌<◌, ◌≤◌, length};
 ghost use Rattle.refusals.specs.Refusals.{or_next_of};
 ghost use Rattle.refusals.specs.Tables.{starts_checked, kinds_checked, ids_checked, sources_checked, numbers_checked};

@@ -1,4 +1,6 @@
 // What is refused of a text's bytes before anything is counted: 11, then 2 of the text's own length.
+#![tactic(auto)]
+
 ghost use Rattle.std.specs.Prelude.{◌≡◌};
 ghost use Rattle.text_check.specs.Rows.{too_long_of};
 ghost use Rattle.text_bytes.specs.Bytes.{malformed_at, bytes_checked};

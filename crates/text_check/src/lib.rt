@@ -1,5 +1,7 @@
 // What the reader of a training text refuses once the text is known to be well-formed, from the figures of its survey and the
 // lengths of the twelve tables: 2 of the counts, 2 of the rooms, then 4. 2 of the text's own length comes before the survey.
+#![tactic(auto)]
+
 ghost use Rattle.std.specs.Prelude.{◌≡◌, List, [], ℕ, ◌≤◌, length};
 ghost use Rattle.refusals.specs.Refusals.{or_next_of};
 ghost use Rattle.refusal_rows.specs.Limits.{any_broken};
@@ -12,7 +14,7 @@ use refusals::Checked;
 use survey::Survey;
 
 // How long the tables are that the reader is lent, in the call's order.
-#[derive(Drop)]
+#[derive(Clone, Copy)]
 pub struct Lengths {
     pub lines: usize,
     pub begins: usize,

@@ -1,4 +1,6 @@
 // The training text, for programs in C and Rust: reading, its sizes, writing. Each is thin: one call, and its answer as numbers.
+#![tactic(auto)]
+
 ghost use Rattle.std.specs.Prelude.{◌≡◌};
 ghost use Rattle.read_text.specs.Promise.{said as reading_said};
 ghost use Rattle.read_text.specs.Lent.{buffers_were, buffers_are};
@@ -15,7 +17,7 @@ use write_text::Written;
 // The refusal's number and place, or how many names, instances, words and attributes there are and how many bytes the names and
 // the scales have; what has no value is 0.
 #[repr(C)]
-#[derive(Drop)]
+#[derive(Clone, Copy)]
 pub struct ReadText {
     pub number: u32,
     pub place: u64,
@@ -109,7 +111,7 @@ pub extern "C" fn bodkinbloom_text_sizes(text: &[u8]) -> ReadText
 
 // The refusal's number and place, or how many bytes were written; what has no value is 0.
 #[repr(C)]
-#[derive(Drop)]
+#[derive(Clone, Copy)]
 pub struct WrittenText {
     pub number: u32,
     pub place: u64,

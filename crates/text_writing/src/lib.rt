@@ -1,6 +1,8 @@
 // What the writer writes, and how long it is, part by part. Each function that writes appends from a place on, leaves the rest as it
 // was, and answers the place after what it wrote: that there is room is known before, from the length. Tables within their bounds
 // make a length that a 64-bit number holds: at most 8,589,934,591 bytes a word, and half as much more an attribute.
+#![tactic(auto)]
+
 ghost use Rattle.std.specs.Prelude.{◌≡◌, ◌||◌, [], ◌∷◌, ℕ, ◌+◌, ◌*◌, ◌-◌, ◌≤◌, ◌<◌, eqb, length, get_or};
 ghost use Rattle.std.proofs.Math.Seq.{slice};
 ghost use Rattle.refusals.specs.Meaning.{Starts};

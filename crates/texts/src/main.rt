@@ -1,5 +1,7 @@
 // Reads the training texts 000.txt, 001.txt and so on, as far as there are such files, and prints a line for each: what the gate
 // replays. A line is the refusal, or the sizes, the twelve tables and what the writer makes of them.
+#![tactic(auto)]
+
 mod print;
 
 use lines::Totals;

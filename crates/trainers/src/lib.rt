@@ -1,4 +1,6 @@
 // The trainers, as one call with the method as a parameter. It tests all that it is given, with refusals 1 to 7, then learns.
+#![tactic(auto)]
+
 ghost use Rattle.std.specs.Prelude.{◌≡◌};
 ghost use Rattle.feature_gen.specs.Lent.{model_was};
 ghost use Rattle.lines.specs.Entry.{data_was};

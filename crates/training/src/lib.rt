@@ -1,8 +1,9 @@
 // Training: what a visit, an epoch and a trained result are, for the three trainers. Definitions and theorems only, and the
 // types that the trainers' code shares.
+#![tactic(auto)]
 
 // "A visit ends as unchanged, updated or refused."
-#[derive(Drop)]
+#[derive(Clone, Copy)]
 pub enum Visit {
     Unchanged,
     Updated,
@@ -10,7 +11,7 @@ pub enum Visit {
 }
 
 // A training step: how the last visit ended, beside the counters and the epoch's loss.
-#[derive(Drop)]
+#[derive(Clone, Copy)]
 pub struct Progress {
     pub visit: Visit,
     pub visits: u64,
@@ -19,14 +20,14 @@ pub struct Progress {
 }
 
 // "The answer gives epochs run, visits and updates."
-#[derive(Drop)]
+#[derive(Clone, Copy)]
 pub struct Trained {
     pub epochs: u64,
     pub visits: u64,
     pub updates: u64,
 }
 
-#[derive(Drop)]
+#[derive(Clone, Copy)]
 pub enum Training {
     Accepted(Trained),
     Refused(refusals::Refusal),

@@ -1,6 +1,8 @@
 // The checks of a trainer's input, which the three trainers share: document 01's refusal 1, then the sooner of the checks of the
 // model's tables, of the instances, and of the lent buffers. Refusal 7 comes after them: each trainer's own parameters are
 // tested in the crate parameters.
+#![tactic(auto)]
+
 ghost use Rattle.std.specs.Prelude.{◌≡◌, ◌-◌, ◌<◌, length};
 ghost use Rattle.refusals.specs.Refusals.{or_next_of};
 ghost use Rattle.refusals.specs.Bounds.{the_line_words, outside_its};
@@ -19,7 +21,7 @@ pub const MOST_WORDS_IN_ALL: u32 = 1048576;
 
 // How long the lent result and work buffers are: the weights and the table beside them, the true and the predicted counts, and
 // the order of the instances.
-#[derive(Drop)]
+#[derive(Clone, Copy)]
 pub struct Lent {
     pub weights: usize,
     pub beside: usize,

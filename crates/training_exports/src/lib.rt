@@ -1,4 +1,6 @@
 // The three trainers, for programs in C and Rust. Each is thin: one call of the crate trainers, and its answer as numbers.
+#![tactic(auto)]
+
 ghost use Rattle.feature_gen.specs.Lent.{model_was};
 ghost use Rattle.lines.specs.Entry.{data_was};
 ghost use Rattle.parameters.specs.declared.Method.{Method};

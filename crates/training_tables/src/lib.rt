@@ -1,10 +1,12 @@
 // What training does to the front of a lent table, whichever the trainer: the order at the start and the final averaging.
+#![tactic(auto)]
+
 ghost use Rattle.std.specs.Prelude.{◌≡◌, ◌++◌, ◌≤◌, length, drop};
 ghost use Rattle.training.specs.Epochs.{up_to};
 ghost use Rattle.training_tables.specs.Tables.{Both, Averaged};
 
 // What an update adds to the epoch's loss, and whether the tables that it changed are finite.
-#[derive(Drop)]
+#[derive(Clone, Copy)]
 pub struct Outcome {
     pub loss: f64,
     pub finite: bool,

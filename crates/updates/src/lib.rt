@@ -1,5 +1,7 @@
 // What is decided in a visit and in an epoch, apart from the tables; and what a visit does where labels differ: the update by the
 // rule of its trainer, with refusals 8 and 9.
+#![tactic(auto)]
+
 ghost use Rattle.std.specs.Prelude.{◌&&◌, ◌≡◌, ◌≤◌, ◌<◌, ◌^◌, ◌+◌, eqb, length};
 ghost use Rattle.std.specs.Float.Ieee.Scale.{finite};
 ghost use Rattle.refusals.specs.Bounds.{the_instances, most};
@@ -52,7 +54,7 @@ pub fn unchanged(s: Progress) -> Progress
 }
 
 // What a visit finds before it learns: it ends there, or labels differ.
-#[derive(Drop)]
+#[derive(Clone, Copy)]
 pub enum Found {
     Ended(Progress),
     Differ,

@@ -1,5 +1,7 @@
 // One visit, shared by the three trainers: predict with the present weights, compare with the reference, update. What differs
 // between the trainers is the update alone, in the crate updates.
+#![tactic(auto)]
+
 ghost use Rattle.training.specs.Visits.{visited};
 ghost use Rattle.prediction.specs.Tables.{training_model_at, training_model_was, words_at, words_was, training_data_at, training_data_was};
 ghost use Rattle.parameters.specs.Trainers.{rule_of};

@@ -1,4 +1,6 @@
 // Decoding a line: `viterbi_decode` of crf_context.rs over the score tables of the line, with the path's sum and lead.
+#![tactic(auto)]
+
 ghost use Rattle.std.specs.Prelude.{◌≡◌, ◌*◌, ◌≤◌, length};
 ghost use Rattle.viterbi.specs.Rows.{decode_checked};
 ghost use Rattle.viterbi.specs.Answered.{Ready, Answered};
@@ -24,7 +26,7 @@ pub fn check_decode(
     score_tables::check_finite(room, labels, words, transitions, states)
 }
 
-#[derive(Drop)]
+#[derive(Clone, Copy)]
 pub enum Decoding {
     Decoded(Found),
     Refused(Refusal),

@@ -1,4 +1,6 @@
 // The end of decoding: the last label of the line, its sum and lead, and the path walked back from it.
+#![tactic(auto)]
+
 ghost use Rattle.std.specs.Prelude.{◌≡◌, ◌++◌, ◌-◌, ◌<◌, ◌≤◌, length, get_or, set, drop};
 ghost use Rattle.viterbi_end.specs.Walked.{walked, Walk};
 ghost use Rattle.refusals.specs.Bounds.{the_labels, most};
@@ -9,14 +11,14 @@ ghost use Rattle.viterbi_end.specs.Ends.{lead_said, last_of, lead_in_row, Ended}
 use viterbi_steps::ROW_ROOM;
 
 // By how much the best final score is above that of every other last label.
-#[derive(Drop)]
+#[derive(Clone, Copy)]
 pub enum Lead {
     NoLead,
     By(f64),
 }
 
 // What is found of a line beside its path.
-#[derive(Drop)]
+#[derive(Clone, Copy)]
 pub struct Found {
     pub sum: f64,
     pub lead: Lead,

@@ -1,5 +1,7 @@
 // The decoder's inner loops: from the best scores of one word to those of the next, with the steps back. The crate
 // viterbi calls `first_row`, then `next_row` once a word.
+#![tactic(auto)]
+
 ghost use Rattle.std.specs.Prelude.{◌≡◌, cond, ◌*◌, ◌≤◌, ◌<◌, ℕ, ◌+◌, length, get_or};
 ghost use Rattle.std.specs.Float.Ieee.{le};
 ghost use Rattle.refusals.specs.Bounds.{the_labels, most};
@@ -11,7 +13,7 @@ ghost use Rattle.viterbi_steps.specs.Rows.{first_row_of, Before, After, onward, 
 pub const ROW_ROOM: usize = 32;
 
 // The largest candidate for a label, and the label of the word before that it comes from.
-#[derive(Drop)]
+#[derive(Clone, Copy)]
 pub struct Choice {
     pub score: f64,
     pub previous: u64,
@@ -60,7 +62,7 @@ pub fn best_step(
 }
 
 // One row of best scores, with room for the most labels; `width` of them count.
-#[derive(Drop)]
+#[derive(Clone, Copy)]
 pub struct Row {
     pub best: [f64; ROW_ROOM],
     pub width: usize,

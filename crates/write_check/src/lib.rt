@@ -1,5 +1,7 @@
 // The checks of the writer: 1, 2, 3, 4 and 5 of the tables that it reads, 2 of the text's room, which only sound tables have a need
 // for, and 11 last: names and kept texts that the layout cannot carry, each table in a loop, the lowest index first.
+#![tactic(auto)]
+
 ghost use Rattle.std.specs.Prelude.{◌≡◌, ◌||◌, ◌++◌, ℕ, ◌+◌, ◌≤◌, ◌<◌, ltb, length};
 ghost use Rattle.std.proofs.Math.Seq.{slice};
 ghost use Rattle.refusals.specs.Refusals.{or_next_of, first_from};
@@ -19,7 +21,7 @@ pub const MOST_ATTRIBUTE_NAMES: u32 = 65535;
 
 // How many attribute names there are, and how many bytes the names of labels, those of attributes and the kept texts have.
 #[repr(C)]
-#[derive(Drop)]
+#[derive(Clone, Copy)]
 pub struct Names {
     pub attributes: u32,
     pub label_bytes: u32,

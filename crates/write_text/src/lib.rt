@@ -1,4 +1,6 @@
 // The writer: a training text of tables, which the reader reads back. Everything is checked first; a refusal leaves the text as it was.
+#![tactic(auto)]
+
 ghost use Rattle.std.specs.Prelude.{◌≡◌};
 ghost use Rattle.write_check.specs.Rows.{unchecked_was};
 ghost use Rattle.write_text.specs.Promise.{Promised};
@@ -8,7 +10,7 @@ use refusals::{Checked, Refusal};
 use write_check::Names;
 
 // How many bytes were written, or why none were.
-#[derive(Drop)]
+#[derive(Clone, Copy)]
 pub enum Written {
     Length(usize),
     Refused(Refusal),

@@ -1,0 +1,11 @@
+-- `answers::decoding::numbers_of_decoding` meets its contract, by the two cases of an answer. Assumes nothing.
+use lib.Ieee.{of_bits}
+use borrow.Author.Rules.{rules}
+use Rattle.answers.proofs.decoding.numbers_of_decoding.Goals as goal
+
+pub returns-in-Decoded : goal.returns-in-Decoded
+returns-in-Decoded c = rw c.answer-1.given.1 c.numbers_of_found.ensures
+
+pub returns-in-Refused : goal.returns-in-Refused
+unfolding of_bits
+returns-in-Refused c = rw c.answer-in-Refused-1.given.1

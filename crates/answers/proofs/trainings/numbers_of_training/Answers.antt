@@ -1,0 +1,9 @@
+-- `answers::trainings::numbers_of_training` meets its contract, by the two cases of an answer. Assumes nothing.
+use borrow.Author.Rules.{rules}
+use Rattle.answers.proofs.trainings.numbers_of_training.Goals as goal
+
+pub returns-in-Accepted : goal.returns-in-Accepted
+returns-in-Accepted c = rw c.answer-1.given.1
+
+pub returns-in-Refused : goal.returns-in-Refused
+returns-in-Refused c = rw c.answer-in-Refused-1.given.1

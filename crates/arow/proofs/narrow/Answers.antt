@@ -1,0 +1,28 @@
+-- `arow::narrow` meets its contract: the loop is a pass of `narrowed`, and the flag the finite test of what it stored. Assumes nothing.
+use mathlib.Core.Path.{◌≡◌, refl}
+use Prim.Native.Nat.{◌≤◌, ◌-◌}
+use native.Mathlib.Omega.{arith}
+use borrow.Author.Rules.{rules}
+use lib.ListN.{length}
+use lib.Ieee.{of_bits, of_int}
+use Rattle.lines.specs.Passes.{raised}
+use Rattle.training.specs.Rules.{narrowed}
+use Rattle.training_tables.specs.Tables.{Moved}
+use Rattle.fronts.proofs.Finite.{finite_stored}
+use Rattle.training_tables.proofs.Moves.{moved_none, moved_next, moved_end}
+use Rattle.arow.proofs.narrow.Goals as goal
+
+pub loop-i-init : goal.loop-i-init
+loop-i-init c = (omega arith, refl, refl, moved_none _ _)
+
+pub loop-i-preserved : goal.loop-i-preserved
+unfolding narrowed raised of_bits of_int
+loop-i-preserved c = (
+  omega arith,
+  search rules,
+  search rules,
+  moved_next _ _ _ _ _ c.loop-i.invariant.3 (rw c.over.ensures) c.are_finite-all.ensures (finite_stored _ _ _ (search rules)) (finite_stored _ _ _ (search rules)),
+)
+
+pub returns : goal.returns
+returns c = moved_end _ _ _ _ c.loop-i.invariant.0 c.loop-i-test.false c.loop-i.invariant.3

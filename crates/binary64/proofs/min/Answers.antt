@@ -1,0 +1,29 @@
+-- `binary64::min` meets its contract: a value is a NaN exactly where it is not equal to itself. Assumes nothing.
+use mathlib.Core.Path.{◌≡◌, refl, sym, ◌∙◌}
+use mathlib.Core.Bool.{Bool, true, false, not, cond, ◌||◌, or-true, true≢false, false≢true}
+use lib.Ieee.{Float, lt, eq, is_nan}
+use Rattle.binary64.specs.Smaller.{smaller}
+use Rattle.binary64.proofs.Order.{eq_self}
+use Rattle.binary64.proofs.min.Goals as goal
+
+above : (c x : Float) → lt c x ≡ true → c ≡ smaller c x
+above c x h = rw (h, or-true)
+
+-- not above c: the first where x is equal to itself, else c
+within : (c x : Float) (e : Bool) → lt c x ≡ false → eq x x ≡ e → cond e x c ≡ smaller c x
+within c x e h q = rw h (go (is_nan x) e (sym (eq_self x) ∙ q))
+  where
+    go : (n e : Bool) → not n ≡ e → cond e x c ≡ cond (n || false) c x
+    go true true p = absurd (false≢true p)
+    go true false p = refl
+    go false true p = refl
+    go false false p = absurd (true≢false p)
+
+pub returns-then-c-x : goal.returns-then-c-x
+returns-then-c-x c = above _ _ c.if-c-x.true
+
+pub returns-then-x : goal.returns-then-x
+returns-then-x c = within _ _ true c.if-c-x.false c.if-x.true
+
+pub returns-else-x : goal.returns-else-x
+returns-else-x c = within _ _ false c.if-c-x.false c.if-x.false

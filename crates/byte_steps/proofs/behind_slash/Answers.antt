@@ -1,0 +1,11 @@
+-- `byte_steps::behind_slash` meets its contract. Assumes nothing.
+use borrow.Author.Rules.{rules}
+use Rattle.byte_steps.proofs.behind_slash.Reads as reads
+use Rattle.byte_steps.proofs.behind_slash.Lts as lts
+use Rattle.byte_steps.proofs.behind_slash.Goals as goal
+
+pub returns-in-Colon : goal.returns-in-Colon
+returns-in-Colon c = simp c.enum_told-in-Colon-1.given.1
+
+pub returns-in-Slash : goal.returns-in-Slash
+returns-in-Slash c = simp c.enum_told-in-Slash-1.given.1

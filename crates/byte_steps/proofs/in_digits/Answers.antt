@@ -1,0 +1,19 @@
+-- `byte_steps::in_digits` meets its contract. Assumes nothing.
+use borrow.Author.Rules.{rules}
+use Rattle.byte_steps.proofs.in_digits.Reads as reads
+use Rattle.byte_steps.proofs.in_digits.Lts as lts
+use Rattle.byte_steps.proofs.ended.Reads as ended_reads
+use Rattle.byte_steps.proofs.one_more.Reads as one_more_reads
+use Rattle.byte_steps.proofs.in_digits.Goals as goal
+
+pub returns-in-Tab : goal.returns-in-Tab
+returns-in-Tab c = simp (c.ended.ensures, c.enum_told-1.given.1)
+
+pub returns-in-Feed : goal.returns-in-Feed
+returns-in-Feed c = simp (c.ended-in-Feed.ensures, c.enum_told-in-Feed-1.given.1)
+
+pub returns-else-point : goal.returns-else-point
+returns-else-point c = simp (c.enum_told-in-Point-1.given.1, c.if-point.false)
+
+pub returns-in-Digit : goal.returns-in-Digit
+returns-in-Digit c = simp (c.one_more.ensures, c.enum_told-in-Digit-1.given.1)

@@ -1,0 +1,9 @@
+-- `byte_steps::may_end` meets its contract. Assumes nothing.
+use Rattle.layout.proofs.Laws.{digits_law}
+use borrow.Author.Rules.{rules}
+use Rattle.byte_steps.proofs.may_end.Reads as reads
+use Rattle.byte_steps.proofs.may_end.Lts as lts
+use Rattle.byte_steps.proofs.may_end.Goals as goal
+
+pub returns-in-Digits : goal.returns-in-Digits
+returns-in-Digits c = rw c.mode-1.given.1 (digits_law c.mode-1.given.0.0 c.mode-1.given.0.1.0)

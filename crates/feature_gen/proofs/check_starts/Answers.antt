@@ -1,0 +1,6 @@
+-- `feature_gen::check_starts` meets its contract. Assumes nothing.
+use borrow.Author.Rules.{rules}
+use Rattle.feature_gen.proofs.check_starts.Goals as goal
+
+pub returns : goal.returns
+returns c = rw (c.check_starts.ensures, c.check_starts-a.ensures)

@@ -1,0 +1,13 @@
+-- `fill_text::fill_names` meets its contract. Assumes nothing.
+use borrow.Author.Rules.{rules}
+use Prim.Native.Nat.{◌-◌}
+use native.Mathlib.Omega.{arith}
+use Rattle.fill_text.proofs.Naming.{name_stands, place_small, NamesSoFar, names_start, unescape_asks, names_again, names_end}
+use Rattle.fill_text.proofs.fill_names.Given as goal
+
+abbrev pub invariant-loop-i : goal.invariant-loop-i
+invariant-loop-i l =
+    NamesSoFar l.text l.positions l.count l.initial.starts l.initial.bytes l.starts l.bytes l.i l.at
+
+abbrev pub decreases-loop-i : goal.decreases-loop-i
+decreases-loop-i l = l.count - l.i

@@ -1,0 +1,15 @@
+-- `fill_text::fill_words` meets its contract. Assumes nothing.
+use borrow.Author.Rules.{rules}
+use Prim.Native.Nat.{◌+◌, ◌-◌}
+use native.Mathlib.Omega.{arith}
+use lib.ListN.{length}
+use Rattle.fill_text.proofs.WordsOn.{WordsGoing, words_start, words_some, words_now, words_may, words_again, words_end, words_laid, one_is}
+use Rattle.fill_text.proofs.fill_words.Given as goal
+
+abbrev pub invariant-loop-cursor : goal.invariant-loop-cursor
+invariant-loop-cursor l =
+    WordsGoing l.text l.initial.line_starts l.initial.word_starts l.initial.references l.line_starts l.word_starts l.references l.cursor l.so_far
+
+abbrev pub decreases-loop-cursor : goal.decreases-loop-cursor
+decreases-loop-cursor l =
+    length l.text + 1 - l.cursor.at

@@ -1,0 +1,20 @@
+-- `fill_text::word_piece` meets its contract. Assumes nothing.
+use Rattle.fill_text.proofs.WordsOn.{word_may, words_blank, words_attribute, words_label}
+use borrow.Author.Rules.{rules}
+use Rattle.fill_text.proofs.word_piece.Goals as goal
+
+pub begin_word-requires : goal.begin_word-requires
+begin_word-requires c =
+    word_may c.enum_told-in-Label-1.given.1 c.requires
+
+pub returns-in-Blank : goal.returns-in-Blank
+returns-in-Blank c =
+    words_blank c.enum_told-1.given.1
+
+pub returns-in-Label : goal.returns-in-Label
+returns-in-Label c =
+    words_label c.enum_told-in-Label-1.given.1 c.requires c.begin_word.ensures
+
+pub returns-in-Attribute : goal.returns-in-Attribute
+returns-in-Attribute c =
+    words_attribute c.enum_told-in-Attribute-1.given.1

@@ -1,0 +1,15 @@
+-- `fronts::fill` meets its contract: each place passed has the value. Assumes nothing.
+use mathlib.Core.Path.{◌≡◌, refl, sym, ◌∙◌}
+use Prim.Native.Nat.{◌≤◌, ◌-◌}
+use native.Mathlib.Omega.{arith}
+use borrow.Author.Rules.{rules}
+use lib.ListN.{length, replicate, length-replicate, get_or-replicate}
+use lib.Ieee.{nan}
+use Rattle.fronts.proofs.Filled.{filled, filled_none, filled_next, filled_end}
+use Rattle.fronts.proofs.fill.Given as goal
+
+abbrev pub invariant-loop-i : goal.invariant-loop-i
+invariant-loop-i l = (l.i ≤ l.n) × (length l.table ≡ length l.initial.table) × (l.table ≡ filled l.initial.table (replicate l.n l.value) l.i)
+
+abbrev pub decreases-loop-i : goal.decreases-loop-i
+decreases-loop-i l = l.n - l.i

@@ -1,0 +1,20 @@
+-- `labelling::decode_scores` meets its contract. Assumes nothing.
+use borrow.Author.Rules.{rules}
+use Rattle.labelling.proofs.Laws.{eight, path_found}
+use Rattle.labelling.proofs.decode_scores.Goals as goal
+
+pub check_scores-finished-requires : goal.check_scores-finished-requires
+check_scores-finished-requires c = c.requires.sized
+
+pub returns-in-Refused : goal.returns-in-Refused
+returns-in-Refused c =
+    let a = c.args in
+    eight a.labels a.words a.transitions.now a.states.now a.path.now c.check_scores-finished.ensures _ c.finished-1.given.1 c.clear.ensures
+
+pub decode_tables-requires : goal.decode_tables-requires
+decode_tables-requires c = c.requires
+
+pub returns : goal.returns
+returns c =
+    let a = c.args in
+    path_found a.labels a.words a.transitions.now a.states.now a.path.now c.check_scores-finished.ensures _ c.enum_told-1.given.1 c.decode_tables.ensures

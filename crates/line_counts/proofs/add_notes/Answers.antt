@@ -1,0 +1,28 @@
+-- `line_counts::add_notes` meets its contract. The loop's invariant: the notes before this one are added. Assumes nothing.
+use Prim.Native.Nat.{◌≤◌, ◌-◌}
+use mathlib.Core.Path.{◌≡◌, refl, ◌∙◌}
+use native.Mathlib.Omega.{arith}
+use borrow.Author.Rules.{rules}
+use lib.ListN.{length}
+use Rattle.lines.specs.Passes.{through}
+use Rattle.lines.proofs.Laws.{through_none, through_next, through_end}
+use Rattle.line_counts.specs.Noted.{note_added, notes_added}
+use Rattle.line_counts.proofs.add_notes.Goals as goal
+
+pub loop-j-init : goal.loop-j-init
+loop-j-init c = (omega arith, refl, through_none _ _ _)
+
+pub add_note-requires : goal.add_note-requires
+add_note-requires c =
+    let n = c.requires.notes in
+    let i = n.ids _ c.loop-j-test.true in
+    record { j_in_bounds = omega (arith, c.loop-j-test.true, n.there); j_in_bounds_2 = omega (arith, c.loop-j-test.true, n.there, n.level); j_in_bounds_3 = omega (arith, i, c.requires.features_in_bounds); j_in_bounds_4 = omega (arith, i, c.requires.features_in_bounds_2, c.loop-j.invariant) }
+
+pub loop-j-preserved : goal.loop-j-preserved
+loop-j-preserved c =
+    (omega (arith, c.loop-j-test.true), search rules, through_next _ _ _ c.loop-j.invariant.2 c.add_note.ensures)
+
+pub returns : goal.returns
+unfolding notes_added
+returns c =
+    c.loop-j.invariant.2 ∙ through_end _ _ _ _ c.loop-j.invariant.0 c.loop-j-test.false

@@ -1,0 +1,20 @@
+-- `line_counts::count_attribute` meets its contract. The loop's invariant: once the notes are added, the entries before this one have counted. Assumes nothing.
+use Prim.Native.Nat.{◌-◌}
+use mathlib.Core.Path.{refl}
+use mathlib.Core.List.{[]}
+use native.Mathlib.Omega.{arith}
+use borrow.Author.Rules.{rules}
+use Rattle.lines.specs.Counted.{state_count}
+use Rattle.lines.specs.Lent.{bare, with_counts}
+use Rattle.lines.proofs.Laws.{Passed, passed_none, passed_next, passed_end}
+use Rattle.line_counts.specs.Noted.{notes_added}
+use Rattle.line_counts.proofs.Notes.{Going}
+use Rattle.line_counts.proofs.count_attribute.Given as goal
+
+abbrev pub invariant-loop-e : goal.invariant-loop-e
+invariant-loop-e l =
+    Going l.features l.initial.who l.initial.what l.initial.counts l.who l.what l.counts l.n
+    × Passed (state_count (with_counts bare l.features l.kinds l.destinations [] 0 [] l.entries 0 [] []) l.label l.value) l.initial.e l.last (notes_added l.kinds l.initial.who l.initial.what l.initial.n l.initial.counts) (notes_added l.kinds l.who l.what l.n l.counts) l.e
+
+abbrev pub decreases-loop-e : goal.decreases-loop-e
+decreases-loop-e l = l.last - l.e

@@ -1,0 +1,33 @@
+-- `line_counts::count_transitions` meets its contract. The loop's invariant: the words before this one have counted. Assumes nothing.
+use Prim.Native.Nat.{◌-◌}
+use mathlib.Core.Path.{◌≡◌, refl}
+use mathlib.Core.List.{[]}
+use native.Mathlib.Omega.{arith}
+use borrow.Author.Rules.{rules}
+use lib.ListN.{length}
+use Rattle.lines.specs.Counted.{transition_count_of, counted_transition}
+use Rattle.lines.specs.Lent.{bare, with_counts}
+use Rattle.lines.proofs.Laws.{Passed, passed_none, passed_next, passed_end}
+use Rattle.lines.proofs.Spans.{span_sound}
+use Rattle.line_counts.proofs.TransitionTurns.{transition_turn}
+use Rattle.line_counts.proofs.count_transitions.Goals as goal
+
+pub loop-word-init : goal.loop-word-init
+loop-word-init c = (passed_none _ _ _, refl)
+
+pub overflow_cast-previous : goal.overflow_cast-previous
+overflow_cast-previous c =
+    let w = c.loop-word.word in
+    omega (arith, c.shared_slice_known-in-loop-word-1.given (w - 1), c.shared_slice_known-in-loop-word-2-1.given w)
+
+pub count_label-requires : goal.count_label-requires
+count_label-requires c =
+    record { sound_counts = c.requires.sound_counts; features_in_bounds = c.requires.features_in_bounds; sound_span = rw c.list_span-span.ensures (span_sound c.requires.sound_lists _); features_in_bounds_2 = omega (arith, c.requires.features_in_bounds_2, c.loop-word.invariant.1) }
+
+pub loop-word-preserved : goal.loop-word-preserved
+unfolding transition_count_of
+loop-word-preserved c =
+    (passed_next c.loop-word.invariant.0 c.loop-word-test.true (transition_turn _ _ _ _ c.list_span-span.ensures c.count_label.ensures), search rules)
+
+pub returns : goal.returns
+returns c = passed_end c.loop-word.invariant.0 c.loop-word-test.false

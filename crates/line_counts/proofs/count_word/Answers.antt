@@ -1,0 +1,78 @@
+-- `line_counts::count_word` meets its contract. The loop's invariant: once the notes are added, the attributes before this one have counted; this one and the places of its list are at hand. Assumes nothing.
+use Prim.Native.Nat.{◌-◌}
+use mathlib.Core.Path.{◌≡◌, refl}
+use mathlib.Core.List.{[]}
+use native.Mathlib.Omega.{arith}
+use borrow.Author.Rules.{rules}
+use Rattle.lines.specs.Spans.{attribute_before_of, span_of}
+use Rattle.lines.specs.Counted.{state_count, counted_at}
+use Rattle.lines.specs.Lent.{bare, with_counts}
+use Rattle.lines.proofs.Laws.{between_nothing, Passed, passed_none, passed_next, passed_end}
+use Rattle.lines.proofs.Spans.{span_sound}
+use Rattle.line_counts.specs.Noted.{notes_added}
+use Rattle.line_counts.proofs.Notes.{Going}
+use Rattle.line_counts.proofs.StateTurns.{counted_turn}
+use Rattle.line_counts.proofs.count_word.Goals as goal
+
+pub loop-a-init : goal.loop-a-init
+loop-a-init c =
+    let p = c.requires.1.1.1.1 in (
+      record { notes = p.0; free = p.1.0; who_long = refl; what_long = refl; counts_long = refl },
+      passed_none _ _ _,
+      c.attribute_before-attribute.ensures,
+      c.attribute_span-span.ensures,
+    )
+
+pub attribute_span-ahead-requires : goal.attribute_span-ahead-requires
+attribute_span-ahead-requires c = c.requires.sound_lists.starting
+
+pub count_attribute-n-requires : goal.count_attribute-n-requires
+count_attribute-n-requires c =
+    let p = c.requires in
+    let g = c.loop-a.invariant.0 in
+    record { sound_counts = p.0; sound_span = rw c.loop-a.invariant.3 (span_sound p.1.0 _); notes = g.notes; noted_in_bounds = g.free; features_in_bounds = omega (arith, p.1.1.1.1.1.1, g.counts_long) }
+
+pub overflow_add-a-in-loop-a : goal.overflow_add-a-in-loop-a
+overflow_add-a-in-loop-a c =
+    omega (arith, c.loop-a-test.true, c.ranges.to)
+
+pub loop-a-smaller : goal.loop-a-smaller
+loop-a-smaller c =
+    omega (arith, c.loop-a-test.true)
+
+pub loop-a-preserved : goal.loop-a-preserved
+unfolding state_count
+loop-a-preserved c =
+    let i = c.loop-a.invariant in
+    let h = c.loop-a-test.true in
+    let q = c.count_attribute-n.ensures in (
+      record {
+        notes = q.0;
+        free = q.1.0;
+        who_long = omega (arith, c.count_attribute-n.kept, i.0.who_long);
+        what_long = omega (arith, c.count_attribute-n.kept, i.0.what_long);
+        counts_long = omega (arith, c.count_attribute-n.kept, i.0.counts_long);
+      },
+      passed_next i.1 h (counted_turn _ _ _ _ _ _ h i.2 i.3 q.1.1),
+      c.attribute_before-next.ensures,
+      c.attribute_span-ahead.ensures,
+    )
+
+pub shape_of-who : goal.shape_of-who
+shape_of-who c = c.loop-a.invariant.0.who_long
+
+pub shape_of-what : goal.shape_of-what
+shape_of-what c = c.loop-a.invariant.0.what_long
+
+pub shape_of-counts : goal.shape_of-counts
+shape_of-counts c = c.loop-a.invariant.0.counts_long
+
+pub returns-after-loop-a : goal.returns-after-loop-a
+returns-after-loop-a c =
+    let g = c.loop-a.invariant.0 in
+    record { notes_2 = g.notes; upper_bound = g.free; counts_value = passed_end c.loop-a.invariant.1 c.loop-a-test.false }
+
+pub returns-else-from-to : goal.returns-else-from-to
+returns-else-from-to c =
+    let p = c.requires.1.1.1.1 in
+    record { notes_2 = p.0; upper_bound = p.1.0; counts_value = between_nothing _ _ _ _ c.if-from-to.false }

@@ -1,0 +1,26 @@
+-- `line_counts::count_words` meets its contract. The loop's invariant: once the notes are added, the words before this one have counted. Assumes nothing.
+use Prim.Native.Nat.{◌≤◌, ◌<◌, ◌-◌, ◌+◌, zero-le}
+use mathlib.Core.Path.{◌≡◌, refl, sym, ◌∙◌}
+use mathlib.Core.List.{[]}
+use native.Mathlib.Omega.{arith}
+use borrow.Author.Rules.{rules}
+use lib.ListN.{length}
+use Rattle.lines.specs.Passes.{through}
+use Rattle.lines.specs.Counted.{counted_at, counted_word}
+use Rattle.lines.specs.Lent.{bare, with_counts}
+use Rattle.lines.proofs.Laws.{through_none, through_next, through_end}
+use Rattle.line_counts.specs.Noted.{notes_added}
+use Rattle.line_counts.proofs.Notes.{settled_none, Going}
+use Rattle.line_counts.proofs.StateTurns.{word_turn}
+use Rattle.line_counts.proofs.count_words.Given as goal
+
+abbrev pub invariant-loop-word : goal.invariant-loop-word
+invariant-loop-word l =
+    (l.word ≤ l.words)
+    × Going l.features l.initial.who l.initial.what l.initial.counts l.who l.what l.counts l.noted
+    × (length l.initial.who ≡ 64)
+    × (length l.initial.what ≡ 64)
+    × (notes_added l.kinds l.who l.what l.noted l.counts ≡ through (counted_word (with_counts bare l.features l.kinds l.destinations [] l.lists l.starts l.entries 0 [] []) (record { starts = l.begins; size = 0; ids = l.ids; values = l.values }) l.first l.labels) 0 l.word l.initial.counts)
+
+abbrev pub decreases-loop-word : goal.decreases-loop-word
+decreases-loop-word l = l.words - l.word

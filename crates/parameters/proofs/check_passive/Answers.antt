@@ -1,0 +1,7 @@
+-- `parameters::check_passive` meets its contract. Assumes nothing.
+use borrow.Author.Rules.{rules}
+use Rattle.parameters.proofs.check_passive.Goals as goal
+
+pub returns : goal.returns
+returns c =
+    rw (c.refuse_if.ensures, c.refuse_if-three.ensures, c.is_not_above_zero.ensures, c.check_shared-two.ensures)

@@ -1,0 +1,55 @@
+-- `read_text::fill_checked` meets its contract. Assumes nothing.
+use mathlib.Core.Path.{◌≡◌, sym, ◌∙◌}
+use Rattle.refusals.specs.declared.Checked.TheVariants.{Accepted}
+use Rattle.layout.specs.Layout.{WellFormed, sequences}
+use Rattle.read_text.specs.Promise.{Buffers, checked_of}
+use Rattle.read_text.proofs.Figures.{sizes_told}
+use Rattle.read_text.proofs.Ready.{surveyed, few_made, checked_as, within, small_made, text_ready}
+use Rattle.read_text.proofs.Kept.{check_refused, filled_read}
+use borrow.Author.Rules.{rules}
+use Rattle.read_text.proofs.fill_checked.Goals as goal
+
+-- the tables at entry, and that what was surveyed is accepted
+abbrev given : goal.Start → Buffers
+given c =
+    let a = c.args in
+    record {
+      line_starts = a.line_starts_lem.now;
+      word_starts_of = a.word_starts.now;
+      ids = a.ids.now;
+      values = a.values.now;
+      references = a.references.now;
+      weights = a.instance-weights.now;
+      label_starts_of = a.label-name-starts.now;
+      label_bytes_of = a.label-names.now;
+      name_starts_of = a.attribute-name-starts.now;
+      name_bytes_of = a.attribute-names.now;
+      scale_starts_of = a.scale-starts.now;
+      scale_bytes_of = a.scales.now;
+    }
+
+accepted : (c : goal.In_default) → (h : WellFormed c.args.text.now) → checked_of c.args.text.now (sequences h.lines) (given c) ≡ Accepted
+accepted c h =
+    sym (checked_as c.requires (given c) c.check_text-answer.ensures h) ∙ c.enum_told-1.given.1
+
+pub check_text-answer-requires : goal.check_text-answer-requires
+check_text-answer-requires c =
+    few_made c.requires
+
+pub returns-in-Refused : goal.returns-in-Refused
+returns-in-Refused c =
+    check_refused c.args.text.now (given (goal.at.returns-in-Refused c).Start) _ (λ h. sym (checked_as c.requires (given (goal.at.returns-in-Refused c).Start) c.check_text-answer.ensures h) ∙ c.answer-1.given.1)
+
+pub fill-requires : goal.fill-requires
+fill-requires c =
+    text_ready c.requires (given (goal.at.fill-requires c).Start) (accepted (goal.at.fill-requires c).In_default)
+
+pub sizes_in-requires : goal.sizes_in-requires
+sizes_in-requires c =
+    small_made c.requires (given (goal.at.sizes_in-requires c).Start) (accepted (goal.at.sizes_in-requires c).In_default)
+
+pub returns : goal.returns
+returns c = λ h.
+    filled_read c.args.text.now (sequences h.lines) (given (goal.at.returns c).Start) _ _ (accepted (goal.at.returns c).In_default h)
+    (c.sizes_in.ensures ∙ sizes_told (sequences h.lines) _ (surveyed c.requires h).tells (within c.requires (given (goal.at.returns c).Start) (accepted (goal.at.returns c).In_default) h))
+    (c.fill.ensures h)

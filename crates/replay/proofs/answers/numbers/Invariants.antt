@@ -1,0 +1,13 @@
+-- `replay::answers::numbers` is safe and ends. Assumes nothing.
+use Prim.Native.Nat.{◌≤◌, ◌<◌, ◌-◌, ◌^◌}
+use mathlib.Core.Path.{◌≡◌, refl}
+use native.Mathlib.Omega.{arith}
+use lib.ListN.{length, length-set}
+use borrow.Author.Rules.{rules}
+use Rattle.replay.proofs.answers.numbers.Given as goal
+
+abbrev pub invariant-loop-i : goal.invariant-loop-i
+invariant-loop-i l = (l.i ≤ 12) × (length l.numbers ≡ 12) × (length l.table ≡ 12)
+
+abbrev pub decreases-loop-i : goal.decreases-loop-i
+decreases-loop-i l = 12 - l.i

@@ -1,0 +1,13 @@
+-- `replay::answers::places` is safe and ends. Assumes nothing.
+use Prim.Native.Nat.{◌≤◌, ◌<◌, ◌-◌, ◌^◌}
+use mathlib.Core.Path.{◌≡◌, refl}
+use native.Mathlib.Omega.{arith}
+use lib.ListN.{length, length-set}
+use borrow.Author.Rules.{rules}
+use Rattle.replay.proofs.answers.places.Given as goal
+
+abbrev pub invariant-loop-i : goal.invariant-loop-i
+invariant-loop-i l = l.i ≤ l.n
+
+abbrev pub decreases-loop-i : goal.decreases-loop-i
+decreases-loop-i l = l.n - l.i

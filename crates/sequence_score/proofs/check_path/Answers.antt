@@ -1,0 +1,21 @@
+-- `sequence_score::check_path` meets its contract: where the sizes are accepted there is room for what is read. Assumes nothing.
+use mathlib.Core.Path.{sym, ◌∙◌}
+use borrow.Author.Rules.{rules}
+use Rattle.sequence_score.specs.Rows.{path_sized, path_checked}
+use Rattle.sequence_score.proofs.Laws.{after, stopped, path_room, tables_room}
+use Rattle.sequence_score.proofs.check_path.Goals as goal
+
+pub returns-in-Refused : goal.returns-in-Refused
+returns-in-Refused c = stopped _ _ _ _ _ _ _ (sym c.check_sizes-sizes.ensures ∙ c.sizes-1.given.1)
+
+pub check_ids-five-requires : goal.check_ids-five-requires
+check_ids-five-requires c = path_room _ _ _ _ _ _ (sym c.check_sizes-sizes.ensures ∙ c.enum_told-1.given.1)
+
+pub check_finite-six-requires : goal.check_finite-six-requires
+check_finite-six-requires c = λ h. tables_room _ _ _ _ _ _ (sym c.check_sizes-sizes.ensures ∙ h)
+
+pub returns : goal.returns
+unfolding path_checked path_sized
+returns c =
+    rw (← c.check_sizes-sizes.ensures, c.or_next.ensures, c.check_finite-six.ensures, c.check_ids-five.ensures)
+    (after _ _ _ _ c.enum_told-1.given.1)

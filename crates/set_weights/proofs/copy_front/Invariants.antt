@@ -1,0 +1,11 @@
+-- `set_weights::copy_front` meets its contract: what is passed is the new table's, what is left the old one's. Assumes nothing.
+use Prim.Native.Nat.{◌-◌}
+use borrow.Author.Rules.{rules}
+use Rattle.set_weights.proofs.Laws.{Filled, none_filled, one_more, all_filled}
+use Rattle.set_weights.proofs.copy_front.Given as goal
+
+abbrev pub invariant-loop-i : goal.invariant-loop-i
+invariant-loop-i l = Filled l.n l.new l.initial.weights l.weights l.i
+
+abbrev pub decreases-loop-i : goal.decreases-loop-i
+decreases-loop-i l = l.n - l.i

@@ -1,0 +1,9 @@
+-- `shuffle::choose` meets its contract. Assumes nothing.
+use mathlib.Core.Path.{refl}
+use Rattle.shuffle.specs.Shuffle.{chosen}
+use borrow.Author.Rules.{rules}
+use Rattle.shuffle.proofs.choose.Goals as goal
+
+pub returns : goal.returns
+unfolding chosen
+returns c = refl

@@ -1,0 +1,16 @@
+-- `table_checks::all_below` meets its contract: while the flag holds, no place so far is refused. Assumes nothing.
+use Prim.Native.Nat.{◌-◌}
+use native.Mathlib.Omega.{arith}
+use borrow.Author.Rules.{rules}
+use Rattle.refusals.specs.Tables.{not_below}
+use Rattle.table_checks.proofs.Passing.{Passing, pass_begin, pass_end, below_step}
+use Rattle.table_checks.proofs.all_below.Goals as goal
+
+pub loop-i-init : goal.loop-i-init
+loop-i-init c = pass_begin
+
+pub loop-i-preserved : goal.loop-i-preserved
+loop-i-preserved c = let a = c.args in below_step a.ids.now a.bound c.loop-i.invariant (omega arith)
+
+pub returns : goal.returns
+returns c = pass_end c.loop-i.invariant c.loop-i-test.false

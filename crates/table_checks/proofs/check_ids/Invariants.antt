@@ -1,0 +1,14 @@
+-- `table_checks::check_ids` meets its contract, by the laws of a search. Assumes nothing.
+use Prim.Native.Nat.{◌-◌}
+use native.Mathlib.Omega.{arith}
+use borrow.Author.Rules.{rules}
+use Rattle.refusals.specs.Tables.{not_below}
+use Rattle.refusals.proofs.Laws.{Passed, step, answered}
+use Rattle.table_checks.proofs.Passing.{begun}
+use Rattle.table_checks.proofs.check_ids.Given as goal
+
+abbrev pub invariant-loop-i : goal.invariant-loop-i
+invariant-loop-i l = Passed 5 (not_below l.ids l.bound) l.end l.i
+
+abbrev pub decreases-loop-i : goal.decreases-loop-i
+decreases-loop-i l = l.end - l.i

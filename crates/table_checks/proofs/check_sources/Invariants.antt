@@ -1,0 +1,14 @@
+-- `table_checks::check_sources` meets its contract, by the laws of a search. Assumes nothing.
+use Prim.Native.Nat.{◌-◌}
+use native.Mathlib.Omega.{arith}
+use borrow.Author.Rules.{rules}
+use Rattle.refusals.specs.Tables.{bad_source}
+use Rattle.refusals.proofs.Laws.{Passed, step, answered}
+use Rattle.table_checks.proofs.Passing.{begun}
+use Rattle.table_checks.proofs.check_sources.Given as goal
+
+abbrev pub invariant-loop-i : goal.invariant-loop-i
+invariant-loop-i l = Passed 5 (bad_source l.kinds l.sources l.labels) l.end l.i
+
+abbrev pub decreases-loop-i : goal.decreases-loop-i
+decreases-loop-i l = l.end - l.i

@@ -1,0 +1,32 @@
+-- `training_tables::average` meets its contract: the loop is a pass of `averagedAt`, and the flag the finite test of what it stored. Assumes nothing.
+use mathlib.Core.Path.{◌≡◌, refl, ◌∙◌}
+use Prim.Native.Nat.{◌≤◌, ◌-◌}
+use native.Mathlib.Omega.{arith}
+use borrow.Author.Rules.{rules}
+use lib.ListN.{length}
+use Rattle.lines.specs.Passes.{through}
+use Rattle.fronts.specs.Finite.{all_finite_of}
+use Rattle.training.specs.Rules.{averaged_at}
+use Rattle.lines.proofs.Laws.{through_none, through_next, through_end}
+use Rattle.fronts.proofs.Finite.{finite_none, finite_stored, flag_next, finite_end}
+use Rattle.training_tables.proofs.average.Goals as goal
+
+pub loop-i-init : goal.loop-i-init
+loop-i-init c = (omega arith, refl, through_none _ _ _, finite_none _)
+
+pub loop-i-preserved : goal.loop-i-preserved
+unfolding averaged_at
+loop-i-preserved c = (
+  omega arith,
+  search rules,
+  through_next _ _ _ c.loop-i.invariant.2 refl,
+  flag_next c.loop-i.invariant.3 c.is_finite-all.ensures (finite_stored _ _ _ (search rules)),
+)
+
+pub returns : goal.returns
+returns c =
+    let l = c.loop-i.invariant in
+    record {
+      weights = l.2 ∙ through_end _ _ _ _ l.0 c.loop-i-test.false;
+      finite = l.3 ∙ finite_end _ _ _ l.0 c.loop-i-test.false;
+    }

@@ -1,0 +1,24 @@
+-- `training_tables::count_up` meets its contract: each place passed has its own place. Assumes nothing.
+use mathlib.Core.Path.{◌≡◌, refl, sym, ◌∙◌}
+use Prim.Native.Nat.{◌≤◌, ◌-◌}
+use native.Mathlib.Omega.{arith}
+use borrow.Author.Rules.{rules}
+use lib.ListN.{length}
+use native.Mathlib.Nat.{zero-add}
+use Rattle.training.specs.Epochs.{up_to}
+use Rattle.training_tables.proofs.Counted.{length_counted, get_d_counted}
+use Rattle.fronts.proofs.Filled.{filled, filled_none, filled_next, filled_end}
+use Rattle.training_tables.proofs.count_up.Goals as goal
+
+pub loop-i-init : goal.loop-i-init
+loop-i-init c = (omega arith, refl, filled_none _ _)
+
+pub loop-i-preserved : goal.loop-i-preserved
+loop-i-preserved c = (
+  omega arith,
+  search rules,
+  filled_next _ _ _ 0 _ (search rules) (rw (length_counted) c.loop-i-test.true) c.loop-i.invariant.2 (sym (get_d_counted 0 _ _ c.loop-i-test.true ∙ zero-add _)),
+)
+
+pub returns : goal.returns
+returns c = c.loop-i.invariant.2 ∙ filled_end _ _ _ _ (length_counted _ _) c.loop-i.invariant.0 c.loop-i-test.false

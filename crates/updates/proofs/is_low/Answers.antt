@@ -1,0 +1,16 @@
+-- `updates::is_low` meets its contract, trainer by trainer. Assumes nothing.
+use borrow.Author.Rules.{rules}
+use Rattle.training.specs.Rules.{stops}
+use Rattle.updates.proofs.is_low.Goals as goal
+
+pub returns-in-Perceptron : goal.returns-in-Perceptron
+unfolding stops
+returns-in-Perceptron c = rw c.enum_told-1.given.1
+
+pub returns-in-Passive : goal.returns-in-Passive
+unfolding stops
+returns-in-Passive c = rw c.enum_told-in-Passive-1.given.1
+
+pub returns-in-Arow : goal.returns-in-Arow
+unfolding stops
+returns-in-Arow c = rw c.enum_told-in-Arow-1.given.1

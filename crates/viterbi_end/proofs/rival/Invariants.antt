@@ -1,0 +1,22 @@
+-- `rival` meets its contract. The loop's invariant: the score is the largest of the other labels passed. Assumes nothing.
+use mathlib.Core.Path.{◌≡◌, ◌∙◌}
+use Prim.Native.Nat.{ℕ, ◌+◌, ◌-◌, ◌≤◌, ◌<◌, zero-le}
+use native.Mathlib.Nat.{lt_of_lt_of_le}
+use native.Mathlib.Omega.{arith}
+use lib.Ieee.{Float}
+use Rattle.refusals.specs.Bounds.{the_labels, most}
+use Rattle.best_path.specs.Decoded.{last_largest}
+use Rattle.best_path.specs.Lead.{other}
+use Rattle.best_path.proofs.Laws.{largest_first, other_within}
+use Rattle.viterbi_steps.proofs.Choices.{score_more}
+use Rattle.viterbi_end.specs.Rival.{score_at}
+use borrow.Author.Rules.{rules}
+use Rattle.viterbi_end.proofs.rival.Given as goal
+
+abbrev pub invariant-loop-k : goal.invariant-loop-k
+invariant-loop-k l =
+    let g : ℕ → Float = λ j. score_at l.row (other l.last j) in
+    (0 < l.k) × (l.k + 1 ≤ l.n) × (l.score ≡ g (last_largest g (l.k - 1)))
+
+abbrev pub decreases-loop-k : goal.decreases-loop-k
+decreases-loop-k l = l.n - l.k

@@ -1,0 +1,63 @@
+-- `walk_back` meets its contract. The loop's invariant: what is still to be walked, with what is written after it, is the whole path with the rest of the buffer. Assumes nothing.
+use mathlib.Core.Path.{◌≡◌, refl, ◌∙◌}
+use mathlib.Core.List.{◌++◌}
+use Prim.Native.Nat.{◌+◌, ◌-◌, ◌*◌, ◌<◌}
+use native.Mathlib.Nat.{lt_of_lt_of_le}
+use native.Mathlib.Omega.{arith}
+use lib.Arith.{digits_lt}
+use lib.ListN.{length, drop}
+use Rattle.refusals.specs.Bounds.{the_labels, most}
+use Rattle.viterbi_end.specs.Walked.{walked}
+use Rattle.viterbi_end.proofs.Laws.{walk_more, walk_end, step_within}
+use borrow.Author.Rules.{rules}
+use Rattle.viterbi_end.proofs.walk_back.Goals as goal
+
+-- a label of the path is one of a row's
+label_few : (c : goal.At-loop-word) → c.loop-word.label < most the_labels
+label_few c = omega (arith, c.loop-word.invariant.1, c.requires.walk.few)
+
+-- the place of a step
+inside : (c : goal.At-loop-word) →
+    let a = c.args in
+    c.loop-word.word * a.n + c.loop-word.label < length a.steps.now
+inside c = lt_of_lt_of_le (digits_lt c.loop-word.invariant.0 c.loop-word.invariant.1) c.requires.walk.long_steps
+
+pub loop-word-init : goal.loop-word-init
+loop-word-init c =
+    let e : c.args.words - 1 + 1 ≡ c.args.words = omega (arith, c.requires.walk.any) in
+    (omega (arith, c.requires.walk.any), c.requires.last_lt_n, refl, rw e)
+
+pub put_label-requires : goal.put_label-requires
+put_label-requires c =
+    (omega (arith, c.loop-word.invariant.0, c.loop-word.invariant.2, c.requires.walk.long_path), label_few (goal.at.put_label-requires c).At-loop-word)
+
+pub overflow_mul-word : goal.overflow_mul-word
+overflow_mul-word c =
+    omega (arith, inside (goal.at.overflow_mul-word c).At-loop-word)
+
+pub overflow_add-word : goal.overflow_add-word
+overflow_add-word c =
+    omega (arith, inside (goal.at.overflow_add-word c).At-loop-word)
+
+pub step_back-label-requires : goal.step_back-label-requires
+step_back-label-requires c =
+    inside (goal.at.step_back-label-requires c).At-loop-word
+
+pub loop-word-preserved : goal.loop-word-preserved
+loop-word-preserved c =
+    let a = c.args in
+    let any = c.loop-word-test.true in (
+      omega (arith, c.loop-word.invariant.0),
+      step_within c.requires.walk c.loop-word.word c.loop-word.label any c.loop-word.invariant.0 c.loop-word.invariant.1 c.step_back-label.ensures,
+      omega (arith, c.put_label.kept, c.loop-word.invariant.2),
+      walk_more a.steps.now a.n c.loop-word.path c.loop-word.label c.loop-word.word any (omega (arith, c.loop-word.invariant.0, c.loop-word.invariant.2, c.requires.walk.long_path)) c.put_label.ensures c.step_back-label.ensures ∙ c.loop-word.invariant.3,
+    )
+
+pub put_label-requires-2 : goal.put_label-requires-2
+put_label-requires-2 c =
+    (omega (arith, c.loop-word.invariant.0, c.loop-word.invariant.2, c.requires.walk.long_path), label_few (goal.at.put_label-requires-2 c).At-loop-word)
+
+pub returns : goal.returns
+returns c =
+    let a = c.args in
+    walk_end a.steps.now a.n c.loop-word.path c.loop-word.label c.loop-word-test.false (omega (arith, c.loop-word.invariant.0, c.loop-word.invariant.2, c.requires.walk.long_path)) c.put_label-2.ensures ∙ c.loop-word.invariant.3

@@ -1,0 +1,23 @@
+-- `walk_back` meets its contract. The loop's invariant: what is still to be walked, with what is written after it, is the whole path with the rest of the buffer. Assumes nothing.
+use mathlib.Core.Path.{◌≡◌, refl, ◌∙◌}
+use mathlib.Core.List.{◌++◌}
+use Prim.Native.Nat.{◌+◌, ◌-◌, ◌*◌, ◌<◌}
+use native.Mathlib.Nat.{lt_of_lt_of_le}
+use native.Mathlib.Omega.{arith}
+use lib.Arith.{digits_lt}
+use lib.ListN.{length, drop}
+use Rattle.refusals.specs.Bounds.{the_labels, most}
+use Rattle.viterbi_end.specs.Walked.{walked}
+use Rattle.viterbi_end.proofs.Laws.{walk_more, walk_end, step_within}
+use borrow.Author.Rules.{rules}
+use Rattle.viterbi_end.proofs.walk_back.Given as goal
+
+abbrev pub invariant-loop-word : goal.invariant-loop-word
+invariant-loop-word l =
+    (l.word < l.words)
+    × (l.label < l.n)
+    × (length l.path ≡ length l.initial.path)
+    × (walked l.steps l.n l.word l.label ++ drop (l.word + 1) l.path ≡ walked l.steps l.n (l.words - 1) l.last ++ drop l.words l.initial.path)
+
+abbrev pub decreases-loop-word : goal.decreases-loop-word
+decreases-loop-word l = l.word

@@ -1,0 +1,15 @@
+-- `keep_steps` meets its contract. The loop's invariant: the labels passed have their mark in its place. Assumes nothing.
+use mathlib.Core.Path.{◌≡◌, refl}
+use Prim.Native.Nat.{◌-◌, ◌≤◌}
+use native.Mathlib.Omega.{arith}
+use borrow.Author.Rules.{rules}
+use lib.ListN.{length, get_or, length-set}
+use Rattle.viterbi_steps.specs.Written.{written}
+use Rattle.viterbi_steps.proofs.Written.{written_none, written_more, written_end}
+use Rattle.viterbi_steps.proofs.keep_steps.Given as goal
+
+abbrev pub invariant-loop-label : goal.invariant-loop-label
+invariant-loop-label l = (l.label ≤ l.n) × (length l.steps ≡ length l.initial.steps) × (l.steps ≡ written l.at (λ k. get_or l.from k 0) l.label l.initial.steps)
+
+abbrev pub decreases-loop-label : goal.decreases-loop-label
+decreases-loop-label l = l.n - l.label

@@ -1,0 +1,20 @@
+-- `next_by_label` meets its contract. The loop's invariant: the labels passed have their best score and their step back. Assumes nothing.
+use mathlib.Core.Path.{◌≡◌, refl}
+use Prim.Native.Nat.{◌+◌, ◌-◌, ◌*◌, ◌≤◌}
+use native.Mathlib.Omega.{arith}
+use borrow.Author.Rules.{rules}
+use lib.ListN.{length, length-set}
+use Rattle.best_path.specs.Scores.{tabled}
+use Rattle.best_path.specs.Decoded.{best, back}
+use Rattle.viterbi_steps.specs.Written.{written}
+use Rattle.viterbi_steps.proofs.Written.{written_none, written_more, front_more, written_end}
+use Rattle.viterbi_steps.proofs.Laws.{choice_within, choice_back, choice_best}
+use Rattle.viterbi_steps.proofs.next_by_label.Given as goal
+
+abbrev pub invariant-loop-label : goal.invariant-loop-label
+invariant-loop-label l =
+    let s = tabled l.n l.transitions l.states in
+    (l.label ≤ l.n) × (length l.steps ≡ length l.initial.steps) × (l.next ≡ written 0 (best s (l.word + 1)) l.label l.initial.next) × (l.steps ≡ written l.at (back s l.word) l.label l.initial.steps)
+
+abbrev pub decreases-loop-label : goal.decreases-loop-label
+decreases-loop-label l = l.n - l.label

@@ -1,0 +1,16 @@
+-- `seed_row` meets its contract. The loop's invariant: the labels passed have their candidate. Assumes nothing.
+use mathlib.Core.Path.{◌≡◌}
+use Prim.Native.Nat.{◌-◌, ◌≤◌}
+use native.Mathlib.Nat.{zero-add}
+use native.Mathlib.Omega.{arith}
+use borrow.Author.Rules.{rules}
+use Rattle.viterbi_steps.specs.Written.{written}
+use Rattle.viterbi_steps.specs.Rows.{onward}
+use Rattle.viterbi_steps.proofs.Written.{written_none, front_more, written_end}
+use Rattle.viterbi_steps.proofs.seed_row.Given as goal
+
+abbrev pub invariant-loop-label : goal.invariant-loop-label
+invariant-loop-label l = (l.label ≤ l.n) × (l.next ≡ written 0 (onward l.score l.transitions 0 l.states l.at) l.label l.initial.next)
+
+abbrev pub decreases-loop-label : goal.decreases-loop-label
+decreases-loop-label l = l.n - l.label
