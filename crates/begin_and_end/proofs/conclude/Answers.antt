@@ -12,7 +12,7 @@ use Rattle.begin_and_end.proofs.conclude.Goals as goal
 pub returns-in-Refused : goal.returns-in-Refused
 unfolding of_bits
 returns-in-Refused c =
-    λ set m d r e f. visit_refused _ set m d e f c.visit-1.given.1 (c.fill.ensures ∙ all_of _ _ _ c.requires.0)
+    λ set m d r e f. visit_refused _ set m d e f c.in-Refused.is (c.fill.ensures ∙ all_of _ _ _ c.requires.0)
 
 pub int_to_float-counter : goal.int_to_float-counter
 unfolding in_float

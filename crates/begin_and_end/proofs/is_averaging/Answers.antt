@@ -5,12 +5,12 @@ use Rattle.begin_and_end.proofs.is_averaging.Goals as goal
 
 pub returns-in-Perceptron : goal.returns-in-Perceptron
 unfolding averaged_by
-returns-in-Perceptron c = λ f k s. rw c.enum_told-1.given.1
+returns-in-Perceptron c = λ f k s. rw c.in-Perceptron.is
 
 pub returns-in-Passive : goal.returns-in-Passive
 unfolding averaged_by
-returns-in-Passive c = λ f k s. rw c.trainer-1.given.1
+returns-in-Passive c = λ f k s. rw c.in-Passive.is
 
 pub returns-in-Arow : goal.returns-in-Arow
 unfolding averaged_by
-returns-in-Arow c = λ f k s. rw c.enum_told-in-Arow-1.given.1
+returns-in-Arow c = λ f k s. rw c.in-Arow.is

@@ -5,7 +5,7 @@ use Rattle.byte_steps.proofs.behind_slash.Lts as lts
 use Rattle.byte_steps.proofs.behind_slash.Goals as goal
 
 pub returns-in-Colon : goal.returns-in-Colon
-returns-in-Colon c = simp c.enum_told-in-Colon-1.given.1
+returns-in-Colon c = simp c.in-Colon.is
 
 pub returns-in-Slash : goal.returns-in-Slash
-returns-in-Slash c = simp c.enum_told-in-Slash-1.given.1
+returns-in-Slash c = simp c.in-Slash.is

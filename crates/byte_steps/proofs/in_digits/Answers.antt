@@ -7,13 +7,13 @@ use Rattle.byte_steps.proofs.one_more.Reads as one_more_reads
 use Rattle.byte_steps.proofs.in_digits.Goals as goal
 
 pub returns-in-Tab : goal.returns-in-Tab
-returns-in-Tab c = simp (c.ended.ensures, c.enum_told-1.given.1)
+returns-in-Tab c = simp (c.ended.ensures, c.in-Tab.is)
 
 pub returns-in-Feed : goal.returns-in-Feed
-returns-in-Feed c = simp (c.ended-in-Feed.ensures, c.enum_told-in-Feed-1.given.1)
+returns-in-Feed c = simp (c.ended-in-Feed.ensures, c.in-Feed.is)
 
 pub returns-else-point : goal.returns-else-point
-returns-else-point c = simp (c.enum_told-in-Point-1.given.1, c.if-point.false)
+returns-else-point c = simp (c.in-Point.is, c.if-point.false)
 
 pub returns-in-Digit : goal.returns-in-Digit
-returns-in-Digit c = simp (c.one_more.ensures, c.enum_told-in-Digit-1.given.1)
+returns-in-Digit c = simp (c.one_more.ensures, c.in-Digit.is)

@@ -6,4 +6,4 @@ use Rattle.byte_steps.proofs.may_end.Lts as lts
 use Rattle.byte_steps.proofs.may_end.Goals as goal
 
 pub returns-in-Digits : goal.returns-in-Digits
-returns-in-Digits c = rw c.mode-1.given.1 (digits_law c.mode-1.given.0.0 c.mode-1.given.0.1.0)
+returns-in-Digits c = rw c.in-Digits.is (digits_law c.in-Digits.d c.in-Digits.field-1)

@@ -11,10 +11,10 @@ use Rattle.byte_steps.proofs.in_name.Reads as in_name_reads
 use Rattle.byte_steps.proofs.next_mode.Goals as goal
 
 pub returns-in-Inside : goal.returns-in-Inside
-returns-in-Inside c = simp (c.in_name.ensures, c.mode-1.given.1)
+returns-in-Inside c = simp (c.in_name.ensures, c.in-Inside.is)
 
 pub returns-in-Slashed : goal.returns-in-Slashed
-returns-in-Slashed c = simp (c.behind_slash.ensures, c.mode-in-Slashed-1.given.1)
+returns-in-Slashed c = simp (c.behind_slash.ensures, c.in-Slashed.is)
 
 pub returns-in-Digits : goal.returns-in-Digits
-returns-in-Digits c = simp (c.in_digits.ensures, c.mode-in-Digits-1.given.1)
+returns-in-Digits c = simp (c.in_digits.ensures, c.in-Digits.is)

@@ -25,7 +25,7 @@ abbrev lent : goal.Start → Buffers
 lent c = record { transitions = c.args.transitions.now; states = c.args.states.now }
 
 accepted : (c : goal.In_default) → checked_of (given c) (lent c) ≡ Accepted
-accepted c = sym c.check_scoring-checked.ensures ∙ c.enum_told-1.given.1
+accepted c = sym c.check_scoring-checked.ensures ∙ c.in_default.is
 
 sound : (c : goal.In_default) → SoundScoring (scoring_of (given c) (lent c))
 sound c = scoring_sound (scoring_of (given c) (lent c)) (accepted c)
@@ -33,7 +33,7 @@ sound c = scoring_sound (scoring_of (given c) (lent c)) (accepted c)
 pub returns-in-Refused : goal.returns-in-Refused
 returns-in-Refused c =
     let e = c.refuse_scores.ensures in
-    refused_kept _ _ _ (sym c.check_scoring-checked.ensures ∙ c.checked-1.given.1) e.0 e.1.0 e.1.1
+    refused_kept _ _ _ (sym c.check_scoring-checked.ensures ∙ c.in-Refused.is) e.0 e.1.0 e.1.1
 
 pub fill_scores-requires : goal.fill_scores-requires
 fill_scores-requires c = sound (goal.at.fill_scores-requires c).In_default

@@ -25,7 +25,7 @@ tables : (c : goal.In-Read-2) →
     let given = c.labels-1.given in
     let a = c.args in
     Tables a.bytes.now a.line.now a.transitions.now a.states.now c.if-line-lt-PATH_ROOM.room given.0.0 given.0.1.0 (record { answer = c.read_sheet.result; transitions = c.read_sheet.last.1.0; states = c.read_sheet.last.1.1.0 })
-tables c = read_tables _ _ _ _ _ (chosen c) _ c.read_sheet.ensures _ _ c.labels-1.given.1
+tables c = read_tables _ _ _ _ _ (chosen c) _ c.read_sheet.ensures _ _ c.in-Read.is
 
 -- the file's bytes
 abbrev file : goal.In-Read-2 → List ℕ
@@ -69,7 +69,7 @@ write_path-n-requires c =
 
 pub returns-in-Refused : goal.returns-in-Refused
 returns-in-Refused c =
-    read_refused _ _ _ _ _ (chosen (goal.at.returns-in-Refused c).Joined-line-lt-PATH_ROOM) _ c.read_sheet.ensures _ c.why-1.given.1
+    read_refused _ _ _ _ _ (chosen (goal.at.returns-in-Refused c).Joined-line-lt-PATH_ROOM) _ c.read_sheet.ensures _ c.in-Refused.is
 
 pub returns-in-Read : goal.returns-in-Read
 returns-in-Read c =

@@ -8,8 +8,8 @@ refused_line-requires c = refused_room _ _ _ c.refused_line-arg-1.given.0.1
 
 pub returns-in-Path : goal.returns-in-Path
 returns-in-Path c =
-    printed_path _ _ _ c.decode_sheet-arg-1.given.0.1 c.decode_sheet.ensures _ c.n-1.given.1
+    printed_path _ _ _ c.decode_sheet-arg-1.given.0.1 c.decode_sheet.ensures _ c.in-Path.is
 
 pub returns-in-Refused : goal.returns-in-Refused
 returns-in-Refused c =
-    printed_refused _ _ _ c.decode_sheet-arg-1.given.0.1 c.decode_sheet.ensures _ c.why-1.given.1 _ _ c.refused_line.ensures
+    printed_refused _ _ _ c.decode_sheet-arg-1.given.0.1 c.decode_sheet.ensures _ c.in-Refused.is _ _ c.refused_line.ensures

@@ -23,14 +23,14 @@ given c =
     }
 
 accepted : (c : goal.In_default) → checked_of (given c) c.args.amounts.now ≡ Accepted
-accepted c = sym c.check_counting-checked.ensures ∙ c.enum_told-1.given.1
+accepted c = sym c.check_counting-checked.ensures ∙ c.in_default.is
 
 sound : (c : goal.In_default) → SoundCounting (counting_of (given c) c.args.amounts.now)
 sound c = counting_sound (counting_of (given c) c.args.amounts.now) (accepted c)
 
 pub returns-in-Refused : goal.returns-in-Refused
 returns-in-Refused c =
-    refused_kept _ _ _ (sym c.check_counting-checked.ensures ∙ c.checked-1.given.1) c.refuse_counts.ensures.value c.refuse_counts.ensures.counts_unchanged
+    refused_kept _ _ _ (sym c.check_counting-checked.ensures ∙ c.in-Refused.is) c.refuse_counts.ensures.value c.refuse_counts.ensures.counts_unchanged
 
 pub count_line-requires : goal.count_line-requires
 count_line-requires c =

@@ -9,12 +9,12 @@ use Rattle.feature_gen.proofs.check_weights.Goals as goal
 pub returns-in-Refused : goal.returns-in-Refused
 unfolding or_next_of
 returns-in-Refused c =
-    λ which. weights_stopped which _ _ _ (c.refuse_if-sizes.ensures ∙ ap (refuse 2 0) c.is_short-short.ensures) c.sizes-1.given.1
+    λ which. weights_stopped which _ _ _ (c.refuse_if-sizes.ensures ∙ ap (refuse 2 0) c.is_short-short.ensures) c.in-Refused.is
 
 pub check_numbers-requires : goal.check_numbers-requires
 unfolding or_next_of
 check_numbers-requires c =
-    weights_sized weight_table c.args.count c.args.weights.now (c.refuse_if-sizes.ensures ∙ ap (refuse 2 0) c.is_short-short.ensures) c.enum_told-1.given.1
+    weights_sized weight_table c.args.count c.args.weights.now (c.refuse_if-sizes.ensures ∙ ap (refuse 2 0) c.is_short-short.ensures) c.in_default.is
 
 pub returns : goal.returns
 unfolding or_next_of

@@ -12,7 +12,7 @@ check_finished-finished-requires c = record { n_in_bounds = c.requires; others_b
 pub returns-in-Refused : goal.returns-in-Refused
 unfolding of_bits
 returns-in-Refused c =
-    record { value = sym c.finished-1.given.1 ∙ c.check_finished-finished.ensures ∙ placed_first _; counts_after = c.fill.ensures }
+    record { value = sym c.in-Refused.is ∙ c.check_finished-finished.ensures ∙ placed_first _; counts_after = c.fill.ensures }
 
 pub returns : goal.returns
-returns c = record { value = sym c.enum_told-1.given.1 ∙ c.check_finished-finished.ensures ∙ placed_first _; counts_after = refl }
+returns c = record { value = sym c.in_default.is ∙ c.check_finished-finished.ensures ∙ placed_first _; counts_after = refl }

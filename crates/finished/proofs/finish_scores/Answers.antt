@@ -20,7 +20,7 @@ fill-requires-in-Refused c =
 pub returns-in-Refused : goal.returns-in-Refused
 unfolding of_bits
 returns-in-Refused c =
-    record { value = sym c.finished-1.given.1 ∙ c.check_scores-finished.ensures; transitions_after = cleared_to _ _ c.entries-in-Refused.ensures c.fill-in-Refused.ensures; states_after = cleared_to _ _ c.entries.ensures c.fill.ensures }
+    record { value = sym c.in-Refused.is ∙ c.check_scores-finished.ensures; transitions_after = cleared_to _ _ c.entries-in-Refused.ensures c.fill-in-Refused.ensures; states_after = cleared_to _ _ c.entries.ensures c.fill.ensures }
 
 pub returns : goal.returns
-returns c = record { value = sym c.enum_told-1.given.1 ∙ c.check_scores-finished.ensures; transitions_after = refl; states_after = refl }
+returns c = record { value = sym c.in_default.is ∙ c.check_scores-finished.ensures; transitions_after = refl; states_after = refl }

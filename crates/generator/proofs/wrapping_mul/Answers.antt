@@ -13,4 +13,4 @@ pub overflow_mul-a0-2 : goal.overflow_mul-a0-2
 overflow_mul-a0-2 c = record { fits = below 32 (omega arith) (omega arith) }
 
 pub returns : goal.returns
-returns c = c.wrapping_add_u64.ensures ∙ halves c.args.a c.args.b c.wrapping_add_u64-mid.result c.wrapping_add_u64-mid.ensures
+returns c = c.wrapping_add_u64.ensures.value ∙ halves c.args.a c.args.b c.wrapping_add_u64-mid.result c.wrapping_add_u64-mid.ensures.value

@@ -26,14 +26,14 @@ start c = c
 
 -- the call is accepted
 accepted : (c : goal.In_default) → checked_of (given (start c)) (start c).args.path.now ≡ Accepted
-accepted c = sym c.check_line-checked.ensures ∙ c.enum_told-1.given.1
+accepted c = sym c.check_line-checked.ensures ∙ c.in_default.is
 
 fine : (c : goal.In_default) → SoundLabelling (given (start c)) (start c).args.path.now
 fine c = sound (given (start c)) (start c).args.path.now (accepted c)
 
 pub returns-in-Refused : goal.returns-in-Refused
 returns-in-Refused c =
-    refused_kept _ _ _ (sym c.check_line-checked.ensures ∙ c.checked-1.given.1)
+    refused_kept _ _ _ (sym c.check_line-checked.ensures ∙ c.in-Refused.is)
 
 pub is_small-requires : goal.is_small-requires
 is_small-requires c =

@@ -9,7 +9,7 @@ check_scores-finished-requires c = c.requires.sized
 pub returns-in-Refused : goal.returns-in-Refused
 returns-in-Refused c =
     let a = c.args in
-    eight a.labels a.words a.transitions.now a.states.now a.path.now c.check_scores-finished.ensures _ c.finished-1.given.1 c.clear.ensures
+    eight a.labels a.words a.transitions.now a.states.now a.path.now c.check_scores-finished.ensures _ c.in-Refused.is c.clear.ensures
 
 pub decode_tables-requires : goal.decode_tables-requires
 decode_tables-requires c = c.requires
@@ -17,4 +17,4 @@ decode_tables-requires c = c.requires
 pub returns : goal.returns
 returns c =
     let a = c.args in
-    path_found a.labels a.words a.transitions.now a.states.now a.path.now c.check_scores-finished.ensures _ c.enum_told-1.given.1 c.decode_tables.ensures
+    path_found a.labels a.words a.transitions.now a.states.now a.path.now c.check_scores-finished.ensures _ c.in_default.is c.decode_tables.ensures

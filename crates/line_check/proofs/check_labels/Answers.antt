@@ -8,12 +8,12 @@ use Rattle.line_check.proofs.check_labels.Goals as goal
 pub returns-in-Refused : goal.returns-in-Refused
 unfolding or_next_of
 returns-in-Refused c =
-    labels_stopped _ _ _ _ (c.refuse_if-sizes.ensures ∙ ap (refuse 2 0) c.is_short-short.ensures) c.sizes-1.given.1
+    labels_stopped _ _ _ _ (c.refuse_if-sizes.ensures ∙ ap (refuse 2 0) c.is_short-short.ensures) c.in-Refused.is
 
 pub check_ids-requires : goal.check_ids-requires
 unfolding or_next_of
 check_ids-requires c =
-    labels_room c.args.labels c.args.words c.args.path.now (c.refuse_if-sizes.ensures ∙ ap (refuse 2 0) c.is_short-short.ensures) c.enum_told-1.given.1
+    labels_room c.args.labels c.args.words c.args.path.now (c.refuse_if-sizes.ensures ∙ ap (refuse 2 0) c.is_short-short.ensures) c.in_default.is
 
 pub returns : goal.returns
 unfolding or_next_of

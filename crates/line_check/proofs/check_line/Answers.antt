@@ -5,15 +5,15 @@ use Rattle.line_check.proofs.check_line.Goals as goal
 
 pub returns-in-Refused : goal.returns-in-Refused
 returns-in-Refused c =
-    line_stopped _ _ _ c.check_sizes-sizes.ensures c.sizes-1.given.1
+    line_stopped _ _ _ c.check_sizes-sizes.ensures c.in-Refused.is
 
 pub check_starts-three-requires : goal.check_starts-three-requires
 check_starts-three-requires c =
-    (line_room _ _ c.check_sizes-sizes.ensures c.enum_told-1.given.1).starts
+    (line_room _ _ c.check_sizes-sizes.ensures c.in_default.is).starts
 
 pub check_numbers-requires : goal.check_numbers-requires
 check_numbers-requires c =
-    (line_room _ _ c.check_sizes-sizes.ensures c.enum_told-1.given.1).values
+    (line_room _ _ c.check_sizes-sizes.ensures c.in_default.is).values
 
 pub returns : goal.returns
 returns c =

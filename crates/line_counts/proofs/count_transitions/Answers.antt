@@ -18,7 +18,7 @@ loop-word-init c = (passed_none _ _ _, refl)
 pub overflow_cast-previous : goal.overflow_cast-previous
 overflow_cast-previous c =
     let w = c.loop-word.word in
-    omega (arith, c.shared_slice_known-in-loop-word-1.given (w - 1), c.shared_slice_known-in-loop-word-2-1.given w)
+    omega (arith, c.type_inv.labels (w - 1), c.type_inv.labels w)
 
 pub count_label-requires : goal.count_label-requires
 count_label-requires c =

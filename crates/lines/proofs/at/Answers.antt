@@ -4,4 +4,4 @@ use borrow.Author.Rules.{rules}
 use Rattle.lines.proofs.at.Goals as goal
 
 pub overflow_cast-result : goal.overflow_cast-result
-overflow_cast-result c = omega (arith, c.shared_slice_known-1.given c.args.i)
+overflow_cast-result c = omega (arith, c.type_inv.table c.args.i)

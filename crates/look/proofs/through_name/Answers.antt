@@ -15,7 +15,7 @@ plain-s-requires c =
     later _ _ _ _ c.requires c.plain_run-i.ensures
 
 pub returns-in-Inside : goal.returns-in-Inside
-returns-in-Inside c = named _ false _ _ _ _ _ _ c.mode-1.given.1 (walked_on _ _ _ _ _ c.plain_run-i.ensures c.plain-s.ensures) c.in_mode.ensures
+returns-in-Inside c = named _ false _ _ _ _ _ _ c.in-Inside.is (walked_on _ _ _ _ _ c.plain_run-i.ensures c.plain-s.ensures) c.in_mode.ensures
 
 pub returns-in-Slashed : goal.returns-in-Slashed
-returns-in-Slashed c = named _ true _ _ _ _ _ _ c.mode-in-Slashed-1.given.1 c.behind-s.ensures c.in_mode-in-Slashed.ensures
+returns-in-Slashed c = named _ true _ _ _ _ _ _ c.in-Slashed.is c.behind-s.ensures c.in_mode-in-Slashed.ensures

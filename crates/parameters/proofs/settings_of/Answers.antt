@@ -4,12 +4,12 @@ use Rattle.parameters.proofs.settings_of.Goals as goal
 
 pub returns-in-AveragedPerceptron : goal.returns-in-AveragedPerceptron
 returns-in-AveragedPerceptron c =
-    rw c.method-1.given.1
+    rw c.in-AveragedPerceptron.is
 
 pub returns-in-PassiveAggressive : goal.returns-in-PassiveAggressive
 returns-in-PassiveAggressive c =
-    rw c.method-in-PassiveAggressive-1.given.1
+    rw c.in-PassiveAggressive.is
 
 pub returns-in-Arow : goal.returns-in-Arow
 returns-in-Arow c =
-    rw c.method-in-Arow-1.given.1
+    rw c.in-Arow.is

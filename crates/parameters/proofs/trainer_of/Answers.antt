@@ -4,8 +4,8 @@ use Rattle.parameters.proofs.trainer_of.Goals as goal
 
 pub returns-in-PassiveAggressive : goal.returns-in-PassiveAggressive
 returns-in-PassiveAggressive c =
-    rw (c.method-1.given.1, c.is_on.ensures, c.is_on-in-PassiveAggressive.ensures)
+    rw (c.in-PassiveAggressive.is, c.is_on.ensures, c.is_on-in-PassiveAggressive.ensures)
 
 pub returns-in-Arow : goal.returns-in-Arow
 returns-in-Arow c =
-    rw c.method-in-Arow-1.given.1
+    rw c.in-Arow.is

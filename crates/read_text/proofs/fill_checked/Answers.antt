@@ -30,7 +30,7 @@ given c =
 
 accepted : (c : goal.In_default) → (h : WellFormed c.args.text.now) → checked_of c.args.text.now (sequences h.lines) (given c) ≡ Accepted
 accepted c h =
-    sym (checked_as c.requires (given c) c.check_text-answer.ensures h) ∙ c.enum_told-1.given.1
+    sym (checked_as c.requires (given c) c.check_text-answer.ensures h) ∙ c.in_default.is
 
 pub check_text-answer-requires : goal.check_text-answer-requires
 check_text-answer-requires c =
@@ -38,7 +38,7 @@ check_text-answer-requires c =
 
 pub returns-in-Refused : goal.returns-in-Refused
 returns-in-Refused c =
-    check_refused c.args.text.now (given (goal.at.returns-in-Refused c).Start) _ (λ h. sym (checked_as c.requires (given (goal.at.returns-in-Refused c).Start) c.check_text-answer.ensures h) ∙ c.answer-1.given.1)
+    check_refused c.args.text.now (given (goal.at.returns-in-Refused c).Start) _ (λ h. sym (checked_as c.requires (given (goal.at.returns-in-Refused c).Start) c.check_text-answer.ensures h) ∙ c.in-Refused.is)
 
 pub fill-requires : goal.fill-requires
 fill-requires c =

@@ -8,11 +8,11 @@ use borrow.Author.Rules.{rules}
 use Rattle.read_text.proofs.read_text.Goals as goal
 
 readable : (c : goal.In_default) → Readable c.args.text.now
-readable c = (bytes_mean _).accepted (sym c.check_bytes-checked.ensures ∙ c.enum_told-1.given.1)
+readable c = (bytes_mean _).accepted (sym c.check_bytes-checked.ensures ∙ c.in_default.is)
 
 pub returns-in-Refused : goal.returns-in-Refused
 returns-in-Refused c =
-    bytes_refused _ _ _ (sym c.check_bytes-checked.ensures ∙ c.checked-1.given.1)
+    bytes_refused _ _ _ (sym c.check_bytes-checked.ensures ∙ c.in-Refused.is)
 
 pub read_with-requires : goal.read_with-requires
 read_with-requires c =

@@ -11,11 +11,11 @@ use Rattle.read_text.proofs.sizes_readable.Goals as goal
 
 accepted : (c : goal.In_default) → (h : WellFormed c.args.text.now) → text_sized (length c.args.text.now) (sequences h.lines) ≡ Accepted
 accepted c h =
-    sym (c.check_sizes-checked.ensures (length c.args.text.now) (sequences h.lines) c.requires.small (c.survey_alone-survey.ensures h).tells) ∙ c.enum_told-1.given.1
+    sym (c.check_sizes-checked.ensures (length c.args.text.now) (sequences h.lines) c.requires.small (c.survey_alone-survey.ensures h).tells) ∙ c.in_default.is
 
 pub returns-in-Refused : goal.returns-in-Refused
 returns-in-Refused c = λ h.
-    sized_refused c.args.text.now (sequences h.lines) _ (sym (c.check_sizes-checked.ensures (length c.args.text.now) (sequences h.lines) c.requires.small (c.survey_alone-survey.ensures h).tells) ∙ c.checked-1.given.1)
+    sized_refused c.args.text.now (sequences h.lines) _ (sym (c.check_sizes-checked.ensures (length c.args.text.now) (sequences h.lines) c.requires.small (c.survey_alone-survey.ensures h).tells) ∙ c.in-Refused.is)
 
 pub sizes_in-requires : goal.sizes_in-requires
 sizes_in-requires c =

@@ -7,11 +7,11 @@ use borrow.Author.Rules.{rules}
 use Rattle.read_text.proofs.text_sizes.Goals as goal
 
 readable : (c : goal.In_default) → Readable c.args.text.now
-readable c = (bytes_mean _).accepted (sym c.check_bytes-checked.ensures ∙ c.enum_told-1.given.1)
+readable c = (bytes_mean _).accepted (sym c.check_bytes-checked.ensures ∙ c.in_default.is)
 
 pub returns-in-Refused : goal.returns-in-Refused
 returns-in-Refused c =
-    sizes_refused _ _ (sym c.check_bytes-checked.ensures ∙ c.checked-1.given.1)
+    sizes_refused _ _ (sym c.check_bytes-checked.ensures ∙ c.in-Refused.is)
 
 pub sizes_readable-requires : goal.sizes_readable-requires
 sizes_readable-requires c =

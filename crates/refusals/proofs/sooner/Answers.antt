@@ -7,18 +7,18 @@ use Rattle.refusals.proofs.sooner.Goals as goal
 pub returns-then-goes_before : goal.returns-then-goes_before
 unfolding sooner
 returns-then-goes_before c =
-    rw (c.answer-1.given.1, c.next-1.given.1, sym c.goes_before.ensures, c.if-goes_before.true)
+    rw (c.in-Refused.is, c.in-Refused-next.is, sym c.goes_before.ensures, c.if-goes_before.true)
 
 pub returns-else-goes_before : goal.returns-else-goes_before
 unfolding sooner
 returns-else-goes_before c =
-    rw (c.answer-1.given.1, c.next-1.given.1, sym c.goes_before.ensures, c.if-goes_before.false)
+    rw (c.in-Refused.is, c.in-Refused-next.is, sym c.goes_before.ensures, c.if-goes_before.false)
 
 pub returns-in_default-next : goal.returns-in_default-next
 unfolding sooner
 returns-in_default-next c =
-    rw (c.answer-1.given.1, c.enum_told-1.given.1)
+    rw (c.in-Refused.is, c.in_default-next.is)
 
 pub returns : goal.returns
 unfolding sooner
-returns c = rw c.enum_told-in_default-1.given.1
+returns c = rw c.in_default.is

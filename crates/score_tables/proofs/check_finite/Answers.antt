@@ -6,16 +6,16 @@ use Rattle.score_tables.proofs.check_finite.Goals as goal
 
 pub returns-in-Refused : goal.returns-in-Refused
 unfolding or_next_of
-returns-in-Refused c = rw c.answer-1.given.1
+returns-in-Refused c = rw c.in-Refused.is
 
 pub check_numbers-a-requires : goal.check_numbers-a-requires
 check_numbers-a-requires c =
-    let room = c.requires c.enum_told-1.given.1 in
+    let room = c.requires c.in_default.is in
     omega (arith, c.entries.ensures, room.long_transitions, room.long_states)
 
 pub check_numbers-requires : goal.check_numbers-requires
 check_numbers-requires c =
-    let room = c.requires c.enum_told-1.given.1 in
+    let room = c.requires c.in_default.is in
     omega (arith, c.entries-2.ensures, room.long_transitions, room.long_states)
 
 pub returns : goal.returns

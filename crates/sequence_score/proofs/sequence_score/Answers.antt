@@ -7,13 +7,13 @@ use Rattle.sequence_score.proofs.sequence_score.Goals as goal
 
 pub returns-in-Refused : goal.returns-in-Refused
 unfolding answer_to
-returns-in-Refused c = record { answers = rw (← c.check_path-checked.ensures, c.checked-1.given.1) }
+returns-in-Refused c = record { answers = rw (← c.check_path-checked.ensures, c.in-Refused.is) }
 
 pub score_path-requires : goal.score_path-requires
-score_path-requires c = met _ _ _ _ _ _ (sym c.check_path-checked.ensures ∙ c.enum_told-1.given.1)
+score_path-requires c = met _ _ _ _ _ _ (sym c.check_path-checked.ensures ∙ c.in_default.is)
 
 pub returns : goal.returns
 unfolding answer_to
 returns c = record {
-  answers = rw (← c.check_path-checked.ensures, c.enum_told-1.given.1, c.score_path.ensures);
+  answers = rw (← c.check_path-checked.ensures, c.in_default.is, c.score_path.ensures);
 }

@@ -4,11 +4,11 @@ use Rattle.set_weights.proofs.Laws.{room_for_new, kept, filled}
 use Rattle.set_weights.proofs.set_weights.Goals as goal
 
 pub returns-in-Refused : goal.returns-in-Refused
-returns-in-Refused c = kept _ _ _ _ c.check_new-answer.ensures c.answer-1.given.1
+returns-in-Refused c = kept _ _ _ _ c.check_new-answer.ensures c.in-Refused.is
 
 pub copy_front-requires : goal.copy_front-requires
-copy_front-requires c = room_for_new _ _ _ c.check_new-answer.ensures c.enum_told-1.given.1
+copy_front-requires c = room_for_new _ _ _ c.check_new-answer.ensures c.in_default.is
 
 pub returns : goal.returns
 returns c =
-    filled _ _ _ _ c.check_new-answer.ensures c.enum_told-1.given.1 c.copy_front.ensures
+    filled _ _ _ _ c.check_new-answer.ensures c.in_default.is c.copy_front.ensures

@@ -7,10 +7,10 @@ use Rattle.sheet.proofs.Rows.{Sizes, sizes, sizes_refused, sizes_passed}
 use Rattle.sheet.proofs.check_sheet.Goals as goal
 
 told : (c : goal.In_default) → let a = c.args in Sizes a.bytes.now (record { transitions = a.transitions.now; states = a.states.now })
-told c = sizes _ _ (sym c.check_sizes-sizes.ensures ∙ c.enum_told-1.given.1)
+told c = sizes _ _ (sym c.check_sizes-sizes.ensures ∙ c.in_default.is)
 
 pub returns-in-Refused : goal.returns-in-Refused
-returns-in-Refused c = sizes_refused _ _ _ (sym c.check_sizes-sizes.ensures ∙ c.sizes-1.given.1)
+returns-in-Refused c = sizes_refused _ _ _ (sym c.check_sizes-sizes.ensures ∙ c.in-Refused.is)
 
 pub check_part-first-requires : goal.check_part-first-requires
 check_part-first-requires c =

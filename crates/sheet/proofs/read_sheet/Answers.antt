@@ -11,7 +11,7 @@ use Rattle.sheet.proofs.read_sheet.Goals as goal
 
 -- what the accepted sheet gives
 told : (c : goal.In_default) → let a = c.args in Accepts a.bytes.now (record { transitions = a.transitions.now; states = a.states.now })
-told c = accepts _ _ (sym c.check_sheet.ensures ∙ c.enum_told-1.given.1)
+told c = accepts _ _ (sym c.check_sheet.ensures ∙ c.in_default.is)
 
 -- how many entries a table has
 size : {n a b x y : ℕ} → n ≡ a * b → a ≡ x → b ≡ y → n ≡ x * y
@@ -22,7 +22,7 @@ says : {a b x y : ℕ} → a ≡ x → b ≡ y → read a b ≡ read x y
 says a b = rw (a, b)
 
 pub returns-in-Refused : goal.returns-in-Refused
-returns-in-Refused c = promised_refused _ _ _ (sym c.check_sheet.ensures ∙ c.why-1.given.1)
+returns-in-Refused c = promised_refused _ _ _ (sym c.check_sheet.ensures ∙ c.in-Refused.is)
 
 pub read_part-requires : goal.read_part-requires
 unfolding transitions_in_of
@@ -43,7 +43,7 @@ unfolding transitions_in_of states_in_of
 returns c =
     let e = size c.entries.ensures c.labels_in-labels.ensures.0 c.labels_in-labels.ensures.0 in
     let d = size c.entries-2.ensures c.words_in-words.ensures.0 c.labels_in-labels.ensures.0 in
-    promised_read _ _ _ (sym c.check_sheet.ensures ∙ c.enum_told-1.given.1)
+    promised_read _ _ _ (sym c.check_sheet.ensures ∙ c.in_default.is)
     (says c.labels_in-labels.ensures.0 c.words_in-words.ensures.0)
     (rw e at c.read_part.ensures)
     (rw (d, c.states_from.ensures) at c.read_part-2.ensures)

@@ -5,12 +5,12 @@ use Rattle.survey.proofs.with_piece.Goals as goal
 
 pub returns-in-Blank : goal.returns-in-Blank
 returns-in-Blank c =
-    λ before p k g. step_blank k g c.enum_told-1.given.1 c.with_blank.ensures
+    λ before p k g. step_blank k g c.in-Blank.is c.with_blank.ensures
 
 pub returns-in-Label : goal.returns-in-Label
 returns-in-Label c =
-    λ before p k g. step_label k g c.enum_told-in-Label-1.given.1 c.with_word.ensures (c.with_label.ensures _ _ k.labelled g.name)
+    λ before p k g. step_label k g c.in-Label.is c.with_word.ensures (c.with_label.ensures _ _ k.labelled g.name)
 
 pub returns-in-Attribute : goal.returns-in-Attribute
 returns-in-Attribute c =
-    λ before p k g. step_attribute k g c.enum_told-in-Attribute-1.given.1 c.scale_length.ensures c.with_attribute.ensures (c.with_name.ensures _ _ k.named g.name)
+    λ before p k g. step_attribute k g c.in-Attribute.is c.scale_length.ensures c.with_attribute.ensures (c.with_name.ensures _ _ k.named g.name)

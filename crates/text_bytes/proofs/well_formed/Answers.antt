@@ -6,4 +6,4 @@ use Rattle.text_bytes.proofs.well_formed.Goals as goal
 
 pub returns-in-At : goal.returns-in-At
 returns-in-At c =
-    c.refused.ensures ∙ sym (ap malformed_at c.found-1.given.1)
+    c.refused.ensures ∙ sym (ap malformed_at c.in-At.is)

@@ -5,15 +5,15 @@ use Rattle.training_check.proofs.check_instances.Goals as goal
 
 pub returns-in-Refused : goal.returns-in-Refused
 returns-in-Refused c =
-    instances_stopped _ _ _ _ c.check_sizes-sizes.ensures c.sizes-1.given.1
+    instances_stopped _ _ _ _ c.check_sizes-sizes.ensures c.in-Refused.is
 
 pub check_starts-three-requires : goal.check_starts-three-requires
 check_starts-three-requires c =
-    instances_room _ _ _ c.check_sizes-sizes.ensures c.enum_told-1.given.1
+    instances_room _ _ _ c.check_sizes-sizes.ensures c.in_default.is
 
 pub check_lengths-requires : goal.check_lengths-requires
 check_lengths-requires c =
-    instances_room _ _ _ c.check_sizes-sizes.ensures c.enum_told-1.given.1
+    instances_room _ _ _ c.check_sizes-sizes.ensures c.in_default.is
 
 pub returns : goal.returns
 returns c =

@@ -5,12 +5,12 @@ use Rattle.updates.proofs.is_low.Goals as goal
 
 pub returns-in-Perceptron : goal.returns-in-Perceptron
 unfolding stops
-returns-in-Perceptron c = rw c.enum_told-1.given.1
+returns-in-Perceptron c = rw c.in-Perceptron.is
 
 pub returns-in-Passive : goal.returns-in-Passive
 unfolding stops
-returns-in-Passive c = rw c.enum_told-in-Passive-1.given.1
+returns-in-Passive c = rw c.in-Passive.is
 
 pub returns-in-Arow : goal.returns-in-Arow
 unfolding stops
-returns-in-Arow c = rw c.enum_told-in-Arow-1.given.1
+returns-in-Arow c = rw c.in-Arow.is

@@ -4,12 +4,12 @@ use Rattle.updates.proofs.update.Goals as goal
 
 pub returns-in-Perceptron : goal.returns-in-Perceptron
 returns-in-Perceptron c =
-    rw c.enum_told-1.given.1 (c.update.ensures _ _)
+    rw c.in-Perceptron.is (c.update.ensures _ _)
 
 pub returns-in-Passive : goal.returns-in-Passive
 returns-in-Passive c =
-    rw c.trainer-1.given.1 (c.update-in-Passive.ensures _)
+    rw c.in-Passive.is (c.update-in-Passive.ensures _)
 
 pub returns-in-Arow : goal.returns-in-Arow
 returns-in-Arow c =
-    rw c.trainer-in-Arow-1.given.1 (c.update-in-Arow.ensures _ _ _)
+    rw c.in-Arow.is (c.update-in-Arow.ensures _ _ _)

@@ -77,7 +77,7 @@ look-found-requires c =
 
 pub returns-in-Ended : goal.returns-in-Ended
 returns-in-Ended c =
-    let was = c.found-1.given.1 in record { fact = ended_there (data_of (goal.at.returns-in-Ended c).Start) _ _ _ c.at-first.ensures c.at-end.ensures _ (model (goal.at.returns-in-Ended c).Start) (state (goal.at.returns-in-Ended c).Start) c.predict-p.ensures (sym (c.look-found.ensures _) ∙ was); visit_counted = ended_counted _ _ _ _ (λ l. sym (c.look-found.ensures l) ∙ was) c.requires.updates }
+    let was = c.in-Ended.is in record { fact = ended_there (data_of (goal.at.returns-in-Ended c).Start) _ _ _ c.at-first.ensures c.at-end.ensures _ (model (goal.at.returns-in-Ended c).Start) (state (goal.at.returns-in-Ended c).Start) c.predict-p.ensures (sym (c.look-found.ensures _) ∙ was); visit_counted = ended_counted _ _ _ _ (λ l. sym (c.look-found.ensures l) ∙ was) c.requires.updates }
 
 pub slice_bounds-path-end-2 : goal.slice_bounds-path-end-2
 slice_bounds-path-end-2 c =
@@ -109,4 +109,4 @@ correct-requires c =
 
 pub returns : goal.returns
 returns c =
-    let made = c.correct.ensures in record { fact = other_front (data_of (goal.at.returns c).Start) _ _ _ c.at-first.ensures c.at-end.ensures _ (model (goal.at.returns c).Start) (state (goal.at.returns c).Start) c.predict-p.ensures (sym (c.look-found.ensures _) ∙ c.enum_told-1.given.1) (omega (arith, c.predict-p.kept, front (goal.at.returns c).After-predict-p)) _ made.0; visit_counted = made.1 }
+    let made = c.correct.ensures in record { fact = other_front (data_of (goal.at.returns c).Start) _ _ _ c.at-first.ensures c.at-end.ensures _ (model (goal.at.returns c).Start) (state (goal.at.returns c).Start) c.predict-p.ensures (sym (c.look-found.ensures _) ∙ c.in_default.is) (omega (arith, c.predict-p.kept, front (goal.at.returns c).After-predict-p)) _ made.0; visit_counted = made.1 }

@@ -13,11 +13,11 @@ given c =
     record { labels = a.labels; words = a.words; transitions = a.transitions.now; states = a.states.now }
 
 accepted : (c : goal.In_default) → checked_of (given c) c.args.path.now ≡ Accepted
-accepted c = sym c.check_decode-checked.ensures ∙ c.enum_told-1.given.1
+accepted c = sym c.check_decode-checked.ensures ∙ c.in_default.is
 
 pub returns-in-Refused : goal.returns-in-Refused
 returns-in-Refused c =
-    refused_kept _ _ _ (sym c.check_decode-checked.ensures ∙ c.checked-1.given.1)
+    refused_kept _ _ _ (sym c.check_decode-checked.ensures ∙ c.in-Refused.is)
 
 pub decode_tables-requires : goal.decode_tables-requires
 decode_tables-requires c =

@@ -4,4 +4,4 @@ use borrow.Author.Rules.{rules}
 use Rattle.viterbi_end.proofs.step_back.Goals as goal
 
 pub overflow_cast-result : goal.overflow_cast-result
-overflow_cast-result c = omega (arith, c.shared_slice_known-1.given c.args.place)
+overflow_cast-result c = omega (arith, c.type_inv.steps c.args.place)

@@ -5,7 +5,7 @@ use Rattle.answers.proofs.decoding.numbers_of_found.Goals as goal
 
 pub returns-in-NoLead : goal.returns-in-NoLead
 unfolding of_bits
-returns-in-NoLead c = rw c.enum_told-1.given.1
+returns-in-NoLead c = rw c.in-NoLead.is
 
 pub returns-in-By : goal.returns-in-By
-returns-in-By c = rw c.lead-1.given.1
+returns-in-By c = rw c.in-By.is

@@ -4,8 +4,8 @@ use borrow.Author.Rules.{rules}
 use Rattle.answers.proofs.decoding.numbers_of_score.Goals as goal
 
 pub returns-in-Scored : goal.returns-in-Scored
-returns-in-Scored c = rw c.answer-1.given.1
+returns-in-Scored c = rw c.in-Scored.is
 
 pub returns-in-Refused : goal.returns-in-Refused
 unfolding of_bits
-returns-in-Refused c = rw c.answer-in-Refused-1.given.1
+returns-in-Refused c = rw c.in-Refused.is

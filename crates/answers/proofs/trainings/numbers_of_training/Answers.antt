@@ -3,7 +3,7 @@ use borrow.Author.Rules.{rules}
 use Rattle.answers.proofs.trainings.numbers_of_training.Goals as goal
 
 pub returns-in-Accepted : goal.returns-in-Accepted
-returns-in-Accepted c = rw c.answer-1.given.1
+returns-in-Accepted c = rw c.in-Accepted.is
 
 pub returns-in-Refused : goal.returns-in-Refused
-returns-in-Refused c = rw c.answer-in-Refused-1.given.1
+returns-in-Refused c = rw c.in-Refused.is
