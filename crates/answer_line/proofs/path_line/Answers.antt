@@ -8,29 +8,30 @@ use Rattle.byte_buffers.specs.Stored.{RoomFor, Put}
 use Rattle.byte_buffers.proofs.Laws.{put_then, put_length, put_line, room_first, room_next}
 use Rattle.answer_line.specs.Line.{space, line_feed, sum_digits, joined_labels, path_line_of}
 use Rattle.answer_line.proofs.Laws.{length_digits}
+use Rattle.answer_line.proofs.path_line.Goals.{After-put_byte, After-put_byte-gap, After-put_digits-bits, After-put_labels-end, After-put_text-word}
 use Rattle.answer_line.proofs.path_line.Goals as goal
 
 -- what is left to write, and the room for it, after each part
-room_1 : (c : goal.After-put_text-word) →
+room_1 : (c : After-put_text-word) →
     let a = c.args in
     RoomFor (sum_digits a.sum ++ (space ∷ (joined_labels a.labels.now ++ (line_feed ∷ [])))) c.put_text-word.new.0 c.put_text-word.result
 unfolding path_line_of
 room_1 c = room_next _ c.put_text-word.ensures c.requires.room_for
 
-room_2 : (c : goal.After-put_digits-bits) →
+room_2 : (c : After-put_digits-bits) →
     let a = c.args in
     RoomFor (space ∷ (joined_labels a.labels.now ++ (line_feed ∷ []))) c.put_digits-bits.new.0 c.put_digits-bits.result
 room_2 c = room_next _ c.put_digits-bits.ensures (room_1 c)
 
-room_3 : (c : goal.After-put_byte-gap) →
+room_3 : (c : After-put_byte-gap) →
     let a = c.args in
     RoomFor (joined_labels a.labels.now ++ (line_feed ∷ [])) c.put_byte-gap.new.0 c.put_byte-gap.result
 room_3 c = room_next _ c.put_byte-gap.ensures (room_2 c)
 
-room_4 : (c : goal.After-put_labels-end) → RoomFor (line_feed ∷ []) c.put_labels-end.new.0 c.put_labels-end.result
+room_4 : (c : After-put_labels-end) → RoomFor (line_feed ∷ []) c.put_labels-end.new.0 c.put_labels-end.result
 room_4 c = room_next _ c.put_labels-end.ensures (room_3 c)
 
-done : (c : goal.After-put_byte) →
+done : (c : After-put_byte) →
     let a = c.args in
     Put (path_line_of a.sum a.labels.now) a.line.now 0 c.put_byte.result c.put_byte.new.0
 unfolding path_line_of

@@ -9,23 +9,24 @@ use Rattle.byte_buffers.specs.Stored.{RoomFor, Put}
 use Rattle.byte_buffers.proofs.Laws.{put_then, put_nothing, put_length, put_as, room_first, room_next, room_as}
 use Rattle.answer_line.specs.Line.{comma, further_labels, joined_labels}
 use Rattle.answer_line.proofs.Laws.{first_label, next_label, no_label}
+use Rattle.answer_line.proofs.put_labels.Goals.{After-loop-i, After-put_decimal-at, After-put_decimal-at-in-loop-i, In-loop-i, Start}
 use Rattle.answer_line.proofs.put_labels.Goals as goal
 
 -- the first label
-first : (c : goal.After-put_decimal-at) →
+first : (c : After-put_decimal-at) →
     let a = c.args in
     Put (decimal (get_or a.labels.now 0 0)) a.line.now a.start c.put_decimal-at.result c.put_decimal-at.new.0
 first c =
     put_as (ap decimal c.wide.ensures) c.put_decimal-at.ensures
 
 -- a further one
-further : (c : goal.After-put_decimal-at-in-loop-i) →
+further : (c : After-put_decimal-at-in-loop-i) →
     Put (decimal (get_or c.args.labels.now c.loop-i.i 0)) c.put_byte-next.last.0 c.put_byte-next.result c.put_decimal-at-in-loop-i.result c.put_decimal-at-in-loop-i.new.0
 further c =
     put_as (ap decimal c.wide-in-loop-i.ensures) c.put_decimal-at-in-loop-i.ensures
 
 -- the first label, then the others
-done : (c : goal.After-loop-i) →
+done : (c : After-loop-i) →
     let a = c.args in
     Put (joined_labels a.labels.now) a.line.now a.start c.loop-i.at c.loop-i.line
 done c =
@@ -33,10 +34,10 @@ done c =
     (put_then (first c) (c.loop-i.invariant.1 _ _ (put_nothing (no_label _ _ c.loop-i-test.false))))
 
 -- the room for the first, and for the next in a turn
-room_1 : (c : goal.Start) → RoomFor (decimal (get_or c.args.labels.now 0 0) ++ further_labels (drop 1 c.args.labels.now)) c.args.line.now c.args.start
+room_1 : (c : Start) → RoomFor (decimal (get_or c.args.labels.now 0 0) ++ further_labels (drop 1 c.args.labels.now)) c.args.line.now c.args.start
 room_1 c = room_as (first_label c.args.labels.now c.requires.labels_nonzero) c.requires.room_for
 
-room_2 : (c : goal.In-loop-i) →
+room_2 : (c : In-loop-i) →
     let labels = c.args.labels.now in
     RoomFor (comma ∷ (decimal (get_or labels c.loop-i.i 0) ++ further_labels (drop (c.loop-i.i + 1) labels))) c.loop-i.line c.loop-i.at
 room_2 c = room_as (next_label _ _ c.loop-i-test.true) c.loop-i.invariant.0

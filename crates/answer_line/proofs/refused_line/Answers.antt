@@ -5,35 +5,36 @@ use Rattle.answer_line.specs.Digits.{decimal}
 use Rattle.byte_buffers.specs.Stored.{RoomFor, Put}
 use Rattle.byte_buffers.proofs.Laws.{put_then, put_length, put_line, put_as, room_first, room_next, room_as}
 use Rattle.answer_line.specs.Line.{space, line_feed, refused_line_of}
+use Rattle.answer_line.proofs.refused_line.Goals.{After-put_byte, After-put_byte-gap, After-put_decimal-first, After-put_decimal-second, After-put_text-word}
 use Rattle.answer_line.proofs.refused_line.Goals as goal
 
 -- what is left to write, and the room for it, after each part
-room_1 : (c : goal.After-put_text-word) →
+room_1 : (c : After-put_text-word) →
     let a = c.args in
     RoomFor (decimal a.number ++ (space ∷ (decimal a.place ++ (line_feed ∷ [])))) c.put_text-word.new.0 c.put_text-word.result
 unfolding refused_line_of
 room_1 c = room_next _ c.put_text-word.ensures c.requires
 
 -- the number
-number : (c : goal.After-put_decimal-first) →
+number : (c : After-put_decimal-first) →
     Put (decimal c.args.number) c.put_text-word.last.0 c.put_text-word.result c.put_decimal-first.result c.put_decimal-first.new.0
 number c =
     put_as (ap decimal c.wide.ensures) c.put_decimal-first.ensures
 
-room_2 : (c : goal.After-put_decimal-first) →
+room_2 : (c : After-put_decimal-first) →
     let a = c.args in
     RoomFor (space ∷ (decimal a.place ++ (line_feed ∷ []))) c.put_decimal-first.new.0 c.put_decimal-first.result
 room_2 c = room_next _ (number c) (room_1 c)
 
-room_3 : (c : goal.After-put_byte-gap) →
+room_3 : (c : After-put_byte-gap) →
     let a = c.args in
     RoomFor (decimal a.place ++ (line_feed ∷ [])) c.put_byte-gap.new.0 c.put_byte-gap.result
 room_3 c = room_next _ c.put_byte-gap.ensures (room_2 c)
 
-room_4 : (c : goal.After-put_decimal-second) → RoomFor (line_feed ∷ []) c.put_decimal-second.new.0 c.put_decimal-second.result
+room_4 : (c : After-put_decimal-second) → RoomFor (line_feed ∷ []) c.put_decimal-second.new.0 c.put_decimal-second.result
 room_4 c = room_next _ c.put_decimal-second.ensures (room_3 c)
 
-done : (c : goal.After-put_byte) →
+done : (c : After-put_byte) →
     let a = c.args in
     Put (refused_line_of a.number a.place) a.line.now 0 c.put_byte.result c.put_byte.new.0
 unfolding refused_line_of

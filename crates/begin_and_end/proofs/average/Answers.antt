@@ -7,15 +7,16 @@ use lib.Ieee.{Float}
 use Rattle.lines.specs.Passes.{through}
 use Rattle.training.specs.Rules.{averaged_at, averaged_by}
 use Rattle.parameters.specs.Trainers.{rule_of}
+use Rattle.begin_and_end.proofs.average.Goals.{After-is_averaging, Start}
 use Rattle.begin_and_end.proofs.average.Goals as goal
 
 -- averaged or not
-abbrev choice : goal.Start → Bool → List Float
+abbrev choice : Start → Bool → List Float
 choice c b =
     let a = c.args in
     cond b (through (averaged_at a.counter a.beside.now) 0 a.features a.weights.now) a.weights.now
 
-picked : (c : goal.After-is_averaging) → let g = c.args in averaged_by (rule_of g.trainer) g.features g.counter (record { weights = g.weights.now; beside = g.beside.now }) ≡ choice c c.is_averaging.result
+picked : (c : After-is_averaging) → let g = c.args in averaged_by (rule_of g.trainer) g.features g.counter (record { weights = g.weights.now; beside = g.beside.now }) ≡ choice c c.is_averaging.result
 picked c = c.is_averaging.ensures _ _ _
 
 pub returns-then-is_averaging : goal.returns-then-is_averaging

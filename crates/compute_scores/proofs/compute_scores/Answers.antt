@@ -8,10 +8,11 @@ use Rattle.line_check.specs.Sound.{SoundScoring}
 use Rattle.line_check.proofs.Meant.{scoring_sound}
 use Rattle.compute_scores.specs.Promise.{Given, Buffers, scoring_of, checked_of}
 use Rattle.compute_scores.proofs.Kept.{sized, refused_kept, made_kept}
+use Rattle.compute_scores.proofs.compute_scores.Goals.{In_default, Start}
 use Rattle.compute_scores.proofs.compute_scores.Goals as goal
 
 -- what the call is given, what it is lent, and that it is accepted
-abbrev given : goal.Start → Given
+abbrev given : Start → Given
 given c =
     let a = c.args in
     record {
@@ -21,13 +22,13 @@ given c =
       line = record { starts = a.begins.now; size = a.attributes; ids = a.ids.now; values = a.values.now };
     }
 
-abbrev lent : goal.Start → Buffers
+abbrev lent : Start → Buffers
 lent c = record { transitions = c.args.transitions.now; states = c.args.states.now }
 
-accepted : (c : goal.In_default) → checked_of (given c) (lent c) ≡ Accepted
+accepted : (c : In_default) → checked_of (given c) (lent c) ≡ Accepted
 accepted c = sym c.check_scoring-checked.ensures ∙ c.in_default.is
 
-sound : (c : goal.In_default) → SoundScoring (scoring_of (given c) (lent c))
+sound : (c : In_default) → SoundScoring (scoring_of (given c) (lent c))
 sound c = scoring_sound (scoring_of (given c) (lent c)) (accepted c)
 
 pub returns-in-Refused : goal.returns-in-Refused

@@ -3,9 +3,10 @@ use borrow.Author.Rules.{rules}
 use Rattle.lines.specs.Tables.{Model}
 use Rattle.feature_gen.specs.Lent.{model_of}
 use Rattle.finished.proofs.Laws.{from_first}
+use Rattle.compute_scores.proofs.fill_scores.Goals.{Start}
 use Rattle.compute_scores.proofs.fill_scores.Goals as goal
 
-abbrev model : goal.Start → Model
+abbrev model : Start → Model
 model c =
     let a = c.args in
     model_of a.labels a.counts a.kinds.now a.destinations.now a.sources.now a.attribute_starts.now a.attribute_entries.now a.label_starts_lem.now a.label_entries.now

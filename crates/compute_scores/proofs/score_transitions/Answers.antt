@@ -11,10 +11,11 @@ use Rattle.lines.specs.Lent.{bare, with_transitions}
 use Rattle.lines.proofs.Laws.{through_none, through_next}
 use Rattle.lines.proofs.Spans.{span_sound, list_turn}
 use Rattle.compute_scores.proofs.TransitionTurns.{labels_end}
+use Rattle.compute_scores.proofs.score_transitions.Goals.{In-loop-label}
 use Rattle.compute_scores.proofs.score_transitions.Goals as goal
 
 -- a label in a turn has a list
-listed : (c : goal.In-loop-label) → c.loop-label.label < c.args.lists
+listed : (c : In-loop-label) → c.loop-label.label < c.args.lists
 listed c = omega (arith, c.loop-label-test.true, c.smaller-shared.ensures)
 
 pub loop-label-init : goal.loop-label-init

@@ -6,9 +6,10 @@ use borrow.Author.Tests.{eq-eqb, ne_eqb}
 use lib.ListN.{length}
 use Rattle.lines.specs.Passes.{raised}
 use Rattle.lines.specs.Scored.{state_entry_of}
+use Rattle.compute_scores.proofs.state_entry.Goals.{After-at}
 use Rattle.compute_scores.proofs.state_entry.Goals as goal
 
-inside : (c : goal.After-at) → c.args.word * c.args.labels + c.at.result < length c.args.states.now
+inside : (c : After-at) → c.args.word * c.args.labels + c.at.result < length c.args.states.now
 inside c =
     omega (arith, c.at.ensures, c.requires.sound_states.leads c.at-i.result (omega (arith, c.at-i.ensures, c.requires.1)), c.requires.1)
 

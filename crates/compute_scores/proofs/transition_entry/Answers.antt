@@ -8,6 +8,7 @@ use lib.ListN.{length}
 use Rattle.lines.specs.Passes.{raised}
 use Rattle.lines.specs.Scored.{transition_entry_of}
 use Rattle.lines.proofs.Fronts.{in_row}
+use Rattle.compute_scores.proofs.transition_entry.Goals.{After-at-destination}
 use Rattle.compute_scores.proofs.transition_entry.Goals as goal
 
 -- two labels: their place is in the table, whichever comes first
@@ -26,7 +27,7 @@ both labels size a b h k r =
       turned = omega (arith, in_row b labels a labels k h);
     }
 
-read : (c : goal.After-at-destination) → Labels c.args.labels (length c.args.transitions.now) c.at-source.result c.at-destination.result
+read : (c : After-at-destination) → Labels c.args.labels (length c.args.transitions.now) c.at-source.result c.at-destination.result
 read c =
     let i = c.at-i.result in
     let h : i < c.args.features = omega (arith, c.at-i.ensures, c.requires.1) in

@@ -9,10 +9,11 @@ use lib.Seq.{length-take-le}
 use Rattle.sheet.specs.Fields.{labels_in_of, words_in}
 use Rattle.decode_sheet.proofs.Rows.{transitions_size, states_size}
 use Rattle.decode_sheet.proofs.Join.{Chosen, Tables, counted_as, read_refused, read_tables, fronts_sound, promised_line}
+use Rattle.decode_sheet.proofs.decode_with.Goals.{After-entries-count, After-entries-size, In-Read-2, Joined-line-lt-PATH_ROOM}
 use Rattle.decode_sheet.proofs.decode_with.Goals as goal
 
 -- the room that is lent, by the line's length
-chosen : (c : goal.Joined-line-lt-PATH_ROOM) → let a = c.args in Chosen a.line.now a.transitions.now a.states.now c.if-line-lt-PATH_ROOM.room
+chosen : (c : Joined-line-lt-PATH_ROOM) → let a = c.args in Chosen a.line.now a.transitions.now a.states.now c.if-line-lt-PATH_ROOM.room
 chosen c =
     let long = c.requires in
     ⊎_elim
@@ -21,21 +22,21 @@ chosen c =
     c.if-line-lt-PATH_ROOM.branch
 
 -- what the file that was read gives
-tables : (c : goal.In-Read-2) →
+tables : (c : In-Read-2) →
     let given = c.labels-1.given in
     let a = c.args in
     Tables a.bytes.now a.line.now a.transitions.now a.states.now c.if-line-lt-PATH_ROOM.room given.0.0 given.0.1.0 (record { answer = c.read_sheet.result; transitions = c.read_sheet.last.1.0; states = c.read_sheet.last.1.1.0 })
 tables c = read_tables _ _ _ _ _ (chosen c) _ c.read_sheet.ensures _ _ c.in-Read.is
 
 -- the file's bytes
-abbrev file : goal.In-Read-2 → List ℕ
+abbrev file : In-Read-2 → List ℕ
 file c = c.args.bytes.now
 
 -- how many transitions, and how many states
-size : (c : goal.After-entries-size) → let bytes = file c in c.entries-size.result ≡ labels_in_of bytes * labels_in_of bytes
+size : (c : After-entries-size) → let bytes = file c in c.entries-size.result ≡ labels_in_of bytes * labels_in_of bytes
 size c = let t = tables c in counted_as c.entries-size.ensures t.labels_are t.labels_are
 
-count : (c : goal.After-entries-count) → let bytes = file c in c.entries-count.result ≡ words_in bytes * labels_in_of bytes
+count : (c : After-entries-count) → let bytes = file c in c.entries-count.result ≡ words_in bytes * labels_in_of bytes
 count c = let t = tables c in counted_as c.entries-count.ensures t.words_are t.labels_are
 
 pub slice_bounds-read_sheet-end : goal.slice_bounds-read_sheet-end

@@ -5,10 +5,11 @@ use lib.ListN.{take}
 use Rattle.best_path.specs.Scores.{tabled}
 use Rattle.best_path.specs.Decoded.{decoded_path}
 use Rattle.decode_sheet.proofs.Line.{path_length, path_read, line_needs, line_written}
+use Rattle.decode_sheet.proofs.write_path.Goals.{After-decode_tables-found}
 use Rattle.decode_sheet.proofs.write_path.Goals as goal
 
 -- what stands in the first words of the path's buffer
-front : (c : goal.After-decode_tables-found) →
+front : (c : After-decode_tables-found) →
     let a = c.args in
     take a.words c.decode_tables-found.new.1.1.1.1.0 ≡ decoded_path (tabled a.labels a.transitions.now a.states.now) a.words
 front c = path_read c.requires.sound_scores _ c.decode_tables-found.ensures.path

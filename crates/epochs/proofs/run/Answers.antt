@@ -18,13 +18,14 @@ use Rattle.prediction.specs.Tables.{training_model_of, training_data_of}
 use Rattle.parameters.specs.Trainers.{rule_of}
 use Rattle.updates.specs.Updating.{state_of, Exact}
 use Rattle.epochs.proofs.Laws.{dealt_keeps, all_run, run_on, run_ended}
+use Rattle.epochs.proofs.run.Goals.{After-deal-g, After-epoch-progress}
 use Rattle.epochs.proofs.run.Goals as goal
 
 -- the turn has an epoch to run
-under : (c : goal.After-deal-g) → c.loop-e.e < c.args.allowed
+under : (c : After-deal-g) → c.loop-e.e < c.args.allowed
 under c = c.loop-e-test.true
 
-bound : (c : goal.After-epoch-progress) → c.epoch-progress.result.visits ≤ most_visits
+bound : (c : After-epoch-progress) → c.epoch-progress.result.visits ≤ most_visits
 bound c =
     omega (arith, c.loop-e.invariant.3, c.epoch-progress.ensures.counted_in.visits, under c, c.requires.few, c.requires.corpus.few)
 

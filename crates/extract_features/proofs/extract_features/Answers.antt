@@ -9,10 +9,11 @@ use Rattle.line_check.proofs.Meant.{counting_sound}
 use Rattle.finished.proofs.Laws.{from_first}
 use Rattle.extract_features.specs.Promise.{Given, counting_of, checked_of}
 use Rattle.extract_features.proofs.Kept.{refused_kept, made_kept}
+use Rattle.extract_features.proofs.extract_features.Goals.{In_default, Start}
 use Rattle.extract_features.proofs.extract_features.Goals as goal
 
 -- what the call is given, and that it is accepted
-abbrev given : goal.Start → Given
+abbrev given : Start → Given
 given c =
     let a = c.args in
     record {
@@ -22,10 +23,10 @@ given c =
       path = a.path.now;
     }
 
-accepted : (c : goal.In_default) → checked_of (given c) c.args.amounts.now ≡ Accepted
+accepted : (c : In_default) → checked_of (given c) c.args.amounts.now ≡ Accepted
 accepted c = sym c.check_counting-checked.ensures ∙ c.in_default.is
 
-sound : (c : goal.In_default) → SoundCounting (counting_of (given c) c.args.amounts.now)
+sound : (c : In_default) → SoundCounting (counting_of (given c) c.args.amounts.now)
 sound c = counting_sound (counting_of (given c) c.args.amounts.now) (accepted c)
 
 pub returns-in-Refused : goal.returns-in-Refused

@@ -8,17 +8,18 @@ use Rattle.best_path.specs.Scores.{tabled}
 use Rattle.best_path.specs.Decoded.{decoded_path}
 use Rattle.judging.specs.Judged.{finite_scores}
 use Rattle.judging.proofs.Laws.{decoded_finite, path_is, path_long, true_met, predicted_met, unscored, agreed, differed}
+use Rattle.judging.proofs.judge.Goals.{After-is_decoded-finite, Else-not-finite}
 use Rattle.judging.proofs.judge.Goals as goal
 
 -- the flag tells whether the scores are finite
-flag : (c : goal.After-is_decoded-finite) → let s = c.args in c.is_decoded-finite.result ≡ finite_scores s.labels s.words s.transitions.now s.states.now
+flag : (c : After-is_decoded-finite) → let s = c.args in c.is_decoded-finite.result ≡ finite_scores s.labels s.words s.transitions.now s.states.now
 flag c = c.is_decoded-finite.ensures ∙ decoded_finite _ c.requires
 
 -- no 8: the scores are finite, and the path is the decoded one
-is_finite : (c : goal.Else-not-finite) → let s = c.args in finite_scores s.labels s.words s.transitions.now s.states.now ≡ true
+is_finite : (c : Else-not-finite) → let s = c.args in finite_scores s.labels s.words s.transitions.now s.states.now ≡ true
 is_finite c = sym (flag c) ∙ not-false _ c.if-not-finite.false
 
-path_so : (c : goal.Else-not-finite) → let s = c.args in s.path.now ≡ decoded_path (tabled s.labels s.transitions.now s.states.now) s.words
+path_so : (c : Else-not-finite) → let s = c.args in s.path.now ≡ decoded_path (tabled s.labels s.transitions.now s.states.now) s.words
 path_so c = path_is _ (sym c.is_decoded-finite.ensures ∙ not-false _ c.if-not-finite.false) c.requires
 
 pub returns-then-not-finite : goal.returns-then-not-finite

@@ -8,10 +8,11 @@ use Rattle.fronts.proofs.Filled.{all_of}
 use Rattle.finished.proofs.Laws.{from_first}
 use Rattle.labelling.proofs.Laws.{labelled_by}
 use Rattle.compute_scores.specs.Promise.{Given}
+use Rattle.label_line.proofs.label_in.Goals.{Start}
 use Rattle.label_line.proofs.label_in.Goals as goal
 
 -- what the call is given
-abbrev given : goal.Start → Given
+abbrev given : Start → Given
 given c =
     let a = c.args in
     record {

@@ -8,10 +8,11 @@ use Rattle.labelling.proofs.Laws.{small_is}
 use Rattle.compute_scores.specs.Promise.{Given}
 use Rattle.label_line.specs.Promise.{checked_of, SoundLabelling}
 use Rattle.label_line.proofs.Kept.{refused_kept, sound, labelled_kept}
+use Rattle.label_line.proofs.label_line.Goals.{In_default, Start}
 use Rattle.label_line.proofs.label_line.Goals as goal
 
 -- what the call is given
-abbrev given : goal.Start → Given
+abbrev given : Start → Given
 given c =
     let a = c.args in
     record {
@@ -21,14 +22,14 @@ given c =
       line = line_of a.attributes a.begins.now a.ids.now a.values.now;
     }
 
-abbrev start : goal.In_default → goal.Start
+abbrev start : In_default → Start
 start c = c
 
 -- the call is accepted
-accepted : (c : goal.In_default) → checked_of (given (start c)) (start c).args.path.now ≡ Accepted
+accepted : (c : In_default) → checked_of (given (start c)) (start c).args.path.now ≡ Accepted
 accepted c = sym c.check_line-checked.ensures ∙ c.in_default.is
 
-fine : (c : goal.In_default) → SoundLabelling (given (start c)) (start c).args.path.now
+fine : (c : In_default) → SoundLabelling (given (start c)) (start c).args.path.now
 fine c = sound (given (start c)) (start c).args.path.now (accepted c)
 
 pub returns-in-Refused : goal.returns-in-Refused

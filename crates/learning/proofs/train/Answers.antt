@@ -8,20 +8,21 @@ use Rattle.training.specs.Epochs.{Settings, trained}
 use Rattle.training.proofs.Orders.{order_first}
 use Rattle.prediction.specs.Tables.{training_model_of, training_data_of}
 use Rattle.learning.proofs.Laws.{ran_from}
+use Rattle.learning.proofs.train.Goals.{Start}
 use Rattle.learning.proofs.train.Goals as goal
 
 -- the model, the data and the settings that the arguments make
-abbrev model : goal.Start → Model
+abbrev model : Start → Model
 model c =
     let a = c.args in
     training_model_of a.sizes a.kinds.now a.destinations.now a.sources.now a.starts.now a.entries.now a.label_starts_lem.now a.label_entries.now
 
-abbrev data_of : goal.Start → Data
+abbrev data_of : Start → Data
 data_of c =
     let a = c.args in
     training_data_of a.sizes a.lines.now a.begins.now a.ids.now a.values.now a.references.now a.shares.now
 
-abbrev settings : goal.Start → Settings
+abbrev settings : Start → Settings
 settings c = record { epochs = c.args.allowed; epsilon = c.args.epsilon; seed = c.args.seed }
 
 pub run-ran-requires : goal.run-ran-requires

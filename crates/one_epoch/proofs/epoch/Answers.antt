@@ -15,14 +15,15 @@ use Rattle.parameters.specs.Trainers.{rule_of}
 use Rattle.updates.specs.Updating.{state_of, Exact}
 use Rattle.updates.proofs.Laws.{exactly}
 use Rattle.one_epoch.proofs.Laws.{visited_next, visited_cut}
+use Rattle.one_epoch.proofs.epoch.Goals.{After-at-i, Start}
 use Rattle.one_epoch.proofs.epoch.Goals as goal
 
 -- the state that the arguments make
-abbrev given : goal.Start → TrainingState
+abbrev given : Start → TrainingState
 given c = state_of c.args.s c.args.weights.now c.args.beside.now
 
 -- the turn has c visit to make
-under : (c : goal.After-at-i) → c.loop-j.j < c.args.sizes.instances
+under : (c : After-at-i) → c.loop-j.j < c.args.sizes.instances
 under c = c.loop-j-test.true
 
 pub loop-j-init : goal.loop-j-init

@@ -6,6 +6,7 @@ use native.Mathlib.Omega.{arith}
 use borrow.Author.Rules.{rules}
 use lib.Ieee.{of_bits}
 use Rattle.passive_aggressive.proofs.Notes.{Going, going_none, going_next, going_settled, going_end}
+use Rattle.passive_aggressive.proofs.norm.Goals.{After-note-noted, In-loop-i}
 use Rattle.passive_aggressive.proofs.norm.Goals as goal
 
 pub loop-i-init : goal.loop-i-init
@@ -13,11 +14,11 @@ unfolding of_bits
 loop-i-init c = (going_none _ refl, omega arith)
 
 -- four features are left
-left : (c : goal.In-loop-i) → (c.loop-i.i + 4 ≤ c.args.features)
+left : (c : In-loop-i) → (c.loop-i.i + 4 ≤ c.args.features)
 left c = omega (arith, c.loop-i-test.true, c.loop-i.invariant.0.within)
 
 -- what is so when they are noted
-going : (c : goal.After-note-noted) →
+going : (c : After-note-noted) →
     (Going c.args.features c.args.truly.now c.args.predicted.now c.note-noted.new.1.1.1.1.0 c.note-noted.result c.loop-i.sum (c.loop-i.i + 4))
 going c = going_next c.loop-i.invariant.0 c.loop-i.invariant.1 (left c) c.note-noted.ensures.who_after c.note-noted.ensures.value
 

@@ -8,13 +8,14 @@ use Rattle.lines.specs.Passes.{through}
 use Rattle.lines.proofs.Laws.{through_none, through_next, through_end}
 use Rattle.passive_aggressive.specs.Noted.{four_added, fours_added}
 use Rattle.passive_aggressive.proofs.Notes.{by_four}
+use Rattle.passive_aggressive.proofs.settle.Goals.{In-loop-j}
 use Rattle.passive_aggressive.proofs.settle.Goals as goal
 
 pub loop-j-init : goal.loop-j-init
 loop-j-init c = (omega arith, through_none _ _ _)
 
 -- a note is of four features
-four : (c : goal.In-loop-j) → (get_or c.args.who.now c.loop-j.j 0 + 4 ≤ c.args.features)
+four : (c : In-loop-j) → (get_or c.args.who.now c.loop-j.j 0 + 4 ≤ c.args.features)
 four c = c.requires.four_notes.fours _ c.loop-j-test.true
 
 pub overflow_add-first : goal.overflow_add-first

@@ -7,15 +7,16 @@ use Rattle.fronts.proofs.Filled.{all_of}
 use Rattle.labelling.proofs.Laws.{labelled_in}
 use Rattle.prediction.specs.Tables.{training_model_of, words_from}
 use Rattle.prediction.proofs.Laws.{transitions_sound, judged_as}
+use Rattle.prediction.proofs.predict_in.Goals.{Start}
 use Rattle.prediction.proofs.predict_in.Goals as goal
 
 -- the model and the words that the arguments make
-abbrev model : goal.Start → Model
+abbrev model : Start → Model
 model c =
     let a = c.args in
     training_model_of a.sizes a.kinds.now a.destinations.now a.sources.now a.starts.now a.entries.now a.label_starts_lem.now a.label_entries.now
 
-abbrev line : goal.Start → Words
+abbrev line : Start → Words
 line c = words_from c.args.sizes c.args.begins.now c.args.ids.now c.args.values.now
 
 pub score_transitions-requires : goal.score_transitions-requires

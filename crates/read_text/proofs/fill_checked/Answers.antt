@@ -7,10 +7,11 @@ use Rattle.read_text.proofs.Figures.{sizes_told}
 use Rattle.read_text.proofs.Ready.{surveyed, few_made, checked_as, within, small_made, text_ready}
 use Rattle.read_text.proofs.Kept.{check_refused, filled_read}
 use borrow.Author.Rules.{rules}
+use Rattle.read_text.proofs.fill_checked.Goals.{In_default, Start}
 use Rattle.read_text.proofs.fill_checked.Goals as goal
 
 -- the tables at entry, and that what was surveyed is accepted
-abbrev given : goal.Start → Buffers
+abbrev given : Start → Buffers
 given c =
     let a = c.args in
     record {
@@ -28,7 +29,7 @@ given c =
       scale_bytes_of = a.scales.now;
     }
 
-accepted : (c : goal.In_default) → (h : WellFormed c.args.text.now) → checked_of c.args.text.now (sequences h.lines) (given c) ≡ Accepted
+accepted : (c : In_default) → (h : WellFormed c.args.text.now) → checked_of c.args.text.now (sequences h.lines) (given c) ≡ Accepted
 accepted c h =
     sym (checked_as c.requires (given c) c.check_text-answer.ensures h) ∙ c.in_default.is
 

@@ -5,9 +5,10 @@ use Rattle.text_bytes.specs.Bytes.{Readable}
 use Rattle.text_bytes.proofs.Told.{bytes_mean}
 use Rattle.read_text.proofs.Kept.{bytes_refused, read_kept}
 use borrow.Author.Rules.{rules}
+use Rattle.read_text.proofs.read_text.Goals.{In_default}
 use Rattle.read_text.proofs.read_text.Goals as goal
 
-readable : (c : goal.In_default) → Readable c.args.text.now
+readable : (c : In_default) → Readable c.args.text.now
 readable c = (bytes_mean _).accepted (sym c.check_bytes-checked.ensures ∙ c.in_default.is)
 
 pub returns-in-Refused : goal.returns-in-Refused

@@ -7,9 +7,10 @@ use Rattle.text_check.specs.Rows.{text_sized}
 use Rattle.read_text.proofs.Figures.{sizes_told, sized_within, survey_small}
 use Rattle.read_text.proofs.Kept.{sized_refused, sized_accepted}
 use borrow.Author.Rules.{rules}
+use Rattle.read_text.proofs.sizes_readable.Goals.{In_default}
 use Rattle.read_text.proofs.sizes_readable.Goals as goal
 
-accepted : (c : goal.In_default) → (h : WellFormed c.args.text.now) → text_sized (length c.args.text.now) (sequences h.lines) ≡ Accepted
+accepted : (c : In_default) → (h : WellFormed c.args.text.now) → text_sized (length c.args.text.now) (sequences h.lines) ≡ Accepted
 accepted c h =
     sym (c.check_sizes-checked.ensures (length c.args.text.now) (sequences h.lines) c.requires.small (c.survey_alone-survey.ensures h).tells) ∙ c.in_default.is
 

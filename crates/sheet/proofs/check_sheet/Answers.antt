@@ -4,9 +4,10 @@ use native.Mathlib.Omega.{arith}
 use borrow.Author.Rules.{rules}
 use Rattle.sheet.specs.Fields.{transitions_in_of, states_in_of}
 use Rattle.sheet.proofs.Rows.{Sizes, sizes, sizes_refused, sizes_passed}
+use Rattle.sheet.proofs.check_sheet.Goals.{In_default}
 use Rattle.sheet.proofs.check_sheet.Goals as goal
 
-told : (c : goal.In_default) → let a = c.args in Sizes a.bytes.now (record { transitions = a.transitions.now; states = a.states.now })
+told : (c : In_default) → let a = c.args in Sizes a.bytes.now (record { transitions = a.transitions.now; states = a.states.now })
 told c = sizes _ _ (sym c.check_sizes-sizes.ensures ∙ c.in_default.is)
 
 pub returns-in-Refused : goal.returns-in-Refused

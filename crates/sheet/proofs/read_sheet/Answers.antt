@@ -7,10 +7,11 @@ use Rattle.sheet.specs.Fields.{transitions_in_of, states_in_of}
 use Rattle.sheet.proofs.Rows.{Accepts, accepts}
 use Rattle.sheet.specs.Promise.{read}
 use Rattle.sheet.proofs.Kept.{promised_refused, promised_read}
+use Rattle.sheet.proofs.read_sheet.Goals.{In_default}
 use Rattle.sheet.proofs.read_sheet.Goals as goal
 
 -- what the accepted sheet gives
-told : (c : goal.In_default) → let a = c.args in Accepts a.bytes.now (record { transitions = a.transitions.now; states = a.states.now })
+told : (c : In_default) → let a = c.args in Accepts a.bytes.now (record { transitions = a.transitions.now; states = a.states.now })
 told c = accepts _ _ (sym c.check_sheet.ensures ∙ c.in_default.is)
 
 -- how many entries a table has

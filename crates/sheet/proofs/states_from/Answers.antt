@@ -3,9 +3,10 @@ use Prim.Native.Nat.{◌+◌, ◌*◌, ◌≤◌}
 use native.Mathlib.Omega.{arith}
 use borrow.Author.Rules.{rules}
 use Rattle.sheet.proofs.Bytes.{small_sizes}
+use Rattle.sheet.proofs.states_from.Goals.{After-labels_in-labels}
 use Rattle.sheet.proofs.states_from.Goals as goal
 
-fit : (c : goal.After-labels_in-labels) → c.labels_in-labels.result * c.labels_in-labels.result + 0 * c.labels_in-labels.result ≤ 16842240
+fit : (c : After-labels_in-labels) → c.labels_in-labels.result * c.labels_in-labels.result + 0 * c.labels_in-labels.result ≤ 16842240
 fit c = small_sizes c.labels_in-labels.ensures.1 (omega arith)
 
 pub overflow_mul-result : goal.overflow_mul-result

@@ -3,9 +3,10 @@ use Prim.Native.Nat.{◌+◌, ◌*◌, ◌≤◌}
 use native.Mathlib.Omega.{arith}
 use borrow.Author.Rules.{rules}
 use Rattle.sheet.proofs.Bytes.{small_sizes}
+use Rattle.sheet.proofs.whole_length.Goals.{After-words_in-words}
 use Rattle.sheet.proofs.whole_length.Goals as goal
 
-fit : (c : goal.After-words_in-words) → c.labels_in-labels.result * c.labels_in-labels.result + c.words_in-words.result * c.labels_in-labels.result ≤ 16842240
+fit : (c : After-words_in-words) → c.labels_in-labels.result * c.labels_in-labels.result + c.words_in-words.result * c.labels_in-labels.result ≤ 16842240
 fit c = small_sizes c.labels_in-labels.ensures.1 c.words_in-words.ensures.1
 
 pub overflow_mul-result : goal.overflow_mul-result

@@ -7,10 +7,11 @@ use Rattle.lines.specs.Tables.{Model}
 use Rattle.prediction.specs.Tables.{training_model_of}
 use Rattle.fronts.proofs.Filled.{all_of}
 use Rattle.visits.proofs.Laws.{settled_as}
+use Rattle.visits.proofs.correct.Goals.{Start}
 use Rattle.visits.proofs.correct.Goals as goal
 
 -- the model that the arguments make
-abbrev model : goal.Start → Model
+abbrev model : Start → Model
 model c =
     let a = c.args in
     training_model_of a.sizes a.kinds.now a.destinations.now a.sources.now a.starts.now a.entries.now a.label_starts_lem.now a.label_entries.now

@@ -12,37 +12,38 @@ use Rattle.training.specs.Visits.{TrainingState}
 use Rattle.prediction.specs.Tables.{training_model_of, training_data_of}
 use Rattle.updates.specs.Updating.{state_of}
 use Rattle.visits.proofs.Laws.{some_words, few_words, all_words, line_sound, ended_counted, ended_there, other_front}
+use Rattle.visits.proofs.visit.Goals.{After-at-end, After-predict-p, Start}
 use Rattle.visits.proofs.visit.Goals as goal
 
 -- the model, the data and the state that the arguments make
-abbrev model : goal.Start → Model
+abbrev model : Start → Model
 model c =
     let a = c.args in
     training_model_of a.sizes a.kinds.now a.destinations.now a.sources.now a.starts.now a.entries.now a.label_starts_lem.now a.label_entries.now
 
-abbrev data_of : goal.Start → Data
+abbrev data_of : Start → Data
 data_of c =
     let a = c.args in
     training_data_of a.sizes a.lines.now a.begins.now a.ids.now a.values.now a.references.now a.shares.now
 
-abbrev state : goal.Start → TrainingState
+abbrev state : Start → TrainingState
 state c = state_of c.args.s c.args.weights.now c.args.beside.now
 
 -- the instance's words, from the first up to the end
-some : (c : goal.After-at-end) → c.at-first.result < c.at-end.result
+some : (c : After-at-end) → c.at-first.result < c.at-end.result
 some c =
     some_words (data_of c) _ _ _ c.at-first.ensures c.at-end.ensures c.requires.corpus c.requires.among
 
-few : (c : goal.After-at-end) → c.at-end.result - c.at-first.result ≤ 128
+few : (c : After-at-end) → c.at-end.result - c.at-first.result ≤ 128
 few c =
     few_words (data_of c) _ _ _ c.at-first.ensures c.at-end.ensures c.requires.corpus c.requires.among
 
-all : (c : goal.After-at-end) → c.at-end.result ≤ length c.args.references.now
+all : (c : After-at-end) → c.at-end.result ≤ length c.args.references.now
 all c =
     le_trans (all_words (data_of c) _ _ _ c.at-first.ensures c.at-end.ensures c.requires.corpus c.requires.among) c.requires.corpus.referenced
 
 -- the front that the prediction is lent is as long as the instance
-front : (c : goal.After-predict-p) → let n = c.at-end.result - c.at-first.result in length (take n (replicate {A = ℕ} 128 0)) ≡ n
+front : (c : After-predict-p) → let n = c.at-end.result - c.at-first.result in length (take n (replicate {A = ℕ} 128 0)) ≡ n
 front c = length-take-le _ _ (few c)
 
 pub overflow_sub-words : goal.overflow_sub-words

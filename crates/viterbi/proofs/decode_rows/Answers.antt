@@ -10,30 +10,31 @@ use Rattle.viterbi_steps.specs.declared.Row.{Row}
 use Rattle.viterbi_steps.specs.Rows.{Before}
 use Rattle.viterbi.specs.Answered.{Ready}
 use Rattle.viterbi.proofs.Laws.{Done, one_row, first_done, done_as, ready_as, room_as, answered_as, before, done_next, done_last, walk, answered}
+use Rattle.viterbi.proofs.decode_rows.Goals.{After-first_row-row, After-next_row, After-next_row-then-word-words, At-loop-word, Else-word-words}
 use Rattle.viterbi.proofs.decode_rows.Goals as goal
 
 -- the row has the width of the tables
-width : (c : goal.After-first_row-row) → c.first_row-row.result.width ≡ c.args.labels
+width : (c : After-first_row-row) → c.first_row-row.result.width ≡ c.args.labels
 width c = ap (λ (r : Row). r.width) c.first_row-row.ensures
 
-ready : (c : goal.After-first_row-row) →
+ready : (c : After-first_row-row) →
     let a = c.args in
     Ready c.first_row-row.result.width a.words a.transitions.now a.states.now a.path.now
 ready c = ready_as (width c) c.requires.ready
 
 -- the steps have room for every word
-long : (c : goal.At-loop-word) → c.args.words * c.first_row-row.result.width ≤ length c.loop-word.steps
+long : (c : At-loop-word) → c.args.words * c.first_row-row.result.width ≤ length c.loop-word.steps
 long c = room_as _ (width c) c.loop-word.invariant.1 c.requires.labels_in_bounds
 
 -- a turn has two words to go
-two_left : (c : goal.After-next_row) → c.loop-word.word + 2 < c.args.words
+two_left : (c : After-next_row) → c.loop-word.word + 2 < c.args.words
 two_left c = omega (arith, c.loop-word-test.true)
 
 -- where the loop is left one word may still be to go
-one_left : (c : goal.After-next_row-then-word-words) → c.loop-word.word + 1 < c.args.words
+one_left : (c : After-next_row-then-word-words) → c.loop-word.word + 1 < c.args.words
 one_left c = omega (arith, c.if-word-words.true)
 
-at_most_two : (c : goal.After-next_row-then-word-words) → c.args.words ≤ c.loop-word.word + 2
+at_most_two : (c : After-next_row-then-word-words) → c.args.words ≤ c.loop-word.word + 2
 at_most_two c = omega (arith, c.loop-word-test.false)
 
 pub first_row-row-requires : goal.first_row-row-requires
@@ -77,7 +78,7 @@ finish-requires c =
     walk r done (omega (arith, c.next_row-then-word-words.kept, long (goal.at.finish-requires c).At-loop-word))
 
 -- where none is left, the row is the last word's
-row_done : (c : goal.Else-word-words) →
+row_done : (c : Else-word-words) →
     let a = c.args in
     Done c.first_row-row.result.width (a.words - 1) a.transitions.now a.states.now c.loop-word.row.best c.loop-word.steps
 row_done c =

@@ -4,15 +4,16 @@ use Rattle.refusals.specs.declared.Checked.TheVariants.{Accepted}
 use Rattle.viterbi.specs.Promise.{Given, checked_of}
 use Rattle.viterbi.proofs.Kept.{ready, decoded_kept, refused_kept}
 use borrow.Author.Rules.{rules}
+use Rattle.viterbi.proofs.viterbi_decode.Goals.{In_default, Start}
 use Rattle.viterbi.proofs.viterbi_decode.Goals as goal
 
 -- what the call is given, and that it is accepted
-abbrev given : goal.Start → Given
+abbrev given : Start → Given
 given c =
     let a = c.args in
     record { labels = a.labels; words = a.words; transitions = a.transitions.now; states = a.states.now }
 
-accepted : (c : goal.In_default) → checked_of (given c) c.args.path.now ≡ Accepted
+accepted : (c : In_default) → checked_of (given c) c.args.path.now ≡ Accepted
 accepted c = sym c.check_decode-checked.ensures ∙ c.in_default.is
 
 pub returns-in-Refused : goal.returns-in-Refused

@@ -4,10 +4,11 @@ use native.Mathlib.Omega.{arith}
 use borrow.Author.Rules.{rules}
 use Rattle.refusals.specs.Bounds.{the_labels, most}
 use Rattle.viterbi_end.proofs.Laws.{ended}
+use Rattle.viterbi_end.proofs.finish.Goals.{After-last_largest-last}
 use Rattle.viterbi_end.proofs.finish.Goals as goal
 
 -- the last label is within the row
-last_within : (c : goal.After-last_largest-last) → c.last_largest-last.result < most the_labels
+last_within : (c : After-last_largest-last) → c.last_largest-last.result < most the_labels
 last_within c = omega (arith, c.last_largest-last.ensures.0, c.requires.few)
 
 pub walk_back-requires : goal.walk_back-requires

@@ -11,13 +11,14 @@ use Rattle.best_path.proofs.Laws.{largest_first, other_within}
 use Rattle.viterbi_steps.proofs.Choices.{score_more}
 use Rattle.viterbi_end.specs.Rival.{score_at}
 use borrow.Author.Rules.{rules}
+use Rattle.viterbi_end.proofs.rival.Goals.{After-other_label-first, After-other_label-label}
 use Rattle.viterbi_end.proofs.rival.Goals as goal
 
 -- the labels that are looked at are within the row
-first_within : (c : goal.After-other_label-first) → c.other_label-first.result < most the_labels
+first_within : (c : After-other_label-first) → c.other_label-first.result < most the_labels
 first_within c = rw c.other_label-first.ensures (lt_of_lt_of_le (other_within c.args.last c.args.n 0 c.requires.0 zero-le) c.requires.1)
 
-next_within : (c : goal.After-other_label-label) → c.other_label-label.result < most the_labels
+next_within : (c : After-other_label-label) → c.other_label-label.result < most the_labels
 next_within c =
     let h : c.loop-k.k ≤ c.args.n - 2 = omega (arith, c.loop-k-test.true) in
     rw c.other_label-label.ensures (lt_of_lt_of_le (other_within c.args.last c.args.n c.loop-k.k c.requires.0 h) c.requires.1)

@@ -10,14 +10,15 @@ use Rattle.refusals.specs.Bounds.{the_labels, most}
 use Rattle.viterbi_end.specs.Walked.{walked}
 use Rattle.viterbi_end.proofs.Laws.{walk_more, walk_end, step_within}
 use borrow.Author.Rules.{rules}
+use Rattle.viterbi_end.proofs.walk_back.Goals.{At-loop-word}
 use Rattle.viterbi_end.proofs.walk_back.Goals as goal
 
 -- a label of the path is one of a row's
-label_few : (c : goal.At-loop-word) → c.loop-word.label < most the_labels
+label_few : (c : At-loop-word) → c.loop-word.label < most the_labels
 label_few c = omega (arith, c.loop-word.invariant.1, c.requires.walk.few)
 
 -- the place of a step
-inside : (c : goal.At-loop-word) →
+inside : (c : At-loop-word) →
     let a = c.args in
     c.loop-word.word * a.n + c.loop-word.label < length a.steps.now
 inside c = lt_of_lt_of_le (digits_lt c.loop-word.invariant.0 c.loop-word.invariant.1) c.requires.walk.long_steps

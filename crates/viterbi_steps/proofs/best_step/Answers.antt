@@ -11,10 +11,11 @@ use Rattle.best_path.specs.Decoded.{last_largest}
 use Rattle.best_path.proofs.Laws.{largest_first}
 use Rattle.viterbi_steps.specs.Chosen.{candidate}
 use Rattle.viterbi_steps.proofs.Choices.{square_small, row_after, score_more, from_more}
+use Rattle.viterbi_steps.proofs.best_step.Goals.{In-loop-tried}
 use Rattle.viterbi_steps.proofs.best_step.Goals as goal
 
 -- the place of a transition
-inside : (c : goal.In-loop-tried) → let n = c.args.n in c.loop-tried.at < n * n
+inside : (c : In-loop-tried) → let n = c.args.n in c.loop-tried.at < n * n
 inside c =
     let within = digits_lt c.loop-tried-test.true c.requires.0 in
     omega (arith, c.loop-tried.invariant.2, within)

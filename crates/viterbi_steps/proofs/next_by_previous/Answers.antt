@@ -9,10 +9,11 @@ use lib.ListN.{get_or-replicate}
 use Rattle.refusals.specs.Bounds.{the_labels, most}
 use Rattle.viterbi_steps.proofs.Choices.{square_small, row_after}
 use Rattle.viterbi_steps.proofs.Laws.{row_inside, Tried, tried_first, tried_wide, tried_more, tried_all, tried_after, marks_within}
+use Rattle.viterbi_steps.proofs.next_by_previous.Goals.{In-loop-previous}
 use Rattle.viterbi_steps.proofs.next_by_previous.Goals as goal
 
 -- the transitions of a label of the word before
-inside : (c : goal.In-loop-previous) → let n = c.args.n in c.loop-previous.base + n ≤ n * n
+inside : (c : In-loop-previous) → let n = c.args.n in c.loop-previous.base + n ≤ n * n
 inside c = omega (arith, c.loop-previous.invariant.2, row_inside c.loop-previous.previous c.args.n c.loop-previous-test.true)
 
 pub seed_row-requires : goal.seed_row-requires

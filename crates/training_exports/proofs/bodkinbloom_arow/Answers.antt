@@ -1,0 +1,25 @@
+-- `training_exports::bodkinbloom_arow` meets its contract: what `train` promises, as numbers. Assumes nothing.
+use native.Mathlib.Omega.{arith}
+use borrow.Author.Rules.{rules}
+use Rattle.training_exports.proofs.Kept.{as_numbers}
+use Rattle.training_exports.proofs.bodkinbloom_arow.Goals as goal
+
+pub shape_of-weights : goal.shape_of-weights
+shape_of-weights c =
+    omega (arith, c.train-trained.kept)
+
+pub shape_of-covariance : goal.shape_of-covariance
+shape_of-covariance c =
+    omega (arith, c.train-trained.kept)
+
+pub shape_of-true_counts : goal.shape_of-true_counts
+shape_of-true_counts c =
+    omega (arith, c.train-trained.kept)
+
+pub shape_of-predicted_counts : goal.shape_of-predicted_counts
+shape_of-predicted_counts c =
+    omega (arith, c.train-trained.kept)
+
+pub returns : goal.returns
+returns c =
+    as_numbers c.numbers_of_training.ensures c.train-trained.ensures
