@@ -14,26 +14,26 @@ use Rattle.answer_line.proofs.path_line.Goals as goal
 -- what is left to write, and the room for it, after each part
 room_1 : (c : After-put_text-word) →
     let a = c.args in
-    RoomFor (sum_digits a.sum ++ (space ∷ (joined_labels a.labels.now ++ (line_feed ∷ [])))) c.put_text-word.new.0 c.put_text-word.result
+    RoomFor (sum_digits a.sum ++ (space ∷ (joined_labels a.labels.now ++ (line_feed ∷ [])))) c.put_text-word.new.line c.put_text-word.result
 unfolding path_line_of
 room_1 c = room_next _ c.put_text-word.ensures c.requires.room_for
 
 room_2 : (c : After-put_digits-bits) →
     let a = c.args in
-    RoomFor (space ∷ (joined_labels a.labels.now ++ (line_feed ∷ []))) c.put_digits-bits.new.0 c.put_digits-bits.result
+    RoomFor (space ∷ (joined_labels a.labels.now ++ (line_feed ∷ []))) c.put_digits-bits.new.line c.put_digits-bits.result
 room_2 c = room_next _ c.put_digits-bits.ensures (room_1 c)
 
 room_3 : (c : After-put_byte-gap) →
     let a = c.args in
-    RoomFor (joined_labels a.labels.now ++ (line_feed ∷ [])) c.put_byte-gap.new.0 c.put_byte-gap.result
+    RoomFor (joined_labels a.labels.now ++ (line_feed ∷ [])) c.put_byte-gap.new.buffer c.put_byte-gap.result
 room_3 c = room_next _ c.put_byte-gap.ensures (room_2 c)
 
-room_4 : (c : After-put_labels-end) → RoomFor (line_feed ∷ []) c.put_labels-end.new.0 c.put_labels-end.result
+room_4 : (c : After-put_labels-end) → RoomFor (line_feed ∷ []) c.put_labels-end.new.line c.put_labels-end.result
 room_4 c = room_next _ c.put_labels-end.ensures (room_3 c)
 
 done : (c : After-put_byte) →
     let a = c.args in
-    Put (path_line_of a.sum a.labels.now) a.line.now 0 c.put_byte.result c.put_byte.new.0
+    Put (path_line_of a.sum a.labels.now) a.line.now 0 c.put_byte.result c.put_byte.new.buffer
 unfolding path_line_of
 done c =
     put_then c.put_text-word.ensures (put_then c.put_digits-bits.ensures (put_then c.put_byte-gap.ensures (put_then c.put_labels-end.ensures c.put_byte.ensures)))

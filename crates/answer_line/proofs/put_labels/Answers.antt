@@ -15,13 +15,13 @@ use Rattle.answer_line.proofs.put_labels.Goals as goal
 -- the first label
 first : (c : After-put_decimal-at) →
     let a = c.args in
-    Put (decimal (get_or a.labels.now 0 0)) a.line.now a.start c.put_decimal-at.result c.put_decimal-at.new.0
+    Put (decimal (get_or a.labels.now 0 0)) a.line.now a.start c.put_decimal-at.result c.put_decimal-at.new.line
 first c =
     put_as (ap decimal c.wide.ensures) c.put_decimal-at.ensures
 
 -- a further one
 further : (c : After-put_decimal-at-in-loop-i) →
-    Put (decimal (get_or c.args.labels.now c.loop-i.i 0)) c.put_byte-next.last.0 c.put_byte-next.result c.put_decimal-at-in-loop-i.result c.put_decimal-at-in-loop-i.new.0
+    Put (decimal (get_or c.args.labels.now c.loop-i.i 0)) c.put_byte-next.new.buffer c.put_byte-next.result c.put_decimal-at-in-loop-i.result c.put_decimal-at-in-loop-i.new.line
 further c =
     put_as (ap decimal c.wide-in-loop-i.ensures) c.put_decimal-at-in-loop-i.ensures
 

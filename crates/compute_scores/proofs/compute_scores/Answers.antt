@@ -16,7 +16,7 @@ abbrev given : Start → Given
 given c =
     let a = c.args in
     record {
-      model = model_of a.labels a.counts a.kinds.now a.destinations.now a.sources.now a.attribute_starts.now a.attribute_entries.now a.label_starts_lem.now a.label_entries.now;
+      model = model_of a.labels a.counts a.kinds.now a.destinations.now a.sources.now a.attribute_starts.now a.attribute_entries.now a.label_starts.now a.label_entries.now;
       weights = a.weights.now;
       words = a.words;
       line = record { starts = a.begins.now; size = a.attributes; ids = a.ids.now; values = a.values.now };

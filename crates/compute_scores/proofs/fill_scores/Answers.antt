@@ -9,7 +9,7 @@ use Rattle.compute_scores.proofs.fill_scores.Goals as goal
 abbrev model : Start → Model
 model c =
     let a = c.args in
-    model_of a.labels a.counts a.kinds.now a.destinations.now a.sources.now a.attribute_starts.now a.attribute_entries.now a.label_starts_lem.now a.label_entries.now
+    model_of a.labels a.counts a.kinds.now a.destinations.now a.sources.now a.attribute_starts.now a.attribute_entries.now a.label_starts.now a.label_entries.now
 
 pub score_line-requires : goal.score_line-requires
 score_line-requires c =

@@ -25,7 +25,7 @@ chosen c =
 tables : (c : In-Read-2) →
     let given = c.labels-1.given in
     let a = c.args in
-    Tables a.bytes.now a.line.now a.transitions.now a.states.now c.if-line-lt-PATH_ROOM.room given.0.0 given.0.1.0 (record { answer = c.read_sheet.result; transitions = c.read_sheet.last.1.0; states = c.read_sheet.last.1.1.0 })
+    Tables a.bytes.now a.line.now a.transitions.now a.states.now c.if-line-lt-PATH_ROOM.room given.0.0 given.0.1.0 (record { answer = c.read_sheet.result; transitions = c.read_sheet.new.transitions; states = c.read_sheet.new.states })
 tables c = read_tables _ _ _ _ _ (chosen c) _ c.read_sheet.ensures _ _ c.in-Read.is
 
 -- the file's bytes

@@ -11,7 +11,7 @@ use Rattle.decode_sheet.proofs.write_path.Goals as goal
 -- what stands in the first words of the path's buffer
 front : (c : After-decode_tables-found) →
     let a = c.args in
-    take a.words c.decode_tables-found.new.1.1.1.1.0 ≡ decoded_path (tabled a.labels a.transitions.now a.states.now) a.words
+    take a.words c.decode_tables-found.new.path ≡ decoded_path (tabled a.labels a.transitions.now a.states.now) a.words
 front c = path_read c.requires.sound_scores _ c.decode_tables-found.ensures.path
 
 pub slice_bounds-path_line-end : goal.slice_bounds-path_line-end

@@ -15,7 +15,7 @@ use Rattle.learning.proofs.train.Goals as goal
 abbrev model : Start → Model
 model c =
     let a = c.args in
-    training_model_of a.sizes a.kinds.now a.destinations.now a.sources.now a.starts.now a.entries.now a.label_starts_lem.now a.label_entries.now
+    training_model_of a.sizes a.kinds.now a.destinations.now a.sources.now a.starts.now a.entries.now a.label_starts.now a.label_entries.now
 
 abbrev data_of : Start → Data
 data_of c =

@@ -14,13 +14,13 @@ use Rattle.line_counts.proofs.count_entry.Goals.{After-note-next}
 use Rattle.line_counts.proofs.count_entry.Goals as goal
 
 -- what is noted then
-noted : (c : After-note-next) → Notes c.args.features c.note-next.new.1.1.1.1.1.1.0 c.note-next.new.1.1.1.1.1.1.1.0 c.note-next.result
+noted : (c : After-note-next) → Notes c.args.features c.note-next.new.who c.note-next.new.what c.note-next.result
 noted c =
     let p = c.requires in
     still_notes _ _ (eqb (get_or c.args.destinations.now (get_or c.args.entries.now c.args.e 0) 0) c.args.label) p.1.1.1.0 p.1.1.1.1.0 p.1.1.0 c.note-next.ensures.who_after c.note-next.ensures.what_after c.note-next.ensures.value
 
 -- and what the counts are once that is added
-counted : (c : After-note-next) → notes_added c.args.kinds.now c.note-next.new.1.1.1.1.1.1.0 c.note-next.new.1.1.1.1.1.1.1.0 c.note-next.result c.args.counts.now ≡ state_count (with_counts bare c.args.features c.args.kinds.now c.args.destinations.now [] 0 [] c.args.entries.now 0 [] []) c.args.label c.args.value c.args.e (notes_added c.args.kinds.now c.args.who.now c.args.what.now c.args.noted c.args.counts.now)
+counted : (c : After-note-next) → notes_added c.args.kinds.now c.note-next.new.who c.note-next.new.what c.note-next.result c.args.counts.now ≡ state_count (with_counts bare c.args.features c.args.kinds.now c.args.destinations.now [] 0 [] c.args.entries.now 0 [] []) c.args.label c.args.value c.args.e (notes_added c.args.kinds.now c.args.who.now c.args.what.now c.args.noted c.args.counts.now)
 counted c =
     let p = c.requires in
     let h = p.1.1.1.1.0 in

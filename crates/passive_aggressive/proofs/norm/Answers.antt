@@ -19,7 +19,7 @@ left c = omega (arith, c.loop-i-test.true, c.loop-i.invariant.0.within)
 
 -- what is so when they are noted
 going : (c : After-note-noted) →
-    (Going c.args.features c.args.truly.now c.args.predicted.now c.note-noted.new.1.1.1.1.0 c.note-noted.result c.loop-i.sum (c.loop-i.i + 4))
+    (Going c.args.features c.args.truly.now c.args.predicted.now c.note-noted.new.who c.note-noted.result c.loop-i.sum (c.loop-i.i + 4))
 going c = going_next c.loop-i.invariant.0 c.loop-i.invariant.1 (left c) c.note-noted.ensures.who_after c.note-noted.ensures.value
 
 pub slice_bounds-note-end : goal.slice_bounds-note-end

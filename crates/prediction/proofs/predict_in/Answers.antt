@@ -14,7 +14,7 @@ use Rattle.prediction.proofs.predict_in.Goals as goal
 abbrev model : Start → Model
 model c =
     let a = c.args in
-    training_model_of a.sizes a.kinds.now a.destinations.now a.sources.now a.starts.now a.entries.now a.label_starts_lem.now a.label_entries.now
+    training_model_of a.sizes a.kinds.now a.destinations.now a.sources.now a.starts.now a.entries.now a.label_starts.now a.label_entries.now
 
 abbrev line : Start → Words
 line c = words_from c.args.sizes c.args.begins.now c.args.ids.now c.args.values.now

@@ -15,17 +15,17 @@ abbrev given : Start → Buffers
 given c =
     let a = c.args in
     record {
-      line_starts = a.line_starts_lem.now;
+      line_starts = a.line_starts.now;
       word_starts_of = a.word_starts.now;
       ids = a.ids.now;
       values = a.values.now;
       references = a.references.now;
-      weights = a.instance-weights.now;
-      label_starts_of = a.label-name-starts.now;
-      label_bytes_of = a.label-names.now;
-      name_starts_of = a.attribute-name-starts.now;
-      name_bytes_of = a.attribute-names.now;
-      scale_starts_of = a.scale-starts.now;
+      weights = a.instance_weights.now;
+      label_starts_of = a.label_name_starts.now;
+      label_bytes_of = a.label_names.now;
+      name_starts_of = a.attribute_name_starts.now;
+      name_bytes_of = a.attribute_names.now;
+      scale_starts_of = a.scale_starts.now;
       scale_bytes_of = a.scales.now;
     }
 

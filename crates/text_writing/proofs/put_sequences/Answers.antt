@@ -17,7 +17,7 @@ use Rattle.text_writing.proofs.put_sequences.Goals as goal
 
 -- what is lent
 abbrev tables : Start → Unwritten
-tables c = lent_tables c.args.instances c.args.lines.now c.args.begins.now c.args.ids.now c.args.references.now (strings c.args.label_starts.now c.args.labels.now) (strings c.args.name-starts.now c.args.names.now) (strings c.args.scale-starts.now c.args.scales.now)
+tables c = lent_tables c.args.instances c.args.lines.now c.args.begins.now c.args.ids.now c.args.references.now (strings c.args.label_starts.now c.args.labels.now) (strings c.args.name_starts.now c.args.names.now) (strings c.args.scale_starts.now c.args.scales.now)
 
 pub loop-i-init : goal.loop-i-init
 loop-i-init c =

@@ -24,7 +24,7 @@ use Rattle.text_writing.proofs.put_word.Goals as goal
 
 -- what is lent
 abbrev tables : Start → Unwritten
-tables c = word_tables c.args.begins.now c.args.ids.now c.args.references.now (strings c.args.label_starts.now c.args.labels.now) (strings c.args.name-starts.now c.args.names.now) (strings c.args.scale-starts.now c.args.scales.now)
+tables c = word_tables c.args.begins.now c.args.ids.now c.args.references.now (strings c.args.label_starts.now c.args.labels.now) (strings c.args.name_starts.now c.args.names.now) (strings c.args.scale_starts.now c.args.scales.now)
 
 -- the label is written, and the attributes are left
 labelled : (s : Start) {label k : ℕ} {after : Bytes} → label ≡ get_or (tables s).references s.args.w 0 → Put (escaped (string_at (tables s).labels label)) s.args.text.now s.args.at k after

@@ -19,7 +19,7 @@ use Rattle.trainers.proofs.train.Goals as goal
 abbrev model : Start → Sizes → Model
 model c sizes =
     let a = c.args in
-    training_model_of sizes a.kinds.now a.destinations.now a.sources.now a.attribute_starts.now a.attribute_entries.now a.label_starts_lem.now a.label_entries.now
+    training_model_of sizes a.kinds.now a.destinations.now a.sources.now a.attribute_starts.now a.attribute_entries.now a.label_starts.now a.label_entries.now
 
 abbrev corpus : Start → Sizes → Data
 corpus c sizes =

@@ -14,7 +14,7 @@ use Rattle.visits.proofs.correct.Goals as goal
 abbrev model : Start → Model
 model c =
     let a = c.args in
-    training_model_of a.sizes a.kinds.now a.destinations.now a.sources.now a.starts.now a.entries.now a.label_starts_lem.now a.label_entries.now
+    training_model_of a.sizes a.kinds.now a.destinations.now a.sources.now a.starts.now a.entries.now a.label_starts.now a.label_entries.now
 
 pub count_line-requires : goal.count_line-requires
 count_line-requires c =

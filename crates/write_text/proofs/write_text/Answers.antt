@@ -16,7 +16,7 @@ use Rattle.write_text.proofs.write_text.Goals as goal
 abbrev given : Start → Unchecked
 given c =
     let a = c.args in
-    unchecked_of a.labels a.totals a.names a.lines.now a.begins.now a.ids.now a.references.now a.label-name-starts.now a.label-names.now a.attribute-name-starts.now a.attribute-names.now a.scale-starts.now a.scales.now
+    unchecked_of a.labels a.totals a.names a.lines.now a.begins.now a.ids.now a.references.now a.label_name_starts.now a.label_names.now a.attribute_name_starts.now a.attribute_names.now a.scale_starts.now a.scales.now
 
 accepted : (c : In_default) → checked_of (given c) c.args.text.now ≡ Accepted
 accepted c = sym c.check_written-checked.ensures ∙ c.in_default.is
