@@ -52,7 +52,7 @@ pub fn narrow(
     covariance: &mut [f64],
 ) -> bool
     requires { Held features (length truly.now) (length predicted.now) (length weights.old) (length covariance.old) }
-    ensures { Moved features (narrowed truly.now predicted.now weight gamma alpha) (record { weights = weights.entry.now; beside = covariance.old }) (record { weights = weights.exit.now; beside = covariance.new }) result }
+    ensures { Moved features (narrowed truly.now predicted.now weight gamma alpha) (record { weights = weights.old; beside = covariance.old }) (record { weights = weights.new; beside = covariance.new }) result }
 {
     let mut all = true;
     let mut i = 0usize;
@@ -93,8 +93,8 @@ pub fn update(
     ensures { (variance : Float) (words : ℕ) (counter : Float) →
         Updated (arow variance gamma) features
         (record { words = words; wrong = wrong; truly = truly.now; predicted = predicted.now; true_score = wanted; predicted_score = reached; weight = weight; counter = counter })
-        (record { weights = weights.entry.now; beside = covariance.old })
-        (record { weights = weights.exit.now; beside = covariance.new }) result }
+        (record { weights = weights.old; beside = covariance.old })
+        (record { weights = weights.new; beside = covariance.new }) result }
 {
     let cost = cost_of(wrong, reached, wanted);
     let alpha = cost / spread_of(features, weight, gamma, truly, predicted, covariance);

@@ -15,7 +15,7 @@ ghost use Rattle.compute_scores.specs.StateEntry.{states_was};
 ghost use Rattle.compute_scores.specs.TransitionEntry.{transitions_was};
 ghost use Rattle.feature_gen.specs.Lent.{model_at, model_was};
 ghost use Rattle.line_check.specs.Sound.{SoundScoring};
-ghost use Rattle.compute_scores.specs.Entry.{given_at, given_was, buffers_at};
+ghost use Rattle.compute_scores.specs.Entry.{given_at, given_was, buffers_of};
 ghost use Rattle.compute_scores.specs.Promise.{states_of_line, transitions_of_line, scoring_of, Promised};
 
 use feature_gen::Counts;
@@ -319,7 +319,7 @@ pub fn fill_scores(
 )
     requires { let m = model_at labels counts kinds destinations sources attribute_starts attribute_entries label_starts label_entries in
         let g = given_at m weights words attributes begins ids values in
-        SoundScoring (scoring_of g (buffers_at transitions states)) }
+        SoundScoring (scoring_of g (buffers_of transitions.old states.old)) }
     ensures transitions_after { let m = model_was labels counts kinds destinations sources attribute_starts attribute_entries label_starts label_entries in
         let g = given_was m weights words attributes begins ids values in
         transitions.new ≡ transitions_of_line g ++ drop (labels * labels) transitions.old }
@@ -381,7 +381,7 @@ pub fn compute_scores(
 ) -> Checked
     ensures { let m = model_was labels counts kinds destinations sources attribute_starts attribute_entries label_starts label_entries in
         let g = given_was m weights words attributes begins ids values in
-        let b = buffers_at transitions.entry states.entry in
+        let b = buffers_of transitions.old states.old in
         Promised g b (record { answer = result; transitions = transitions.new; states = states.new }) }
 {
     let checked = line_check::check_scoring(

@@ -2,14 +2,14 @@
 use mathlib.Core.Path.{◌≡◌, refl, sym, ap, subst, ◌∙◌}
 use mathlib.Core.Bool.{Bool, true, false, cond}
 use mathlib.Core.List.{List, [], ◌∷◌, ◌++◌, flatten}
-use Prim.Native.Nat.{ℕ, ◌+◌, ◌≤◌, ◌<◌}
+use Prim.Native.Nat.{◌+◌, ◌≤◌, ◌<◌}
 use native.Mathlib.Nat.{le_refl, le_trans}
 use native.Mathlib.Omega.{arith}
 use lib.ListN.{length, length-append}
-use Rattle.layout.specs.Layout.{Bytes, Word, Line, text_of, sequences, WellFormed}
+use Rattle.layout.specs.Layout.{Bytes, Word, Line, sequences, WellFormed}
 use Rattle.text_tables.specs.Tables.{all_words, all_attributes, scales_of}
 use Rattle.text_tables.specs.Pieces.{Piece, blank, label, attribute, pieces_of, after_each}
-use Rattle.text_tables.specs.Built.{Built, nothing_built, built_on, built_of}
+use Rattle.text_tables.specs.Built.{Built, built_on, built_of}
 use Rattle.text_tables.specs.InText.{InText}
 use Rattle.text_tables.proofs.Tallied.{more_length, tally_means}
 use Rattle.text_tables.proofs.Along.{as_long}
@@ -17,8 +17,8 @@ use Rattle.text_tables.proofs.InText.{fits_in_text}
 use Rattle.pieces.specs.declared.Cursor.{Cursor}
 use Rattle.pieces.specs.declared.Kind.TheVariants.{Label, Attribute}
 use Rattle.pieces.specs.declared.Span.{Span}
-use Rattle.pieces.specs.PieceText.{kind_of, name_in, kept_in}
-use Rattle.pieces.specs.Standing.{Stands, PiecesAhead, SomePieceAhead, PieceMet, Finds, Follows, AtStart}
+use Rattle.pieces.specs.PieceText.{kind_of, kept_in}
+use Rattle.pieces.specs.Standing.{PiecesAhead, SomePieceAhead, PieceMet, Finds, Follows, AtStart}
 use Rattle.pieces.specs.Passing.{Passing}
 use Rattle.pieces.proofs.Spans.{is_label, is_attribute}
 use Rattle.pieces.proofs.Passes.{some_ahead, none_ahead}

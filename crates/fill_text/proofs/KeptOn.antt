@@ -10,21 +10,20 @@ use Rattle.layout.specs.Layout.{Bytes, Word, Line, escaped, sequences, WellForme
 use Rattle.scales.specs.Value.{value_of}
 use Rattle.text_tables.specs.Distinct.{id_in}
 use Rattle.text_tables.specs.Tables.{tables}
-use Rattle.text_tables.specs.Pieces.{Piece, blank, label, attribute, pieces_of}
+use Rattle.text_tables.specs.Pieces.{Piece, pieces_of}
 use Rattle.text_tables.specs.Built.{Built, nothing_built, built_on, Builds}
 use Rattle.text_tables.specs.Laid.{laid}
 use Rattle.text_tables.proofs.Built.{built_means}
 use Rattle.text_tables.proofs.Ends.{laid_none, laid_more}
 use Rattle.text_tables.proofs.Tallied.{more_length}
-use Rattle.byte_buffers.specs.Stored.{stored}
 use Rattle.pieces.specs.declared.Cursor.{Cursor}
 use Rattle.pieces.specs.declared.Kind.TheVariants.{Blank, Label, Attribute}
 use Rattle.pieces.specs.declared.Span.{Span}
 use Rattle.pieces.specs.PieceText.{name_in, kept_in}
-use Rattle.pieces.specs.Standing.{Stands, SomePieceAhead, Finds, Follows, AtStart}
+use Rattle.pieces.specs.Standing.{SomePieceAhead, Finds, Follows, AtStart}
 use Rattle.pieces.specs.Passing.{Passing}
 use Rattle.pieces.proofs.Spans.{is_blank, is_label, is_attribute}
-use Rattle.distinct.specs.Names.{name_at, Known}
+use Rattle.distinct.specs.Names.{name_at}
 use Rattle.distinct.proofs.Raw.{named_is}
 use Rattle.distinct.proofs.Escaped.{id_escaped}
 use Rattle.fill_text.specs.declared.KeptSoFar.{KeptSoFar}

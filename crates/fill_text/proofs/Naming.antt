@@ -1,23 +1,22 @@
 -- The names at their places, one after another. Assumes nothing.
 use mathlib.Core.Path.{◌≡◌, refl, sym, ap, subst, ◌∙◌}
-use mathlib.Core.Bool.{true}
 use mathlib.Core.List.{List, [], ◌∷◌, ◌++◌, map, flatten, append-nil, append_assoc}
-use Prim.Native.Nat.{ℕ, zero, suc, ◌+◌, ◌-◌, ◌≤◌, ◌<◌}
+use Prim.Native.Nat.{ℕ, zero, suc, ◌+◌, ◌≤◌, ◌<◌}
 use native.Mathlib.Omega.{arith}
 use lib.ListN.{length, get_or, set, drop, length-append, length-drop, length-map, length-set}
 use lib.Seq.{slice}
-use Rattle.layout.specs.Layout.{Bytes, escaped, Clean}
+use Rattle.layout.specs.Layout.{Bytes, escaped}
 use Rattle.text_tables.specs.Tables.{flat}
 use Rattle.text_tables.specs.Laid.{laid}
 use Rattle.text_tables.proofs.Lists.{flatten_append, begins_from, length_begins, flat_begins, flat_bytes, flat_starts}
 use Rattle.text_tables.proofs.Ends.{laid_none, laid_more}
 use Rattle.text_tables.proofs.Tallied.{more_length}
 use Rattle.byte_buffers.specs.Stored.{stored, RoomFor, Put}
-use Rattle.pieces.specs.Standing.{Named, SomeName}
+use Rattle.pieces.specs.Standing.{Named}
 use Rattle.pieces.specs.Unescaped.{unescaped}
 use Rattle.pieces.proofs.Parts.{part_of}
 use Rattle.pieces.proofs.Bare.{bare_name}
-use Rattle.distinct.specs.Names.{ends_at, name_at, names_at, Known}
+use Rattle.distinct.specs.Names.{ends_at, name_at}
 use Rattle.distinct.proofs.Raw.{name_parts, name_ends_lem}
 use Rattle.distinct.proofs.Loops.{name_is}
 use Rattle.distinct.proofs.Learning.{known_count}

@@ -12,8 +12,8 @@ use Rattle.scales.proofs.Meant.{no_scale_value}
 use Rattle.fronts.specs.Cleared.{cleared}
 use Rattle.layout.specs.Layout.{Bytes, Word, Line, escaped, sequences, WellFormed}
 use Rattle.text_tables.specs.Distinct.{id_in}
-use Rattle.text_tables.specs.Tables.{starts_from, all_words, tables}
-use Rattle.text_tables.specs.Pieces.{Piece, blank, label, attribute, pieces_of}
+use Rattle.text_tables.specs.Tables.{starts_from, tables}
+use Rattle.text_tables.specs.Pieces.{Piece, label, pieces_of}
 use Rattle.text_tables.specs.Built.{Built, nothing_built, built_on, Builds}
 use Rattle.text_tables.specs.Laid.{laid}
 use Rattle.text_tables.proofs.Built.{built_means}
@@ -22,8 +22,8 @@ use Rattle.text_tables.proofs.Tallied.{more_length}
 use Rattle.pieces.specs.declared.Cursor.{Cursor}
 use Rattle.pieces.specs.declared.Kind.TheVariants.{Blank, Label, Attribute}
 use Rattle.pieces.specs.declared.Span.{Span}
-use Rattle.pieces.specs.PieceText.{name_in, kept_in}
-use Rattle.pieces.specs.Standing.{Stands, SomePieceAhead, Finds, Follows, AtStart}
+use Rattle.pieces.specs.PieceText.{name_in}
+use Rattle.pieces.specs.Standing.{SomePieceAhead, Finds, Follows, AtStart}
 use Rattle.pieces.specs.Passing.{Passing}
 use Rattle.pieces.proofs.Spans.{is_blank, is_label, is_attribute}
 use Rattle.distinct.specs.Names.{name_at, names_at, Listed, Known}

@@ -3,7 +3,7 @@ use Rattle.std.specs.Prelude.{◌≡◌, ℕ, ◌≤◌, ◌<◌, length, get_or
 use mathlib.Core.List.{List, [], map, flatten}
 use Rattle.layout.specs.Layout.{Bytes, Word, escaped, Clean, sequences, WellFormed}
 use Rattle.text_tables.specs.Distinct.{distinct}
-use Rattle.text_tables.specs.Tables.{Strings, flat, all_words, all_attributes, labels_of, names_of, scales_of, Tables, tables}
+use Rattle.text_tables.specs.Tables.{Strings, all_words, all_attributes, labels_of, names_of, scales_of, Tables}
 use Rattle.text_tables.specs.Laid.{laid}
 use Rattle.distinct.specs.Names.{Known}
 use Rattle.distinct.specs.Slots.{Tabled}

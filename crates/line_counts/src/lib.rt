@@ -10,7 +10,7 @@ ghost use Rattle.lines.specs.Sound.{SoundLists, SoundCounts, SoundWords};
 ghost use Rattle.lines.specs.Counted.{state_count, counted_at, counted_word, transition_count_of, counted_transition};
 ghost use Rattle.lines.specs.Entry.{line_of, line_was};
 ghost use Rattle.line_counts.specs.Noted.{note_added, notes_added, Notes};
-ghost use Rattle.line_counts.specs.StateEntry.{state_counts_was, added_before, added_after};
+ghost use Rattle.line_counts.specs.StateEntry.{state_counts_was};
 ghost use Rattle.line_counts.specs.TransitionEntry.{transition_counts_was};
 
 use lines::{Attribute, Span};
@@ -108,7 +108,7 @@ fn count_entry(
     ensures notes_2 { Notes features who.new what.new result }
     ensures upper_bound { result < length who.new }
     ensures counts_value { let m = state_counts_was features kinds destinations 0 [] entries in
-        added_after kinds who what result counts ≡ state_count m label value e (added_before kinds who what noted counts) }
+        notes_added kinds.now who.new what.new result counts.new ≡ state_count m label value e (notes_added kinds.now who.old what.old noted counts.old) }
 {
     let next = note(destinations, entries, label, value, e, noted, who, what);
     if next < who.len() {
@@ -140,7 +140,7 @@ pub fn count_attribute(
     ensures notes_2 { Notes features who.new what.new result }
     ensures upper_bound { result < length who.new }
     ensures counts_value { let m = state_counts_was features kinds destinations 0 [] entries in
-        added_after kinds who what result counts ≡ through_span (state_count m label attribute.value) span (added_before kinds who what noted counts) }
+        notes_added kinds.now who.new what.new result counts.new ≡ through_span (state_count m label attribute.value) span (notes_added kinds.now who.old what.old noted counts.old) }
 {
     let value = attribute.value;
     let last = span.last;
@@ -194,7 +194,7 @@ fn count_word(
     ensures upper_bound { result < length who.new }
     ensures counts_value { let m = state_counts_was features kinds destinations lists starts.now entries in
         let d = line_of 0 [] ids.now values.now in
-        added_after kinds who what result counts ≡ through (counted_at m d label) from (to - from) (added_before kinds who what noted counts) }
+        notes_added kinds.now who.new what.new result counts.new ≡ through (counted_at m d label) from (to - from) (notes_added kinds.now who.old what.old noted counts.old) }
 {
     let mut n = noted;
     if from < to {

@@ -1,14 +1,12 @@
 -- The laws of a turn. Assumes nothing.
-use mathlib.Core.Path.{◌≡◌, refl, sym, ap, subst, ◌∙◌}
-use mathlib.Core.Bool.{Bool, true, false, true≢false, false≢true, cond, not}
+use mathlib.Core.Path.{◌≡◌, refl, sym, ap, ◌∙◌}
+use mathlib.Core.Bool.{Bool, true, false, true≢false, false≢true, cond}
 use mathlib.Core.List.{List}
-use Prim.Native.Nat.{ℕ, ◌+◌, ◌-◌, ◌≤◌, ◌<◌}
+use Prim.Native.Nat.{ℕ, ◌+◌, ◌≤◌, ◌<◌}
 use native.Mathlib.Omega.{arith}
-use native.Mathlib.Nat.{le_refl}
 use lib.ListN.{length, get_or, drop}
 use Rattle.layout.specs.declared.Mode.{Mode}
 use Rattle.layout.specs.declared.Mode.TheVariants.{Begin, Bad}
-use Rattle.layout.specs.declared.Found.{Found}
 use Rattle.layout.specs.declared.Found.TheVariants.{Whole, At}
 use Rattle.layout.specs.Scan.{next_mode_of, class_of, alive, accepting, look_from, look}
 use Rattle.layout.proofs.Laws.{look_on, look_dead, look_end}
@@ -104,12 +102,3 @@ ends_well text at q l h e = ap (λ (x : Bool). cond x Whole (At at)) (sym e) ∙
 
 pub ends_badly : (text : List ℕ) (at : ℕ) (q : Mode) → Looking text at q → length text ≤ at → accepting q ≡ false → At at ≡ look text
 ends_badly text at q l h e = ap (λ (x : Bool). cond x Whole (At at)) (sym e) ∙ ends text at q l h
-
--- a test that was turned round
-pub is_dead : (x y : Bool) → x ≡ y → not x ≡ true → y ≡ false
-is_dead true y e h = absurd (false≢true h)
-is_dead false y e h = sym e
-
-pub is_living : (x y : Bool) → x ≡ y → not x ≡ false → y ≡ true
-is_living true y e h = sym e
-is_living false y e h = absurd (true≢false h)

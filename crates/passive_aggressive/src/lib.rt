@@ -160,7 +160,7 @@ pub fn pull(
     sums: &mut [f64],
 ) -> bool
     requires { Held features (length truly.now) (length predicted.now) (length weights.old) (length sums.old) }
-    ensures { Moved features (pulled truly.now predicted.now averaging tau counter) (record { weights = weights.entry.now; beside = sums.old }) (record { weights = weights.exit.now; beside = sums.new }) result }
+    ensures { Moved features (pulled truly.now predicted.now averaging tau counter) (record { weights = weights.old; beside = sums.old }) (record { weights = weights.new; beside = sums.new }) result }
 {
     let mut all = true;
     let mut i = 0usize;
@@ -198,8 +198,8 @@ pub fn update(
     ensures { (words : ℕ) →
         Updated (passive variant c sensitive averaging) features
         (record { words = words; wrong = wrong; truly = truly.now; predicted = predicted.now; true_score = wanted; predicted_score = reached; weight = weight; counter = counter })
-        (record { weights = weights.entry.now; beside = sums.old })
-        (record { weights = weights.exit.now; beside = sums.new }) result }
+        (record { weights = weights.old; beside = sums.old })
+        (record { weights = weights.new; beside = sums.new }) result }
 {
     let cost = cost_of(sensitive, wrong, reached, wanted);
     let norm = norm(features, truly, predicted);

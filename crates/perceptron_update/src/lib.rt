@@ -21,7 +21,7 @@ pub fn push(
     sums: &mut [f64],
 ) -> bool
     requires { Held features (length truly.now) (length predicted.now) (length weights.old) (length sums.old) }
-    ensures { Moved features (pushed truly.now predicted.now weight counter) (record { weights = weights.entry.now; beside = sums.old }) (record { weights = weights.exit.now; beside = sums.new }) result }
+    ensures { Moved features (pushed truly.now predicted.now weight counter) (record { weights = weights.old; beside = sums.old }) (record { weights = weights.new; beside = sums.new }) result }
 {
     let mut all = true;
     let mut i = 0usize;
@@ -60,8 +60,8 @@ pub fn update(
     ensures { (true_score predicted_score : Float) →
         Updated perceptron features
         (record { words = words; wrong = wrong; truly = truly.now; predicted = predicted.now; true_score = true_score; predicted_score = predicted_score; weight = weight; counter = counter })
-        (record { weights = weights.entry.now; beside = sums.old })
-        (record { weights = weights.exit.now; beside = sums.new }) result }
+        (record { weights = weights.old; beside = sums.old })
+        (record { weights = weights.new; beside = sums.new }) result }
 {
     let all = push(features, weight, counter, truly, predicted, weights, sums);
     let loss = share(wrong, words, weight);

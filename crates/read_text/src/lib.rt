@@ -6,7 +6,7 @@ ghost use Rattle.std.specs.Prelude.{◌≡◌};
 ghost use Rattle.layout.specs.Layout.{WellFormed, sequences};
 ghost use Rattle.read_text.specs.Promise.{ReadOf, Promised, said};
 ghost use Rattle.read_text.specs.Sizes.{sized_of, SizesPromised};
-ghost use Rattle.read_text.specs.Lent.{buffers_were, buffers_are};
+ghost use Rattle.read_text.specs.Lent.{buffers_of};
 ghost use Rattle.text_bytes.specs.Bytes.{Readable};
 ghost use Rattle.read_text.specs.Steps.{sizes_in_of, SmallSurvey, FreeSlots, SurveyMade};
 
@@ -74,8 +74,8 @@ fn fill_checked(
     scales: &mut [u8],
 ) -> TextReading
     requires { SurveyMade text.now labels.now slots.now positions.now survey }
-    ensures { let before = buffers_were line_starts word_starts ids values references instance_weights label_name_starts label_names attribute_name_starts attribute_names scale_starts scales in
-        let after = buffers_are line_starts word_starts ids values references instance_weights label_name_starts label_names attribute_name_starts attribute_names scale_starts scales in
+    ensures { let before = buffers_of line_starts.old word_starts.old ids.old values.old references.old instance_weights.old label_name_starts.old label_names.old attribute_name_starts.old attribute_names.old scale_starts.old scales.old in
+        let after = buffers_of line_starts.new word_starts.new ids.new values.new references.new instance_weights.new label_name_starts.new label_names.new attribute_name_starts.new attribute_names.new scale_starts.new scales.new in
         ((h : WellFormed text.now) → ReadOf text.now (sequences h.lines) before (record { answer = result; after = after })) }
 {
     let have = Lengths {
@@ -139,8 +139,8 @@ fn read_with(
     scales: &mut [u8],
 ) -> TextReading
     requires { Readable text.now × FreeSlots slots.old }
-    ensures { let before = buffers_were line_starts word_starts ids values references instance_weights label_name_starts label_names attribute_name_starts attribute_names scale_starts scales in
-        let after = buffers_are line_starts word_starts ids values references instance_weights label_name_starts label_names attribute_name_starts attribute_names scale_starts scales in
+    ensures { let before = buffers_of line_starts.old word_starts.old ids.old values.old references.old instance_weights.old label_name_starts.old label_names.old attribute_name_starts.old attribute_names.old scale_starts.old scales.old in
+        let after = buffers_of line_starts.new word_starts.new ids.new values.new references.new instance_weights.new label_name_starts.new label_names.new attribute_name_starts.new attribute_names.new scale_starts.new scales.new in
         ((h : WellFormed text.now) → ReadOf text.now (sequences h.lines) before (record { answer = result; after = after })) }
 {
     let mut labels = [0u32; 33];
@@ -183,8 +183,8 @@ pub fn read_text(
     scale_starts: &mut [u32],
     scales: &mut [u8],
 ) -> TextReading
-    ensures { let before = buffers_were line_starts word_starts ids values references instance_weights label_name_starts label_names attribute_name_starts attribute_names scale_starts scales in
-        let after = buffers_are line_starts word_starts ids values references instance_weights label_name_starts label_names attribute_name_starts attribute_names scale_starts scales in
+    ensures { let before = buffers_of line_starts.old word_starts.old ids.old values.old references.old instance_weights.old label_name_starts.old label_names.old attribute_name_starts.old attribute_names.old scale_starts.old scales.old in
+        let after = buffers_of line_starts.new word_starts.new ids.new values.new references.new instance_weights.new label_name_starts.new label_names.new attribute_name_starts.new attribute_names.new scale_starts.new scales.new in
         Promised text.now before (record { answer = result; after = after }) }
 {
     let checked = text_bytes::check_bytes(text);

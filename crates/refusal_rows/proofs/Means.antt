@@ -7,10 +7,9 @@ use Prim.Native.Nat.{ℕ, ◌<◌, ◌≤◌}
 use native.Mathlib.Omega.{arith}
 use borrow.Author.Tests.{ltb-false, le-ltb}
 use lib.Dec.{ltb}
-use Rattle.refusals.specs.declared.Checked.TheVariants.{Accepted}
 use Rattle.refusals.specs.Tables.{outside}
 use Rattle.refusals.specs.Bounds.{Bound, span, up_to, the_line_words, bound, beyond, Inside, most, outside_its}
-use Rattle.refusals.specs.Meaning.{Exactly, AllAccepted, FirstRefused, StartsMean, KindsMean, IdsMean, SourcesMean, NumbersMean}
+use Rattle.refusals.specs.Meaning.{Exactly, AllAccepted, FirstRefused}
 use Rattle.refusals.proofs.Laws.{neither, passes}
 use Rattle.refusals.proofs.Meant.{exactly, starts_mean, kinds_mean, ids_mean, sources_mean, numbers_mean}
 use Rattle.score_tables.specs.Sound.{WordsIn}

@@ -10,7 +10,6 @@ use lib.Pow.{pow_pos}
 use lib.Dec.{T, ltb}
 use lib.ListN.{length}
 use lib.Ieee.{Float}
-use lib.Ieee.Scale.{finite}
 use Rattle.refusals.specs.declared.Checked.TheVariants.{Accepted}
 use Rattle.refusals.specs.Tables.{numbers_checked}
 use Rattle.refusals.proofs.Laws.{neither, passes}

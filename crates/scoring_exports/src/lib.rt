@@ -32,8 +32,8 @@ pub extern "C" fn bodkinbloom_compute_scores(
     ensures { let m = model_was labels counts kinds destinations sources attribute_starts attribute_entries label_starts label_entries in
         let line = line_was attributes word_starts ids values in
         ScoresLine (record { model = m; weights = weights.now; words = words; line = line })
-        (record { transitions = transitions.entry.now; states = states.old })
-        (record { answer = result; transitions = transitions.exit.now; states = states.new }) }
+        (record { transitions = transitions.old; states = states.old })
+        (record { answer = result; transitions = transitions.new; states = states.new }) }
 {
     let answer = compute_scores::compute_scores(
         labels,

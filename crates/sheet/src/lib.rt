@@ -122,7 +122,7 @@ fn in_order(head: Checked, bounds: Checked, room: Checked, length: Checked) -> C
 
 // Every row before a number is read.
 fn check_sizes(bytes: &[u8], transitions: &[f64], states: &[f64]) -> Checked
-    ensures { result ≡ file_sized bytes.now (tables_short bytes.now (record { transitions = transitions.entry.now; states = states.now })) }
+    ensures { result ≡ file_sized bytes.now (tables_short bytes.now (record { transitions = transitions.now; states = states.now })) }
 {
     let labels = labels_in(bytes);
     let words = words_in(bytes);
@@ -152,7 +152,7 @@ fn check_part(answer: Checked, bytes: &[u8], at: usize, n: usize) -> Checked
 
 // Every row, before anything is stored.
 pub fn check_sheet(bytes: &[u8], transitions: &[f64], states: &[f64]) -> Checked
-    ensures { result ≡ sheet_checked (record { bytes = bytes.entry.now }) (record { transitions = transitions.entry.now; states = states.now }) }
+    ensures { result ≡ sheet_checked (record { bytes = bytes.now }) (record { transitions = transitions.now; states = states.now }) }
 {
     let sizes = check_sizes(bytes, transitions, states);
     if let Checked::Refused(why) = sizes {
@@ -186,7 +186,7 @@ fn read_part(bytes: &[u8], at: usize, n: usize, table: &mut [f64])
 
 // The whole file, or a refusal.
 pub fn read_sheet(bytes: &[u8], transitions: &mut [f64], states: &mut [f64]) -> Reading
-    ensures { Promised (record { bytes = bytes.entry.now }) (record { transitions = transitions.entry.now; states = states.old }) (record { answer = result; transitions = transitions.exit.now; states = states.new }) }
+    ensures { Promised (record { bytes = bytes.now }) (record { transitions = transitions.old; states = states.old }) (record { answer = result; transitions = transitions.new; states = states.new }) }
 {
     if let Checked::Refused(why) = check_sheet(bytes, transitions, states) {
         return Reading::Refused(why);

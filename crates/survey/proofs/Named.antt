@@ -4,9 +4,8 @@ use mathlib.Core.Bool.{Bool, true, false, cond}
 use mathlib.Core.List.{List, [], ◌∷◌, ◌++◌, map, flatten}
 use Prim.Native.Nat.{ℕ, zero, suc, ◌+◌, ◌≤◌, ◌<◌}
 use native.Mathlib.Nat.{le_of_suc-le-suc, not-suc-le-zero}
-use native.Mathlib.Numerals.{add-one}
 use native.Mathlib.Omega.{arith}
-use lib.Dec.{eqb, ltb}
+use lib.Dec.{ltb}
 use lib.ListN.{length, take, drop, length-map, length-append, take-append-drop}
 use lib.Seq.{slice, take_all}
 use borrow.Author.Tests.{ltb-true, ltb-false, eq-eqb, ne_eqb}
@@ -20,10 +19,10 @@ use Rattle.distinct.specs.Names.{name_at, Known, LearntLabel}
 use Rattle.distinct.specs.Slots.{Filed, Tabled, LearntName}
 use Rattle.distinct.proofs.Same.{id_meant, longer, learnt_new, learnt_old}
 use Rattle.distinct.proofs.Raw.{named_is}
-use Rattle.distinct.proofs.Learning.{none_known, known_count}
+use Rattle.distinct.proofs.Learning.{known_count}
 use Rattle.distinct.proofs.Plain.{plain_label, plain_name}
 use Rattle.survey.specs.declared.NameSums.{NameSums}
-use Rattle.survey.specs.Surveyed.{grown, KnowsFront, KnowsNames, NameAsked}
+use Rattle.survey.specs.Surveyed.{grown, KnowsFront, KnowsNames}
 use Rattle.survey.proofs.Figured.{grown_new, grown_old}
 
 -- ---- fronts

@@ -7,13 +7,13 @@ use lib.ListN.{length, take, drop, length-append, take-append-drop}
 use Rattle.layout.specs.Layout.{Bytes, escaped, WellFormed}
 use Rattle.text_tables.specs.Distinct.{learnt}
 use Rattle.text_tables.specs.Pieces.{Piece, blank, label, attribute, pieces_of, after_each}
-use Rattle.text_tables.specs.Tally.{Tally, nothing_yet, tallied, tally_of}
+use Rattle.text_tables.specs.Tally.{Tally, nothing_yet, tallied}
 use Rattle.text_tables.proofs.Lists.{each_none, each_next, flatten_append}
 use Rattle.text_tables.proofs.InText.{OnTheWay, on_the_way}
 use Rattle.pieces.specs.declared.Kind.TheVariants.{Blank, Label, Attribute}
 use Rattle.pieces.specs.declared.Cursor.{Cursor}
 use Rattle.pieces.specs.declared.Span.{Span}
-use Rattle.pieces.specs.PieceText.{name_in, kept_in}
+use Rattle.pieces.specs.PieceText.{name_in}
 use Rattle.pieces.specs.Standing.{Stands, PiecesAhead, SomePieceAhead, PieceMet, Finds, Follows, AtStart}
 use Rattle.pieces.specs.Passing.{Passing}
 use Rattle.pieces.proofs.Spans.{is_blank, is_label, is_attribute}
@@ -23,7 +23,7 @@ use Rattle.distinct.proofs.Learning.{none_known}
 use Rattle.survey.specs.declared.Figures.{Figures}
 use Rattle.survey.specs.declared.NameSums.{NameSums}
 use Rattle.survey.specs.declared.Survey.{Survey}
-use Rattle.survey.specs.Surveyed.{untouched, figures_of, blanked, worded, attributed, KnowsFront, KnowsNames, Surveys, FewFigures, Rooms, StepAsked, SurveyAsked}
+use Rattle.survey.specs.Surveyed.{untouched, blanked, worded, attributed, KnowsFront, KnowsNames, Surveys, FewFigures, Rooms, StepAsked}
 use Rattle.survey.proofs.Figured.{scale_bytes_lem}
 
 -- ---- one piece more

@@ -10,7 +10,6 @@ use lib.Dec.{ltb}
 use lib.ListN.{length, get_or}
 use borrow.Author.Tests.{ltb-true, ltb-false}
 use Rattle.refusals.specs.declared.Checked.{Checked}
-use Rattle.refusals.specs.declared.Checked.TheVariants.{Accepted}
 use Rattle.refusals.specs.Refusals.{refused_at, or_next_of}
 use Rattle.refusals.specs.Meaning.{FirstBad}
 use Rattle.refusals.proofs.Laws.{alone}

@@ -1,13 +1,12 @@
 -- The reader's checks mean what `Meaning` says. Assumes nothing.
 use mathlib.Core.Path.{◌≡◌, refl, sym, ap, ◌∙◌}
-use mathlib.Core.List.{List, [], ◌∷◌}
+use mathlib.Core.List.{[], ◌∷◌}
 use mathlib.Core.Logic.{◌↔◌, inl, inr}
 use Prim.Native.Nat.{ℕ, ◌≤◌}
 use native.Mathlib.Omega.{arith}
 use lib.Dec.{ltb}
 use lib.ListN.{length}
 use borrow.Author.Tests.{ltb-false, le-ltb}
-use Rattle.refusals.specs.declared.Refusal.{Refusal}
 use Rattle.refusals.specs.declared.Checked.{Checked}
 use Rattle.refusals.specs.declared.Checked.TheVariants.{Accepted, Refused}
 use Rattle.refusals.specs.Refusals.{refused_at}
@@ -16,11 +15,10 @@ use Rattle.refusals.proofs.Laws.{place_of_lem, passes}
 use Rattle.score_tables.specs.Meaning.{Row}
 use Rattle.score_tables.proofs.Order.{row, not_row, why}
 use Rattle.refusal_rows.specs.Given.{AtZero}
-use Rattle.refusal_rows.specs.Tests.{lines_fit, Bad, FirstBadOf}
+use Rattle.refusal_rows.specs.Tests.{FirstBadOf}
 use Rattle.refusal_rows.proofs.Means.{two_means}
 use Rattle.refusal_rows.proofs.Groups.{Group, tested, given_first, given_after, accepted_when, given_only}
 use Rattle.refusal_rows.proofs.TableGroups.{pair}
-use Rattle.layout.specs.Layout.{Word, NoneEmpty}
 use Rattle.text_tables.specs.Tables.{tables}
 use Rattle.text_tables.specs.Tally.{AboveAt}
 use Rattle.text_check.specs.Rows.{too_long_of, text_counts, text_rooms, sequence_tests, text_sized, text_checked}

@@ -3,7 +3,6 @@ use mathlib.Core.Path.{◌≡◌, refl, sym, ap, ◌∙◌}
 use mathlib.Core.Bool.{Bool, true, false, ◌||◌}
 use mathlib.Core.List.{List, [], ◌∷◌, map, flatten}
 use Prim.Native.Nat.{ℕ, suc, ◌+◌, ◌≤◌, ◌<◌}
-use native.Mathlib.Numerals.{add-one}
 use native.Mathlib.Omega.{arith}
 use lib.Dec.{ltb}
 use lib.ListN.{length, take, replicate, length-map, length-replicate}
@@ -14,7 +13,7 @@ use Rattle.refusals.specs.declared.Checked.{Checked}
 use Rattle.refusals.specs.declared.Checked.TheVariants.{Accepted}
 use Rattle.refusals.specs.Refusals.{refuse, or_next_of}
 use Rattle.refusals.specs.Tables.{outside}
-use Rattle.refusal_rows.specs.Limits.{Limit, room, any_broken, two}
+use Rattle.refusal_rows.specs.Limits.{room, any_broken, two}
 use Rattle.refusal_rows.specs.Tests.{lengths_checked}
 use Rattle.refusal_rows.proofs.Means.{limits_mean}
 use Rattle.layout.specs.Layout.{Bytes, TextAttribute, Word}

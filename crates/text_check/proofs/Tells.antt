@@ -1,21 +1,20 @@
 -- What a survey of a whole text tells of its sequences. Assumes nothing.
 use mathlib.Core.Path.{◌≡◌, refl, sym, ap, subst, ◌∙◌}
 use mathlib.Core.List.{List, [], ◌∷◌, flatten}
-use mathlib.Core.Logic.{◌↔◌}
-use Prim.Native.Nat.{ℕ, zero, suc, ◌+◌, ◌≤◌, ◌<◌}
+use Prim.Native.Nat.{ℕ, zero, suc, ◌≤◌}
 use native.Mathlib.Omega.{arith}
 use lib.ListN.{length, take, replicate, length-replicate}
-use Rattle.layout.specs.Layout.{Bytes, Word, text_of, WellFormed, sequences}
+use Rattle.layout.specs.Layout.{Bytes, WellFormed, sequences}
 use Rattle.layout.proofs.Runs.{none_empty}
 use Rattle.text_tables.specs.Pieces.{pieces_of}
-use Rattle.text_tables.specs.Tally.{Tally, tally_of, Tallies}
+use Rattle.text_tables.specs.Tally.{tally_of, Tallies}
 use Rattle.text_tables.specs.InText.{InText}
 use Rattle.text_tables.proofs.Tallied.{tally_means}
 use Rattle.text_tables.proofs.InText.{fits_in_text}
 use Rattle.survey.specs.declared.NameSums.{NameSums}
 use Rattle.survey.specs.declared.Figures.{Figures}
 use Rattle.survey.specs.declared.Survey.{Survey}
-use Rattle.survey.specs.Surveyed.{KnowsFront, Surveys, Rooms, SurveyAsked}
+use Rattle.survey.specs.Surveyed.{KnowsFront, Surveys, SurveyAsked}
 use Rattle.survey.proofs.Named.{counted_in}
 use Rattle.distinct.specs.Slots.{Filed}
 use Rattle.distinct.proofs.Learning.{none_filed}

@@ -3,7 +3,7 @@
 
 ghost use Rattle.std.specs.Prelude.{◌≡◌};
 ghost use Rattle.read_text.specs.Promise.{said as reading_said};
-ghost use Rattle.read_text.specs.Lent.{buffers_were, buffers_are};
+ghost use Rattle.read_text.specs.Lent.{buffers_of};
 ghost use Rattle.write_check.specs.Rows.{unchecked_was};
 ghost use Rattle.write_text.specs.Promise.{said as writing_said};
 ghost use Rattle.text_exports.specs.Numbers.{read_numbers, written_numbers};
@@ -79,8 +79,8 @@ pub extern "C" fn bodkinbloom_read_text(
     scale_starts: &mut [u32],
     scales: &mut [u8],
 ) -> ReadText
-    ensures { let before = buffers_were line_starts word_starts ids values references instance_weights label_name_starts label_names attribute_name_starts attribute_names scale_starts scales in
-        let after = buffers_are line_starts word_starts ids values references instance_weights label_name_starts label_names attribute_name_starts attribute_names scale_starts scales in
+    ensures { let before = buffers_of line_starts.old word_starts.old ids.old values.old references.old instance_weights.old label_name_starts.old label_names.old attribute_name_starts.old attribute_names.old scale_starts.old scales.old in
+        let after = buffers_of line_starts.new word_starts.new ids.new values.new references.new instance_weights.new label_name_starts.new label_names.new attribute_name_starts.new attribute_names.new scale_starts.new scales.new in
         Reads text.now before (record { answer = result; after = after }) }
 {
     let reading = read_text::read_text(

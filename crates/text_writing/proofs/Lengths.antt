@@ -1,7 +1,6 @@
 -- Lengths counted place by place. Assumes nothing.
-use mathlib.Core.Path.{◌≡◌, refl, sym, ap, ◌∙◌}
+use mathlib.Core.Path.{◌≡◌, sym, ap, ◌∙◌}
 use mathlib.Core.Bool.{true, false}
-use mathlib.Core.List.{List, [], ◌∷◌}
 use Prim.Native.Nat.{ℕ, ◌+◌, ◌*◌, ◌-◌, ◌≤◌, ◌<◌}
 use native.Mathlib.Nat.{zero-add, le_antisymm, add-mul, one-mul, zero-mul}
 use native.Mathlib.Omega.{arith}
@@ -13,7 +12,7 @@ use Rattle.text_tables.specs.Tables.{Strings}
 use Rattle.text_tables.specs.Written.{Unwritten, string_at, written_text}
 use Rattle.text_tables.proofs.Places.{lengths_none, lengths_more, length_of_tables}
 use Rattle.text_writing.specs.Ready.{StringStands}
-use Rattle.text_writing.proofs.Laws.{special, name_special, name_plain, name_over, part_is, part_stands, scale_none, scale_some}
+use Rattle.text_writing.proofs.Laws.{special, name_special, name_plain, name_over, part_stands, scale_none, scale_some}
 use Rattle.text_writing.specs.Sums.{sum_to, label_bytes_of, attribute_size}
 
 -- ---- a name: so many so far, and what is left makes all

@@ -1,10 +1,9 @@
 -- Tables that can be written from: the strings, lists and places that the writer reads are there. Assumes nothing.
-use mathlib.Core.List.{List, [], ◌∷◌, map, flatten}
+use mathlib.Core.List.{List, [], map, flatten}
 use Rattle.std.specs.Prelude.{ℕ, ◌+◌, ◌≤◌, ◌<◌, length, get_or}
-use Rattle.lines.specs.Passes.{start, size}
-use Rattle.layout.specs.Layout.{Bytes, TextAttribute}
+use Rattle.layout.specs.Layout.{Bytes}
 use Rattle.text_tables.specs.Tables.{Strings}
-use Rattle.text_tables.specs.Written.{Unwritten, string_at, places_from, places_in, attribute_text, attribute_from, word_text, word_from, sequence_text, sequence_from}
+use Rattle.text_tables.specs.Written.{Unwritten, string_at, places_from, attribute_text, word_text, word_from, sequence_text, sequence_from}
 
 abbrev pub strings : List ℕ → Bytes → Strings
 strings starts bytes = record { starts = starts; bytes = bytes }

@@ -5,7 +5,7 @@ ghost use Rattle.std.specs.Prelude.{◌≡◌};
 ghost use Rattle.feature_gen.specs.Lent.{model_was};
 ghost use Rattle.lines.specs.Entry.{data_was};
 ghost use Rattle.trainers.specs.Promise.{Given, Promised};
-ghost use Rattle.trainers.specs.Lent.{buffers_were, buffers_are, sizes_for};
+ghost use Rattle.trainers.specs.Lent.{buffers_of, sizes_for};
 
 use feature_gen::Counts;
 use lines::Totals;
@@ -61,8 +61,8 @@ pub fn train(
       model = model_was labels counts kinds destinations sources attribute_starts attribute_entries label_starts label_entries;
       corpus = data_was totals lines begins ids values references shares;
     } in
-        let before = buffers_were weights beside truly predicted order in
-        let after = buffers_are weights beside truly predicted order in
+        let before = buffers_of weights.old beside.old truly.old predicted.old order.old in
+        let after = buffers_of weights.new beside.new truly.new predicted.new order.new in
         Promised method given before (record { answer = result; after = after }) }
 {
     let lent = Lent {

@@ -7,7 +7,6 @@ use native.Mathlib.Nat.{zero-add}
 use native.Mathlib.Omega.{arith}
 use lib.ListN.{length, get_or, set, length-append, length-replicate}
 use lib.Ieee.{Float}
-use lib.Ieee.Scale.{finite}
 use Rattle.training.specs.declared.Visit.{Visit}
 use Rattle.training.specs.declared.Visit.TheVariants.{Unchanged, Updated, Refused}
 use Rattle.training.specs.declared.Trained.{Trained}

@@ -4,7 +4,7 @@ use mathlib.Core.Bool.{true, false, true≢false}
 use Prim.Native.Nat.{ℕ, ◌+◌, ◌*◌, ◌^◌, ◌≤◌}
 use native.Mathlib.Nat.{mul-one, mul_assoc, mul_comm, add-mul, mul-pos}
 use native.Mathlib.Omega.{arith}
-use lib.Ieee.{Float, fin, binary64, up, down, round, sum, add, of_int}
+use lib.Ieee.{Float, nan, inf, fin, binary64, up, down, round, sum, add, of_int}
 use lib.Ieee.Fits.{down_pos}
 use lib.Ieee.Exact.{HasValue}
 use lib.Ieee.Back.{round_whole}
@@ -14,6 +14,10 @@ use Rattle.binary64.specs.Numbers.{whole}
 -- two whole values, added as fractions
 added : (x y : Float) (a b : ℕ) → HasValue x false a 1 → HasValue y false b 1 → add binary64 x y ≡ round binary64 false (a + b) 1
 unfolding add sum
+added nan y a b p q = elim p [ ]
+added (inf _) y a b p q = elim p [ ]
+added (fin false m e) nan a b p q = elim q [ ]
+added (fin false m e) (inf _) a b p q = elim q [ ]
 added (fin true m e) y a b p q = absurd (true≢false p.0)
 added (fin false m e) (fin true n g) a b p q = absurd (true≢false q.0)
 added (fin false m e) (fin false n g) a b p q =

@@ -5,7 +5,6 @@ use Rattle.refusals.specs.declared.Refusal.{Refusal}
 use Rattle.training.specs.declared.Visit.{Visit}
 use Rattle.training.specs.declared.Visit.TheVariants.{Unchanged, Updated, Refused}
 use Rattle.training.specs.declared.Progress.{Progress}
-use Rattle.training.specs.declared.Trained.{Trained}
 use Rattle.training.specs.declared.Training.{Training}
 use Rattle.training.specs.declared.Training.TheVariants.{Accepted, Refused as NotTrained}
 use Rattle.shuffle.specs.Shuffle.{Deal, shuffled}
@@ -14,7 +13,7 @@ use Rattle.binary64.specs.Numbers.{nought, whole}
 use Rattle.lines.specs.Tables.{Model}
 use Rattle.lines.specs.Data.{Data}
 use Rattle.fronts.specs.Finite.{all_finite_of}
-use Rattle.training.specs.Rules.{Rule, Learned, beside_at_first, stops, averaged_by, ◌⊘◌}
+use Rattle.training.specs.Rules.{Rule, beside_at_first, stops, averaged_by, ◌⊘◌}
 use Rattle.training.specs.Visits.{TrainingState, visited}
 
 pub record Settings : Type 0 where

@@ -1,5 +1,5 @@
 -- The three updates, their stop tests and their final averaging: "The operations and their order are those of the three Rust loops, features in rising order". Assumes nothing.
-use Rattle.std.specs.Prelude.{Bool, true, false, cond, List, ℕ, zero, suc, get_or, set, Float}
+use Rattle.std.specs.Prelude.{Bool, cond, List, ℕ, zero, suc, get_or, set, Float}
 use Rattle.std.specs.Float.{nan, binary64}
 use Rattle.std.specs.Float.Ieee.{add, sub, mul, div, lt, le}
 use Rattle.binary64.specs.Smaller.{smaller}

@@ -5,7 +5,7 @@ ghost use Rattle.feature_gen.specs.Lent.{model_was};
 ghost use Rattle.lines.specs.Entry.{data_was};
 ghost use Rattle.parameters.specs.declared.Method.{Method};
 ghost use Rattle.trainers.specs.Promise.{Given};
-ghost use Rattle.trainers.specs.Lent.{buffers_were, buffers_are};
+ghost use Rattle.trainers.specs.Lent.{buffers_of};
 ghost use Rattle.training_exports.specs.Trains.{Trains};
 
 use answers::trainings::Trained;
@@ -43,8 +43,8 @@ pub extern "C" fn bodkinbloom_averaged_perceptron(
       model = model_was labels counts kinds destinations sources attribute_starts attribute_entries label_starts label_entries;
       corpus = data_was totals line_starts word_starts ids values references instance_weights;
     } in
-        let before = buffers_were weights running_sums true_counts predicted_counts order in
-        let after = buffers_are weights running_sums true_counts predicted_counts order in
+        let before = buffers_of weights.old running_sums.old true_counts.old predicted_counts.old order.old in
+        let after = buffers_of weights.new running_sums.new true_counts.new predicted_counts.new order.new in
         Trains (Method.AveragedPerceptron parameters) given before (record { answer = result; after = after }) }
 {
     let answer = trainers::train(
@@ -104,8 +104,8 @@ pub extern "C" fn bodkinbloom_passive_aggressive(
       model = model_was labels counts kinds destinations sources attribute_starts attribute_entries label_starts label_entries;
       corpus = data_was totals line_starts word_starts ids values references instance_weights;
     } in
-        let before = buffers_were weights running_sums true_counts predicted_counts order in
-        let after = buffers_are weights running_sums true_counts predicted_counts order in
+        let before = buffers_of weights.old running_sums.old true_counts.old predicted_counts.old order.old in
+        let after = buffers_of weights.new running_sums.new true_counts.new predicted_counts.new order.new in
         Trains (Method.PassiveAggressive parameters) given before (record { answer = result; after = after }) }
 {
     let answer = trainers::train(
@@ -165,8 +165,8 @@ pub extern "C" fn bodkinbloom_arow(
       model = model_was labels counts kinds destinations sources attribute_starts attribute_entries label_starts label_entries;
       corpus = data_was totals line_starts word_starts ids values references instance_weights;
     } in
-        let before = buffers_were weights covariance true_counts predicted_counts order in
-        let after = buffers_are weights covariance true_counts predicted_counts order in
+        let before = buffers_of weights.old covariance.old true_counts.old predicted_counts.old order.old in
+        let after = buffers_of weights.new covariance.new true_counts.new predicted_counts.new order.new in
         Trains (Method.Arow parameters) given before (record { answer = result; after = after }) }
 {
     let trained = trainers::train(

@@ -161,7 +161,7 @@ module _ (features : ℕ) (counter : Float) (s rest : Learned) (has : Both featu
 
 pub averages_front : AveragesFront
 unfolding averaged_by
-averages_front perceptron features counter s rest has = averages features counter s rest has
-averages_front (passive variant c sensitive true) features counter s rest has = averages features counter s rest has
-averages_front (passive variant c sensitive false) features counter s rest has = refl
-averages_front (arow variance gamma) features counter s rest has = refl
+averages_front perceptron features counter s rest enough = averages features counter s rest enough
+averages_front (passive variant c sensitive true) features counter s rest enough = averages features counter s rest enough
+averages_front (passive variant c sensitive false) features counter s rest _ = refl
+averages_front (arow variance gamma) features counter s rest _ = refl

@@ -28,6 +28,8 @@ module _ (f : Format) where
 
   -- so two numbers that the format holds are the same where these are
   unique : (x : Float) (s : Bool) (m : ℕ) (e : ℤ) → T (fits f x) → T (fits f (fin s m e)) → HasValue x s (m * up e) (down e) → x ≡ fin s m e
+  unique nan s m e p q v = elim v [ ]
+  unique (inf _) s m e p q v = elim v [ ]
   unique (fin t n g) s m e p q v =
       sym (of_bits-to_bits f (fin t n g) p) ∙ ap (of_bits f) (same_bits t n m g e v.1 ∙ ap (λ (b : Bool). to_bits f (fin b m e)) v.0) ∙ of_bits-to_bits f (fin s m e) q
 

@@ -1,8 +1,8 @@
 -- What decoding a line answers means what `Meaning` says: the check's rows, and the answer that tells them. Assumes nothing.
-use mathlib.Core.Path.{◌≡◌, sym, ap, ◌∙◌}
+use mathlib.Core.Path.{sym, ap, ◌∙◌}
 use mathlib.Core.List.{List, [], ◌∷◌}
 use mathlib.Core.Logic.{◌↔◌}
-use Prim.Native.Nat.{ℕ, ◌≤◌, ◌<◌}
+use Prim.Native.Nat.{ℕ, ◌<◌}
 use native.Mathlib.Omega.{arith}
 use lib.Ieee.{Float}
 use Rattle.score_tables.proofs.Laws.{sized_of}
@@ -16,7 +16,7 @@ use Rattle.refusals.specs.Refusals.{numbered}
 use Rattle.refusals.specs.Said.{or_refused}
 use Rattle.refusals.proofs.Said.{refused_said, accepted_said}
 use Rattle.best_path.specs.Decoded.{decoded_sum}
-use Rattle.best_path.specs.Lead.{Lead, lead}
+use Rattle.best_path.specs.Lead.{lead}
 use Rattle.viterbi.specs.Promise.{SumAndLead, decoded, scores_of, checked_of, answer_to}
 
 module _ (labels words : ℕ) (transitions states : List Float) (path : List ℕ) where

@@ -1,6 +1,5 @@
 -- `answer_line::digit` meets its contract. Assumes nothing.
 use native.Mathlib.Omega.{arith}
-use borrow.Author.Rules.{rules}
 use borrow.Author.Tests.{lt-ltb, le-ltb}
 use Rattle.answer_line.specs.Digits.{digit}
 use Rattle.answer_line.proofs.digit.Goals as goal

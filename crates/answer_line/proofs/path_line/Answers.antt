@@ -21,15 +21,23 @@ room_1 c = room_next _ c.put_text-word.ensures c.requires.room_for
 room_2 : (c : After-put_digits-bits) →
     let a = c.args in
     RoomFor (space ∷ (joined_labels a.labels.now ++ (line_feed ∷ []))) c.put_digits-bits.new.line c.put_digits-bits.result
-room_2 c = room_next _ c.put_digits-bits.ensures (room_1 c)
+unfolding path_line_of
+room_2 c = room_next _ c.put_digits-bits.ensures (room_next _ c.put_text-word.ensures c.requires.room_for)
 
 room_3 : (c : After-put_byte-gap) →
     let a = c.args in
     RoomFor (joined_labels a.labels.now ++ (line_feed ∷ [])) c.put_byte-gap.new.buffer c.put_byte-gap.result
-room_3 c = room_next _ c.put_byte-gap.ensures (room_2 c)
+unfolding path_line_of
+room_3 c =
+    room_next _ c.put_byte-gap.ensures
+    (room_next _ c.put_digits-bits.ensures (room_next _ c.put_text-word.ensures c.requires.room_for))
 
 room_4 : (c : After-put_labels-end) → RoomFor (line_feed ∷ []) c.put_labels-end.new.line c.put_labels-end.result
-room_4 c = room_next _ c.put_labels-end.ensures (room_3 c)
+unfolding path_line_of
+room_4 c =
+    room_next _ c.put_labels-end.ensures
+    (room_next _ c.put_byte-gap.ensures
+    (room_next _ c.put_digits-bits.ensures (room_next _ c.put_text-word.ensures c.requires.room_for)))
 
 done : (c : After-put_byte) →
     let a = c.args in

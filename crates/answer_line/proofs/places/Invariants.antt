@@ -1,9 +1,7 @@
 -- `answer_line::places` meets its contract. The loop's invariant: the places counted and those of the rest make all of them, and the rest has no more than are left of twenty. Assumes nothing.
 use Prim.Native.Nat.{◌≤◌, ◌<◌, ◌+◌, ◌-◌, ◌^◌}
-use mathlib.Core.Path.{◌≡◌, refl}
-use native.Mathlib.Omega.{arith}
+use mathlib.Core.Path.{◌≡◌}
 use Rattle.answer_line.specs.Digits.{places_within, decimal_places}
-use Rattle.answer_line.proofs.Laws.{divided, one_place}
 use Rattle.answer_line.proofs.places.Given as goal
 
 abbrev pub invariant-loop-rest : goal.invariant-loop-rest

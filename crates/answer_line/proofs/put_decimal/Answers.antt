@@ -12,7 +12,7 @@ pub put_digits-requires : goal.put_digits-requires
 put_digits-requires c = record { base_nonzero = search rules; k_in_bounds = omega (arith, length_decimal c.args.n, c.requires.room) }
 
 pub shape_of-line : goal.shape_of-line
-shape_of-line c = c.put_digits.auto.0
+shape_of-line c = c.put_digits.auto.line
 
 pub returns : goal.returns
 unfolding decimal

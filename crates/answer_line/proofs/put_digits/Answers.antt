@@ -1,11 +1,7 @@
 -- `answer_line::put_digits` meets its contract. The loop's invariant: storing the digits that are left before those stored gives all of them. Assumes nothing.
-use Prim.Native.Nat.{◌≤◌}
-use mathlib.Core.Path.{◌≡◌, ◌∙◌}
+use mathlib.Core.Path.{◌∙◌}
 use native.Mathlib.Omega.{arith}
-use borrow.Author.Rules.{rules}
-use lib.ListN.{length, length-set}
-use Rattle.byte_buffers.specs.Stored.{stored}
-use Rattle.answer_line.specs.Digits.{digits}
+use lib.ListN.{length-set}
 use Rattle.answer_line.proofs.Laws.{digit_below, digits_more, digits_end, length_digits}
 use Rattle.answer_line.proofs.put_digits.Goals as goal
 

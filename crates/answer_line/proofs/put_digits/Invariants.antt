@@ -1,12 +1,9 @@
 -- `answer_line::put_digits` meets its contract. The loop's invariant: storing the digits that are left before those stored gives all of them. Assumes nothing.
 use Prim.Native.Nat.{◌≤◌}
-use mathlib.Core.Path.{◌≡◌, ◌∙◌}
-use native.Mathlib.Omega.{arith}
-use borrow.Author.Rules.{rules}
-use lib.ListN.{length, length-set}
+use mathlib.Core.Path.{◌≡◌}
+use lib.ListN.{length}
 use Rattle.byte_buffers.specs.Stored.{stored}
 use Rattle.answer_line.specs.Digits.{digits}
-use Rattle.answer_line.proofs.Laws.{digit_below, digits_more, digits_end, length_digits}
 use Rattle.answer_line.proofs.put_digits.Given as goal
 
 abbrev pub invariant-loop-i : goal.invariant-loop-i

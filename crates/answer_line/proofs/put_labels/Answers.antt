@@ -1,9 +1,8 @@
 -- `answer_line::put_labels` meets its contract. The loop's invariant: there is room for the labels that are left, and whatever writes them has written all but the first. Assumes nothing.
 use mathlib.Core.Path.{sym, ap}
-use mathlib.Core.List.{List, ◌∷◌, ◌++◌}
-use Prim.Native.Nat.{ℕ, ◌+◌, ◌-◌}
-use borrow.Author.Rules.{rules}
-use lib.ListN.{length, get_or, drop}
+use mathlib.Core.List.{◌∷◌, ◌++◌}
+use Prim.Native.Nat.{◌+◌}
+use lib.ListN.{get_or, drop}
 use Rattle.answer_line.specs.Digits.{decimal}
 use Rattle.byte_buffers.specs.Stored.{RoomFor, Put}
 use Rattle.byte_buffers.proofs.Laws.{put_then, put_nothing, put_length, put_as, room_first, room_next, room_as}
@@ -31,7 +30,7 @@ done : (c : After-loop-i) →
     Put (joined_labels a.labels.now) a.line.now a.start c.loop-i.at c.loop-i.line
 done c =
     put_as (sym (first_label c.args.labels.now c.requires.labels_nonzero))
-    (put_then (first c) (c.loop-i.invariant.1 _ _ (put_nothing (no_label _ _ c.loop-i-test.false))))
+    (put_then (put_as (ap decimal c.wide.ensures) c.put_decimal-at.ensures) (c.loop-i.invariant.1 _ _ (put_nothing (no_label _ _ c.loop-i-test.false))))
 
 -- the room for the first, and for the next in a turn
 room_1 : (c : Start) → RoomFor (decimal (get_or c.args.labels.now 0 0) ++ further_labels (drop 1 c.args.labels.now)) c.args.line.now c.args.start

@@ -1,7 +1,6 @@
 -- `answer_line::put_text` meets its contract: its bytes from the first to the last are the text. Assumes nothing.
 use mathlib.Core.Path.{sym}
 use native.Mathlib.Omega.{arith}
-use borrow.Author.Rules.{rules}
 use lib.Seq.{take-length}
 use Rattle.byte_buffers.proofs.Laws.{put_as, room_as}
 use Rattle.answer_line.proofs.put_text.Goals as goal

@@ -1,5 +1,5 @@
 -- `answer_line::refused_line` meets its contract: its parts, one after another, are the line. Assumes nothing.
-use mathlib.Core.Path.{refl, sym, ap}
+use mathlib.Core.Path.{sym, ap}
 use mathlib.Core.List.{[], ◌∷◌, ◌++◌}
 use Rattle.answer_line.specs.Digits.{decimal}
 use Rattle.byte_buffers.specs.Stored.{RoomFor, Put}
@@ -15,31 +15,34 @@ room_1 : (c : After-put_text-word) →
 unfolding refused_line_of
 room_1 c = room_next _ c.put_text-word.ensures c.requires
 
--- the number
-number : (c : After-put_decimal-first) →
-    Put (decimal c.args.number) c.put_text-word.new.line c.put_text-word.result c.put_decimal-first.result c.put_decimal-first.new.line
-number c =
-    put_as (ap decimal c.wide.ensures) c.put_decimal-first.ensures
-
 room_2 : (c : After-put_decimal-first) →
     let a = c.args in
     RoomFor (space ∷ (decimal a.place ++ (line_feed ∷ []))) c.put_decimal-first.new.line c.put_decimal-first.result
-room_2 c = room_next _ (number c) (room_1 c)
+unfolding refused_line_of
+room_2 c =
+    room_next _ (put_as (ap decimal c.wide.ensures) c.put_decimal-first.ensures) (room_next _ c.put_text-word.ensures c.requires)
 
 room_3 : (c : After-put_byte-gap) →
     let a = c.args in
     RoomFor (decimal a.place ++ (line_feed ∷ [])) c.put_byte-gap.new.buffer c.put_byte-gap.result
-room_3 c = room_next _ c.put_byte-gap.ensures (room_2 c)
+unfolding refused_line_of
+room_3 c =
+    room_next _ c.put_byte-gap.ensures
+    (room_next _ (put_as (ap decimal c.wide.ensures) c.put_decimal-first.ensures) (room_next _ c.put_text-word.ensures c.requires))
 
 room_4 : (c : After-put_decimal-second) → RoomFor (line_feed ∷ []) c.put_decimal-second.new.line c.put_decimal-second.result
-room_4 c = room_next _ c.put_decimal-second.ensures (room_3 c)
+unfolding refused_line_of
+room_4 c =
+    room_next _ c.put_decimal-second.ensures
+    (room_next _ c.put_byte-gap.ensures
+    (room_next _ (put_as (ap decimal c.wide.ensures) c.put_decimal-first.ensures) (room_next _ c.put_text-word.ensures c.requires)))
 
 done : (c : After-put_byte) →
     let a = c.args in
     Put (refused_line_of a.number a.place) a.line.now 0 c.put_byte.result c.put_byte.new.buffer
 unfolding refused_line_of
 done c =
-    put_then c.put_text-word.ensures (put_then (number c) (put_then c.put_byte-gap.ensures (put_then c.put_decimal-second.ensures c.put_byte.ensures)))
+    put_then c.put_text-word.ensures (put_then (put_as (ap decimal c.wide.ensures) c.put_decimal-first.ensures) (put_then c.put_byte-gap.ensures (put_then c.put_decimal-second.ensures c.put_byte.ensures)))
 
 pub put_text-word-requires : goal.put_text-word-requires
 unfolding refused_line_of

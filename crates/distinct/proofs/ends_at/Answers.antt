@@ -1,8 +1,5 @@
 -- `distinct::ends_at` meets its contract. Assumes nothing.
 use Rattle.distinct.proofs.Loops.{ends_inside, ends_behind}
-use borrow.Author.Rules.{rules}
-use Rattle.distinct.proofs.ends_at.Reads as reads
-use Rattle.distinct.proofs.ends_at.Lts as lts
 use Rattle.distinct.proofs.ends_at.Goals as goal
 
 pub returns-then-at-text : goal.returns-then-at-text

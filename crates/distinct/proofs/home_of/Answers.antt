@@ -3,13 +3,8 @@ use Prim.Native.Nat.{◌*◌}
 use native.Mathlib.Nat.{mod-lt}
 use lib.Dec.{lit<}
 use Rattle.distinct.proofs.Filing.{share_fits}
-use Prim.Native.Nat.{◌-◌}
 use native.Mathlib.Omega.{arith}
-use Rattle.distinct.proofs.Loops.{Hashing, hash_begins, hash_on, hash_ends}
-use borrow.Author.Rules.{rules}
-use Rattle.distinct.proofs.home_of.Reads as reads
-use Rattle.distinct.proofs.home_of.Lts as lts
-use Rattle.distinct.proofs.hash_byte.Reads as hash_byte_reads
+use Rattle.distinct.proofs.Loops.{hash_begins, hash_on, hash_ends}
 use Rattle.distinct.proofs.home_of.Goals as goal
 
 pub loop-i-init : goal.loop-i-init

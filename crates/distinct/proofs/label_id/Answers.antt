@@ -1,17 +1,11 @@
 -- `distinct::label_id` meets its contract. Assumes nothing.
 use mathlib.Core.Path.{◌∙◌, ap}
 use mathlib.Core.List.{List}
-use Prim.Native.Nat.{◌-◌}
 use native.Mathlib.Omega.{arith}
 use Rattle.layout.specs.Layout.{Bytes}
 use Rattle.text_tables.specs.Distinct.{id_in}
-use Rattle.distinct.specs.Names.{name_at, names_at}
-use Rattle.distinct.proofs.Loops.{Comparing, compare_begins, compare_here, compare_on, compare_ends, position_inside}
-use borrow.Author.Rules.{rules}
-use Rattle.distinct.proofs.label_id.Reads as reads
-use Rattle.distinct.proofs.label_id.Lts as lts
-use Rattle.distinct.proofs.same_name.Reads as same_name_reads
-use Rattle.lines.proofs.at.Reads as at_reads
+use Rattle.distinct.specs.Names.{name_at}
+use Rattle.distinct.proofs.Loops.{compare_begins, compare_here, compare_on, compare_ends, position_inside}
 use Rattle.distinct.proofs.label_id.Goals as goal
 
 pub loop-i-init : goal.loop-i-init
@@ -26,7 +20,7 @@ same_name-requires c =
     (c.requires.1, position_inside _ _ _ _ _ c.requires.0 c.loop-i-test.true c.at-p.ensures)
 
 pub returns-then-same_name : goal.returns-then-same_name
-returns-then-same_name c =
+returns-then-same_name c known k =
     compare_here _ _ _ _ _ _ _ c.requires.0.room c.loop-i-test.true c.loop-i.invariant c.at-p.ensures c.same_name.ensures c.if-same_name.true
     ∙ ap (λ (x : List Bytes). id_in x (name_at c.args.text.now c.args.from)) k.names
 
@@ -35,6 +29,6 @@ loop-i-preserved c =
     compare_on _ _ _ _ _ _ _ c.requires.0.room c.loop-i-test.true c.loop-i.invariant c.at-p.ensures c.same_name.ensures c.if-same_name.false
 
 pub returns : goal.returns
-returns c =
+returns c known k =
     compare_ends _ _ _ _ _ c.requires.0.room c.loop-i.invariant c.loop-i-test.false
     ∙ ap (λ (x : List Bytes). id_in x (name_at c.args.text.now c.args.from)) k.names

@@ -1,12 +1,6 @@
 -- `distinct::learn` meets its contract. Assumes nothing.
 use native.Mathlib.Omega.{arith}
 use Rattle.distinct.proofs.Learning.{searchable, slot_inside, name_new, name_old}
-use borrow.Author.Rules.{rules}
-use Rattle.distinct.proofs.learn.Reads as reads
-use Rattle.distinct.proofs.learn.Lts as lts
-use Rattle.distinct.proofs.in_slot.Reads as in_slot_reads
-use Rattle.distinct.proofs.seek.Reads as seek_reads
-use Rattle.lines.proofs.at.Reads as at_reads
 use Rattle.distinct.proofs.learn.Goals as goal
 
 pub seek-i-requires : goal.seek-i-requires
@@ -26,9 +20,9 @@ bounds-slots-i c =
     slot_inside _ _ _ _ _ _ c.requires.tabled.0 c.seek-i.ensures
 
 pub returns-then-v-eq0 : goal.returns-then-v-eq0
-returns-then-v-eq0 c =
+returns-then-v-eq0 c known k =
     name_new _ _ _ _ _ _ _ c.requires.tabled.0 c.seek-i.ensures c.at-v.ensures known k c.requires.count_in_bounds.0 (omega (arith, c.requires.tabled.1.1.low, c.requires.tabled.1.1.inside)) _ c.in_slot.ensures c.if-v-eq0.true
 
 pub returns : goal.returns
-returns c =
+returns c known k =
     name_old _ _ _ _ _ _ _ c.requires.tabled.0 c.seek-i.ensures c.at-v.ensures known k c.if-v-eq0.false

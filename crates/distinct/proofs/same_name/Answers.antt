@@ -1,12 +1,7 @@
 -- `distinct::same_name` meets its contract. Assumes nothing.
 use mathlib.Core.Path.{refl, sym}
-use Prim.Native.Nat.{◌-◌}
 use native.Mathlib.Omega.{arith}
-use Rattle.distinct.proofs.Raw.{Alike, alike_begins, alike_on, too_short, differs, alike_ends}
-use borrow.Author.Rules.{rules}
-use Rattle.distinct.proofs.same_name.Reads as reads
-use Rattle.distinct.proofs.same_name.Lts as lts
-use Rattle.distinct.proofs.ends_at.Reads as ends_at_reads
+use Rattle.distinct.proofs.Raw.{alike_begins, alike_on, too_short, differs, alike_ends}
 use Rattle.distinct.proofs.same_name.Goals as goal
 
 pub returns-then-text-p : goal.returns-then-text-p

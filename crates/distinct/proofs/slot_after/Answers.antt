@@ -1,9 +1,6 @@
 -- `distinct::slot_after` meets its contract. Assumes nothing.
 use native.Mathlib.Omega.{arith}
 use Rattle.distinct.proofs.Loops.{next_slot, first_slot}
-use borrow.Author.Rules.{rules}
-use Rattle.distinct.proofs.slot_after.Reads as reads
-use Rattle.distinct.proofs.slot_after.Lts as lts
 use Rattle.distinct.proofs.slot_after.Goals as goal
 
 pub returns-then-i-size : goal.returns-then-i-size

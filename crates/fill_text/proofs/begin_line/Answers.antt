@@ -1,6 +1,5 @@
 -- `fill_text::begin_line` meets its contract. Assumes nothing.
 use mathlib.Core.Path.{refl}
-use borrow.Author.Rules.{rules}
 use Rattle.fill_text.proofs.begin_line.Goals as goal
 
 pub returns-then-within : goal.returns-then-within

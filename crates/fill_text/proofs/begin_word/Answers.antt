@@ -2,7 +2,6 @@
 use mathlib.Core.Path.{refl}
 use native.Mathlib.Omega.{arith}
 use Rattle.fill_text.proofs.WordsOn.{id_few, begun_is, set_same}
-use borrow.Author.Rules.{rules}
 use Rattle.fill_text.proofs.begin_word.Goals as goal
 
 pub overflow_cast-references : goal.overflow_cast-references

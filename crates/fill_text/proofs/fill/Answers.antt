@@ -1,5 +1,4 @@
 -- `fill_text::fill` meets its contract. Assumes nothing.
-use native.Mathlib.Omega.{arith}
 use Rattle.layout.specs.Layout.{sequences}
 use Rattle.fill_text.specs.Filled.{distinct_labels, distinct_names}
 use Rattle.fill_text.proofs.Filling.{labels_placed, names_placed, labels_ready, names_ready, words_ready, attributes_ready, labels_are, names_are}
@@ -20,54 +19,6 @@ fill_words-requires c =
 pub fill_attributes-requires : goal.fill_attributes-requires
 fill_attributes-requires c =
     attributes_ready c.requires
-
-pub shape_of-line_starts : goal.shape_of-line_starts
-shape_of-line_starts c =
-    omega (arith, c.fill_words.kept)
-
-pub shape_of-word_starts : goal.shape_of-word_starts
-shape_of-word_starts c =
-    omega (arith, c.fill_words.kept)
-
-pub shape_of-ids : goal.shape_of-ids
-shape_of-ids c =
-    omega (arith, c.fill_attributes.kept)
-
-pub shape_of-values : goal.shape_of-values
-shape_of-values c =
-    omega (arith, c.fill_attributes.kept)
-
-pub shape_of-references : goal.shape_of-references
-shape_of-references c =
-    omega (arith, c.fill_words.kept)
-
-pub shape_of-weights : goal.shape_of-weights
-shape_of-weights c =
-    omega (arith, c.fill_words.kept)
-
-pub shape_of-label_starts : goal.shape_of-label_starts
-shape_of-label_starts c =
-    omega (arith, c.fill_names.kept)
-
-pub shape_of-label_bytes : goal.shape_of-label_bytes
-shape_of-label_bytes c =
-    omega (arith, c.fill_names.kept)
-
-pub shape_of-name_starts : goal.shape_of-name_starts
-shape_of-name_starts c =
-    omega (arith, c.fill_names-2.kept)
-
-pub shape_of-name_bytes : goal.shape_of-name_bytes
-shape_of-name_bytes c =
-    omega (arith, c.fill_names-2.kept)
-
-pub shape_of-scale_starts : goal.shape_of-scale_starts
-shape_of-scale_starts c =
-    omega (arith, c.fill_attributes.kept)
-
-pub shape_of-scales : goal.shape_of-scales
-shape_of-scales c =
-    omega (arith, c.fill_attributes.kept)
 
 pub returns : goal.returns
 returns c = λ h. (

@@ -1,9 +1,7 @@
 -- `fill_text::fill_attributes` meets its contract. Assumes nothing.
 use borrow.Author.Rules.{rules}
-use Prim.Native.Nat.{◌+◌, ◌-◌}
 use native.Mathlib.Omega.{arith}
-use lib.ListN.{length}
-use Rattle.fill_text.proofs.KeptOn.{KeptGoing, kept_start, kept_some, kept_now, kept_may, kept_again, kept_end, kept_laid}
+use Rattle.fill_text.proofs.KeptOn.{kept_start, kept_some, kept_now, kept_may, kept_again, kept_end, kept_laid}
 use Rattle.fill_text.proofs.fill_attributes.Goals as goal
 
 pub loop-cursor-init : goal.loop-cursor-init
@@ -29,8 +27,8 @@ loop-cursor-smaller c =
 
 pub loop-cursor-preserved : goal.loop-cursor-preserved
 loop-cursor-preserved c =
-    kept_again c.requires c.loop-cursor.invariant c.loop-cursor-test.true c.piece_at-span.ensures c.kept_Piece.ensures c.after-cursor.ensures
-    (omega (arith, c.kept_Piece.kept)) (omega (arith, c.kept_Piece.kept)) (omega (arith, c.kept_Piece.kept)) (omega (arith, c.kept_Piece.kept))
+    kept_again c.requires c.loop-cursor.invariant c.loop-cursor-test.true c.piece_at-span.ensures c.kept_piece-so_far.ensures c.after-cursor.ensures
+    (omega arith) (omega arith) (omega arith) (omega arith)
 
 pub overflow_cast-starts : goal.overflow_cast-starts
 overflow_cast-starts c =

@@ -1,9 +1,7 @@
 -- `fill_text::fill_attributes` meets its contract. Assumes nothing.
-use borrow.Author.Rules.{rules}
 use Prim.Native.Nat.{◌+◌, ◌-◌}
-use native.Mathlib.Omega.{arith}
 use lib.ListN.{length}
-use Rattle.fill_text.proofs.KeptOn.{KeptGoing, kept_start, kept_some, kept_now, kept_may, kept_again, kept_end, kept_laid}
+use Rattle.fill_text.proofs.KeptOn.{KeptGoing}
 use Rattle.fill_text.proofs.fill_attributes.Given as goal
 
 abbrev pub invariant-loop-cursor : goal.invariant-loop-cursor

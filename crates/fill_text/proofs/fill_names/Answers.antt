@@ -1,8 +1,7 @@
 -- `fill_text::fill_names` meets its contract. Assumes nothing.
 use borrow.Author.Rules.{rules}
-use Prim.Native.Nat.{◌-◌}
 use native.Mathlib.Omega.{arith}
-use Rattle.fill_text.proofs.Naming.{name_stands, place_small, NamesSoFar, names_start, unescape_asks, names_again, names_end}
+use Rattle.fill_text.proofs.Naming.{name_stands, place_small, names_start, unescape_asks, names_again, names_end}
 use Rattle.fill_text.proofs.fill_names.Goals as goal
 
 pub loop-i-init : goal.loop-i-init
@@ -28,7 +27,8 @@ bounds-starts-i c =
 
 pub unescape-at-requires : goal.unescape-at-requires
 unescape-at-requires c =
-    unescape_asks c.requires c.loop-i.invariant c.loop-i-test.true c.at-from.ensures c.name_end-to.ensures
+    let a = unescape_asks c.requires c.loop-i.invariant c.loop-i-test.true c.at-from.ensures c.name_end-to.ensures in
+    record { from_le_to = a.0; room_for = a.1 }
 
 pub loop-i-preserved : goal.loop-i-preserved
 loop-i-preserved c =

@@ -1,8 +1,6 @@
 -- `fill_text::fill_names` meets its contract. Assumes nothing.
-use borrow.Author.Rules.{rules}
 use Prim.Native.Nat.{◌-◌}
-use native.Mathlib.Omega.{arith}
-use Rattle.fill_text.proofs.Naming.{name_stands, place_small, NamesSoFar, names_start, unescape_asks, names_again, names_end}
+use Rattle.fill_text.proofs.Naming.{NamesSoFar}
 use Rattle.fill_text.proofs.fill_names.Given as goal
 
 abbrev pub invariant-loop-i : goal.invariant-loop-i

@@ -1,9 +1,7 @@
 -- `fill_text::fill_words` meets its contract. Assumes nothing.
 use borrow.Author.Rules.{rules}
-use Prim.Native.Nat.{◌+◌, ◌-◌}
 use native.Mathlib.Omega.{arith}
-use lib.ListN.{length}
-use Rattle.fill_text.proofs.WordsOn.{WordsGoing, words_start, words_some, words_now, words_may, words_again, words_end, words_laid, one_is}
+use Rattle.fill_text.proofs.WordsOn.{words_start, words_some, words_now, words_may, words_again, words_end, words_laid, one_is}
 use Rattle.fill_text.proofs.fill_words.Goals as goal
 
 pub loop-cursor-init : goal.loop-cursor-init
@@ -29,7 +27,7 @@ loop-cursor-smaller c =
 
 pub loop-cursor-preserved : goal.loop-cursor-preserved
 loop-cursor-preserved c =
-    words_again c.requires c.loop-cursor.invariant c.loop-cursor-test.true c.piece_at-span.ensures c.word_piece-so_far.ensures c.after-cursor.ensures (omega (arith, c.word_piece-so_far.kept)) (omega (arith, c.word_piece-so_far.kept)) (omega (arith, c.word_piece-so_far.kept))
+    words_again c.requires c.loop-cursor.invariant c.loop-cursor-test.true c.piece_at-span.ensures c.word_piece-so_far.ensures c.after-cursor.ensures (omega arith) (omega arith) (omega arith)
 
 pub overflow_cast-line_starts : goal.overflow_cast-line_starts
 overflow_cast-line_starts c =

@@ -1,9 +1,7 @@
 -- `fill_text::fill_words` meets its contract. Assumes nothing.
-use borrow.Author.Rules.{rules}
 use Prim.Native.Nat.{◌+◌, ◌-◌}
-use native.Mathlib.Omega.{arith}
 use lib.ListN.{length}
-use Rattle.fill_text.proofs.WordsOn.{WordsGoing, words_start, words_some, words_now, words_may, words_again, words_end, words_laid, one_is}
+use Rattle.fill_text.proofs.WordsOn.{WordsGoing}
 use Rattle.fill_text.proofs.fill_words.Given as goal
 
 abbrev pub invariant-loop-cursor : goal.invariant-loop-cursor

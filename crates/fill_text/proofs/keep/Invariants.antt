@@ -1,8 +1,6 @@
 -- `fill_text::keep` meets its contract. Assumes nothing.
-use borrow.Author.Rules.{rules}
 use Prim.Native.Nat.{◌-◌}
-use native.Mathlib.Omega.{arith}
-use Rattle.fill_text.proofs.Laying.{Keeping, keep_starts, keep_room, keep_on, keep_over}
+use Rattle.fill_text.proofs.Laying.{Keeping}
 use Rattle.fill_text.proofs.keep.Given as goal
 
 abbrev pub invariant-loop-i : goal.invariant-loop-i

@@ -1,6 +1,5 @@
 -- `fill_text::kept_piece` meets its contract. Assumes nothing.
 use Rattle.fill_text.proofs.KeptOn.{kept_blank, kept_label, kept_attribute}
-use borrow.Author.Rules.{rules}
 use Rattle.fill_text.proofs.kept_piece.Goals as goal
 
 pub put_attribute-end-requires : goal.put_attribute-end-requires

@@ -2,7 +2,6 @@
 use mathlib.Core.Path.{refl}
 use native.Mathlib.Omega.{arith}
 use Rattle.fill_text.proofs.WordsOn.{id_few, set_same}
-use borrow.Author.Rules.{rules}
 use Rattle.fill_text.proofs.put_attribute.Goals as goal
 
 pub overflow_cast-ids : goal.overflow_cast-ids

@@ -1,6 +1,5 @@
 -- `fill_text::word_piece` meets its contract. Assumes nothing.
 use Rattle.fill_text.proofs.WordsOn.{word_may, words_blank, words_attribute, words_label}
-use borrow.Author.Rules.{rules}
 use Rattle.fill_text.proofs.word_piece.Goals as goal
 
 pub begin_word-requires : goal.begin_word-requires

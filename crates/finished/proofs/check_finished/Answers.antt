@@ -14,4 +14,4 @@ pub loop-i-preserved : goal.loop-i-preserved
 loop-i-preserved c = step c.loop-i.invariant (omega arith) (rw c.is_finite-bad.ensures at c.if-bad.false)
 
 pub returns : goal.returns
-returns c = placed _ c.refuse_if.ensures c.loop-i.invariant (λ w. w.left) (λ w. (w.0.taken, rw w.2.ensures at w.3.taken)) c.loop-i-test.branch
+returns c = placed _ c.refuse_if.ensures c.loop-i.invariant (λ w. w.loop-i-test.false) (λ w. (w.loop-i-test.true, rw w.is_finite-bad.ensures at w.if-bad.true)) c.loop-i-test.branch

@@ -1,6 +1,5 @@
 -- `line_counts::add_note` meets its contract. Assumes nothing.
 use borrow.Author.Tests.{eq-eqb, ne_eqb}
-use borrow.Author.Rules.{rules}
 use Rattle.lines.specs.Passes.{raised}
 use Rattle.line_counts.specs.Noted.{note_added}
 use Rattle.line_counts.proofs.add_note.Goals as goal

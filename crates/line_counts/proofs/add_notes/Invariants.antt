@@ -1,12 +1,9 @@
 -- `line_counts::add_notes` meets its contract. The loop's invariant: the notes before this one are added. Assumes nothing.
 use Prim.Native.Nat.{◌≤◌, ◌-◌}
-use mathlib.Core.Path.{◌≡◌, refl, ◌∙◌}
-use native.Mathlib.Omega.{arith}
-use borrow.Author.Rules.{rules}
+use mathlib.Core.Path.{◌≡◌}
 use lib.ListN.{length}
 use Rattle.lines.specs.Passes.{through}
-use Rattle.lines.proofs.Laws.{through_none, through_next, through_end}
-use Rattle.line_counts.specs.Noted.{note_added, notes_added}
+use Rattle.line_counts.specs.Noted.{note_added}
 use Rattle.line_counts.proofs.add_notes.Given as goal
 
 abbrev pub invariant-loop-j : goal.invariant-loop-j

@@ -1,12 +1,9 @@
 -- `line_counts::count_attribute` meets its contract. The loop's invariant: once the notes are added, the entries before this one have counted. Assumes nothing.
 use Prim.Native.Nat.{◌-◌}
-use mathlib.Core.Path.{refl}
 use mathlib.Core.List.{[]}
-use native.Mathlib.Omega.{arith}
-use borrow.Author.Rules.{rules}
 use Rattle.lines.specs.Counted.{state_count}
 use Rattle.lines.specs.Lent.{bare, with_counts}
-use Rattle.lines.proofs.Laws.{Passed, passed_none, passed_next, passed_end}
+use Rattle.lines.proofs.Laws.{Passed}
 use Rattle.line_counts.specs.Noted.{notes_added}
 use Rattle.line_counts.proofs.Notes.{Going}
 use Rattle.line_counts.proofs.count_attribute.Given as goal

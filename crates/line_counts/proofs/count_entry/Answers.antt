@@ -3,7 +3,6 @@ use Prim.Native.Nat.{zero-le}
 use mathlib.Core.Path.{◌≡◌, sym, ◌∙◌}
 use mathlib.Core.List.{[]}
 use native.Mathlib.Omega.{arith}
-use borrow.Author.Rules.{rules}
 use lib.Dec.{eqb}
 use lib.ListN.{get_or}
 use Rattle.lines.specs.Counted.{state_count}
@@ -17,14 +16,13 @@ use Rattle.line_counts.proofs.count_entry.Goals as goal
 noted : (c : After-note-next) → Notes c.args.features c.note-next.new.who c.note-next.new.what c.note-next.result
 noted c =
     let p = c.requires in
-    still_notes _ _ (eqb (get_or c.args.destinations.now (get_or c.args.entries.now c.args.e 0) 0) c.args.label) p.1.1.1.0 p.1.1.1.1.0 p.1.1.0 c.note-next.ensures.who_after c.note-next.ensures.what_after c.note-next.ensures.value
+    still_notes _ _ (eqb (get_or c.args.destinations.now (get_or c.args.entries.now c.args.e 0) 0) c.args.label) p.notes p.noted_in_bounds p.e_bound c.note-next.ensures.who_after c.note-next.ensures.what_after c.note-next.ensures.value
 
 -- and what the counts are once that is added
 counted : (c : After-note-next) → notes_added c.args.kinds.now c.note-next.new.who c.note-next.new.what c.note-next.result c.args.counts.now ≡ state_count (with_counts bare c.args.features c.args.kinds.now c.args.destinations.now [] 0 [] c.args.entries.now 0 [] []) c.args.label c.args.value c.args.e (notes_added c.args.kinds.now c.args.who.now c.args.what.now c.args.noted c.args.counts.now)
 counted c =
     let p = c.requires in
-    let h = p.1.1.1.1.0 in
-    entry_noted _ _ _ _ _ _ _ _ h (omega (arith, h, p.1.1.1.0.level)) c.note-next.ensures.who_after c.note-next.ensures.what_after c.note-next.ensures.value
+    entry_noted _ _ _ _ _ _ _ _ p.noted_in_bounds (omega (arith, p.noted_in_bounds, p.notes.level)) c.note-next.ensures.who_after c.note-next.ensures.what_after c.note-next.ensures.value
 
 pub returns-then-next-who : goal.returns-then-next-who
 returns-then-next-who c =
@@ -33,8 +31,13 @@ returns-then-next-who c =
 pub add_notes-requires : goal.add_notes-requires
 add_notes-requires c =
     let p = c.requires in
-    record { features_in_bounds = p.0.kinded; notes = noted (goal.at.add_notes-requires c).After-note-next; features_in_bounds_2 = p.1.1.1.1.1 }
+    record { features_in_bounds = p.sound_counts.kinded; notes = noted (goal.at.add_notes-requires c).After-note-next; features_in_bounds_2 = p.features_in_bounds }
 
 pub returns : goal.returns
 returns c =
-    let n = noted (goal.at.returns c).After-note-next in record { notes_2 = record { there = zero-le; level = n.level; ids = λ j l. omega (arith, l) }; upper_bound = omega (arith, c.note-next.kept, c.requires.noted_in_bounds); counts_value = sym (settled_none _ _ _ _) ∙ c.add_notes.ensures ∙ counted (goal.at.returns c).After-note-next }
+    let n = noted (goal.at.returns c).After-note-next in
+    record {
+      notes_2 = record { there = zero-le; level = n.level; ids = λ j l. omega (arith, l) };
+      upper_bound = omega arith;
+      counts_value = sym (settled_none _ _ _ _) ∙ c.add_notes.ensures ∙ counted (goal.at.returns c).After-note-next;
+    }

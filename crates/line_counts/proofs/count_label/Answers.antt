@@ -1,13 +1,8 @@
 -- `line_counts::count_label` meets its contract. The loop's invariant: the entries before this one have counted. Assumes nothing.
-use Prim.Native.Nat.{◌-◌}
-use mathlib.Core.Path.{◌≡◌, refl}
-use mathlib.Core.List.{[]}
+use mathlib.Core.Path.{refl}
 use native.Mathlib.Omega.{arith}
 use borrow.Author.Rules.{rules}
-use lib.ListN.{length}
-use Rattle.lines.specs.Counted.{transition_count_of}
-use Rattle.lines.specs.Lent.{bare, with_counts}
-use Rattle.lines.proofs.Laws.{Passed, passed_none, passed_next, passed_end}
+use Rattle.lines.proofs.Laws.{passed_none, passed_next, passed_end}
 use Rattle.line_counts.proofs.count_label.Goals as goal
 
 pub loop-e-init : goal.loop-e-init

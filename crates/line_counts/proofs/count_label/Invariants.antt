@@ -1,13 +1,11 @@
 -- `line_counts::count_label` meets its contract. The loop's invariant: the entries before this one have counted. Assumes nothing.
 use Prim.Native.Nat.{◌-◌}
-use mathlib.Core.Path.{◌≡◌, refl}
+use mathlib.Core.Path.{◌≡◌}
 use mathlib.Core.List.{[]}
-use native.Mathlib.Omega.{arith}
-use borrow.Author.Rules.{rules}
 use lib.ListN.{length}
 use Rattle.lines.specs.Counted.{transition_count_of}
 use Rattle.lines.specs.Lent.{bare, with_counts}
-use Rattle.lines.proofs.Laws.{Passed, passed_none, passed_next, passed_end}
+use Rattle.lines.proofs.Laws.{Passed}
 use Rattle.line_counts.proofs.count_label.Given as goal
 
 abbrev pub invariant-loop-e : goal.invariant-loop-e

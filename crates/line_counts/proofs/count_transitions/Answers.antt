@@ -1,13 +1,10 @@
 -- `line_counts::count_transitions` meets its contract. The loop's invariant: the words before this one have counted. Assumes nothing.
 use Prim.Native.Nat.{◌-◌}
-use mathlib.Core.Path.{◌≡◌, refl}
-use mathlib.Core.List.{[]}
+use mathlib.Core.Path.{refl}
 use native.Mathlib.Omega.{arith}
 use borrow.Author.Rules.{rules}
-use lib.ListN.{length}
-use Rattle.lines.specs.Counted.{transition_count_of, counted_transition}
-use Rattle.lines.specs.Lent.{bare, with_counts}
-use Rattle.lines.proofs.Laws.{Passed, passed_none, passed_next, passed_end}
+use Rattle.lines.specs.Counted.{transition_count_of}
+use Rattle.lines.proofs.Laws.{passed_none, passed_next, passed_end}
 use Rattle.lines.proofs.Spans.{span_sound}
 use Rattle.line_counts.proofs.TransitionTurns.{transition_turn}
 use Rattle.line_counts.proofs.count_transitions.Goals as goal

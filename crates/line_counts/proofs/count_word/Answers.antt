@@ -1,23 +1,16 @@
 -- `line_counts::count_word` meets its contract. The loop's invariant: once the notes are added, the attributes before this one have counted; this one and the places of its list are at hand. Assumes nothing.
-use Prim.Native.Nat.{◌-◌}
-use mathlib.Core.Path.{◌≡◌, refl}
-use mathlib.Core.List.{[]}
+use mathlib.Core.Path.{refl}
 use native.Mathlib.Omega.{arith}
-use borrow.Author.Rules.{rules}
-use Rattle.lines.specs.Spans.{attribute_before_of, span_of}
-use Rattle.lines.specs.Counted.{state_count, counted_at}
-use Rattle.lines.specs.Lent.{bare, with_counts}
-use Rattle.lines.proofs.Laws.{between_nothing, Passed, passed_none, passed_next, passed_end}
+use Rattle.lines.specs.Counted.{state_count}
+use Rattle.lines.proofs.Laws.{between_nothing, passed_none, passed_next, passed_end}
 use Rattle.lines.proofs.Spans.{span_sound}
-use Rattle.line_counts.specs.Noted.{notes_added}
-use Rattle.line_counts.proofs.Notes.{Going}
 use Rattle.line_counts.proofs.StateTurns.{counted_turn}
 use Rattle.line_counts.proofs.count_word.Goals as goal
 
 pub loop-a-init : goal.loop-a-init
 loop-a-init c =
-    let p = c.requires.1.1.1.1 in (
-      record { notes = p.0; free = p.1.0; who_long = refl; what_long = refl; counts_long = refl },
+    let p = c.requires in (
+      record { notes = p.notes; free = p.noted_in_bounds; who_long = refl; what_long = refl; counts_long = refl },
       passed_none _ _ _,
       c.attribute_before-attribute.ensures,
       c.attribute_span-span.ensures,
@@ -30,7 +23,7 @@ pub count_attribute-n-requires : goal.count_attribute-n-requires
 count_attribute-n-requires c =
     let p = c.requires in
     let g = c.loop-a.invariant.0 in
-    record { sound_counts = p.0; sound_span = rw c.loop-a.invariant.3 (span_sound p.1.0 _); notes = g.notes; noted_in_bounds = g.free; features_in_bounds = omega (arith, p.1.1.1.1.1.1, g.counts_long) }
+    record { sound_counts = p.sound_counts; sound_span = rw c.loop-a.invariant.3 (span_sound p.sound_lists _); notes = g.notes; noted_in_bounds = g.free; features_in_bounds = omega (arith, p.features_in_bounds, g.counts_long) }
 
 pub overflow_add-a-in-loop-a : goal.overflow_add-a-in-loop-a
 overflow_add-a-in-loop-a c =
@@ -47,13 +40,13 @@ loop-a-preserved c =
     let h = c.loop-a-test.true in
     let q = c.count_attribute-n.ensures in (
       record {
-        notes = q.0;
-        free = q.1.0;
-        who_long = omega (arith, c.count_attribute-n.kept, i.0.who_long);
-        what_long = omega (arith, c.count_attribute-n.kept, i.0.what_long);
-        counts_long = omega (arith, c.count_attribute-n.kept, i.0.counts_long);
+        notes = q.notes_2;
+        free = q.upper_bound;
+        who_long = omega (arith, i.0.who_long);
+        what_long = omega (arith, i.0.what_long);
+        counts_long = omega (arith, i.0.counts_long);
       },
-      passed_next i.1 h (counted_turn _ _ _ _ _ _ h i.2 i.3 q.1.1),
+      passed_next i.1 h (counted_turn _ _ _ _ _ _ h i.2 i.3 q.counts_value),
       c.attribute_before-next.ensures,
       c.attribute_span-ahead.ensures,
     )
@@ -74,5 +67,5 @@ returns-after-loop-a c =
 
 pub returns-else-from-to : goal.returns-else-from-to
 returns-else-from-to c =
-    let p = c.requires.1.1.1.1 in
-    record { notes_2 = p.0; upper_bound = p.1.0; counts_value = between_nothing _ _ _ _ c.if-from-to.false }
+    let p = c.requires in
+    record { notes_2 = p.notes; upper_bound = p.noted_in_bounds; counts_value = between_nothing _ _ _ _ c.if-from-to.false }

@@ -1,17 +1,13 @@
 -- `line_counts::count_word` meets its contract. The loop's invariant: once the notes are added, the attributes before this one have counted; this one and the places of its list are at hand. Assumes nothing.
 use Prim.Native.Nat.{◌-◌}
-use mathlib.Core.Path.{◌≡◌, refl}
+use mathlib.Core.Path.{◌≡◌}
 use mathlib.Core.List.{[]}
-use native.Mathlib.Omega.{arith}
-use borrow.Author.Rules.{rules}
 use Rattle.lines.specs.Spans.{attribute_before_of, span_of}
-use Rattle.lines.specs.Counted.{state_count, counted_at}
+use Rattle.lines.specs.Counted.{counted_at}
 use Rattle.lines.specs.Lent.{bare, with_counts}
-use Rattle.lines.proofs.Laws.{between_nothing, Passed, passed_none, passed_next, passed_end}
-use Rattle.lines.proofs.Spans.{span_sound}
+use Rattle.lines.proofs.Laws.{Passed}
 use Rattle.line_counts.specs.Noted.{notes_added}
 use Rattle.line_counts.proofs.Notes.{Going}
-use Rattle.line_counts.proofs.StateTurns.{counted_turn}
 use Rattle.line_counts.proofs.count_word.Given as goal
 
 abbrev pub invariant-loop-a : goal.invariant-loop-a

@@ -1,16 +1,10 @@
 -- `line_counts::count_words` meets its contract. The loop's invariant: once the notes are added, the words before this one have counted. Assumes nothing.
-use Prim.Native.Nat.{◌≤◌, ◌<◌, ◌-◌, ◌+◌, zero-le}
-use mathlib.Core.Path.{◌≡◌, refl, sym, ◌∙◌}
-use mathlib.Core.List.{[]}
+use Prim.Native.Nat.{◌<◌, ◌+◌, zero-le}
+use mathlib.Core.Path.{refl, sym, ◌∙◌}
 use native.Mathlib.Omega.{arith}
-use borrow.Author.Rules.{rules}
-use lib.ListN.{length}
-use Rattle.lines.specs.Passes.{through}
-use Rattle.lines.specs.Counted.{counted_at, counted_word}
-use Rattle.lines.specs.Lent.{bare, with_counts}
+use Rattle.lines.specs.Counted.{counted_at}
 use Rattle.lines.proofs.Laws.{through_none, through_next, through_end}
-use Rattle.line_counts.specs.Noted.{notes_added}
-use Rattle.line_counts.proofs.Notes.{settled_none, Going}
+use Rattle.line_counts.proofs.Notes.{settled_none}
 use Rattle.line_counts.proofs.StateTurns.{word_turn}
 use Rattle.line_counts.proofs.count_words.Goals as goal
 
@@ -51,15 +45,15 @@ loop-word-preserved c =
     let q = c.count_word-noted.ensures in (
       omega (arith, c.loop-word-test.true),
       record {
-        notes = q.0;
-        free = q.1.0;
-        who_long = omega (arith, c.count_word-noted.kept, i.1.who_long);
-        what_long = omega (arith, c.count_word-noted.kept, i.1.what_long);
-        counts_long = omega (arith, c.count_word-noted.kept, i.1.counts_long);
+        notes = q.notes_2;
+        free = q.upper_bound;
+        who_long = omega (arith, i.1.who_long);
+        what_long = omega (arith, i.1.what_long);
+        counts_long = omega (arith, i.1.counts_long);
       },
       i.2,
       i.3,
-      through_next _ _ _ i.4 (word_turn _ _ _ _ _ _ _ _ c.at-from.ensures c.at-to.ensures q.1.1),
+      through_next _ _ _ i.4 (word_turn _ _ _ _ _ _ _ _ c.at-from.ensures c.at-to.ensures q.counts_value),
     )
 
 pub slice_bounds-add_notes-end : goal.slice_bounds-add_notes-end

@@ -1,17 +1,13 @@
 -- `line_counts::count_words` meets its contract. The loop's invariant: once the notes are added, the words before this one have counted. Assumes nothing.
-use Prim.Native.Nat.{◌≤◌, ◌<◌, ◌-◌, ◌+◌, zero-le}
-use mathlib.Core.Path.{◌≡◌, refl, sym, ◌∙◌}
+use Prim.Native.Nat.{◌≤◌, ◌-◌}
+use mathlib.Core.Path.{◌≡◌}
 use mathlib.Core.List.{[]}
-use native.Mathlib.Omega.{arith}
-use borrow.Author.Rules.{rules}
 use lib.ListN.{length}
 use Rattle.lines.specs.Passes.{through}
-use Rattle.lines.specs.Counted.{counted_at, counted_word}
+use Rattle.lines.specs.Counted.{counted_word}
 use Rattle.lines.specs.Lent.{bare, with_counts}
-use Rattle.lines.proofs.Laws.{through_none, through_next, through_end}
 use Rattle.line_counts.specs.Noted.{notes_added}
-use Rattle.line_counts.proofs.Notes.{settled_none, Going}
-use Rattle.line_counts.proofs.StateTurns.{word_turn}
+use Rattle.line_counts.proofs.Notes.{Going}
 use Rattle.line_counts.proofs.count_words.Given as goal
 
 abbrev pub invariant-loop-word : goal.invariant-loop-word

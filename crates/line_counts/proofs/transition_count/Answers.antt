@@ -4,7 +4,6 @@ use mathlib.Core.Bool.{and-false}
 use native.Mathlib.Omega.{arith}
 use lib.ListN.{get_or}
 use borrow.Author.Tests.{eq-eqb, ne_eqb}
-use borrow.Author.Rules.{rules}
 use Rattle.lines.specs.Passes.{raised}
 use Rattle.lines.specs.Counted.{transition_count_of}
 use Rattle.lines.proofs.Literals.{literal_one}

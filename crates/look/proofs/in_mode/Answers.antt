@@ -1,7 +1,5 @@
 -- `look::in_mode` meets its contract. Assumes nothing.
 use mathlib.Core.Path.{refl}
-use Rattle.look.proofs.in_mode.Reads as reads
-use Rattle.look.proofs.in_mode.Lts as lts
 use Rattle.look.proofs.in_mode.Goals as goal
 
 pub returns-then-slashed : goal.returns-then-slashed

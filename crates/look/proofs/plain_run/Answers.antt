@@ -1,11 +1,7 @@
 -- `look::plain_run` meets its contract. Assumes nothing.
-use Prim.Native.Nat.{◌-◌}
 use native.Mathlib.Omega.{arith}
 use Rattle.layout.proofs.Laws.{step_plain}
-use Rattle.look.specs.Windows.{Passed}
 use Rattle.look.proofs.Walk.{none_yet, one_further}
-use Rattle.look.proofs.plain_run.Reads as reads
-use Rattle.look.proofs.plain_run.Lts as lts
 use Rattle.look.proofs.plain_run.Goals as goal
 
 pub loop-i-init : goal.loop-i-init

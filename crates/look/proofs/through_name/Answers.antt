@@ -1,13 +1,6 @@
 -- `look::through_name` meets its contract. Assumes nothing.
 use mathlib.Core.Bool.{true, false}
 use Rattle.look.proofs.Turns.{named, later, walked_on}
-use borrow.Author.Rules.{rules}
-use Rattle.look.proofs.through_name.Reads as reads
-use Rattle.look.proofs.through_name.Lts as lts
-use Rattle.look.proofs.in_mode.Reads as in_mode_reads
-use Rattle.look.proofs.behind.Reads as behind_reads
-use Rattle.look.proofs.plain.Reads as plain_reads
-use Rattle.look.proofs.plain_run.Reads as plain_run_reads
 use Rattle.look.proofs.through_name.Goals as goal
 
 pub plain-s-requires : goal.plain-s-requires

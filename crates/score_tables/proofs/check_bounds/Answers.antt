@@ -1,5 +1,4 @@
 -- `score_tables::check_bounds` meets its contract. Assumes nothing.
-use borrow.Author.Rules.{rules}
 use Rattle.refusals.specs.Refusals.{or_next_of}
 use Rattle.score_tables.proofs.check_bounds.Goals as goal
 

@@ -1,6 +1,5 @@
 -- `score_tables::check_finite` meets its contract: where the answer so far accepts, the tables are long enough. Assumes nothing.
 use native.Mathlib.Omega.{arith}
-use borrow.Author.Rules.{rules}
 use Rattle.refusals.specs.Refusals.{or_next_of}
 use Rattle.score_tables.proofs.check_finite.Goals as goal
 

@@ -1,5 +1,4 @@
 -- `score_tables::check_room` meets its contract. Assumes nothing.
-use borrow.Author.Rules.{rules}
 use Rattle.score_tables.proofs.check_room.Goals as goal
 
 pub returns : goal.returns

@@ -1,13 +1,9 @@
 -- `sheet::check_part` meets its contract, by the laws of a search. Assumes nothing.
-use Prim.Native.Nat.{◌-◌, ◌<◌}
-use mathlib.Core.Path.{◌∙◌}
-use native.Mathlib.Omega.{arith}
-use borrow.Author.Rules.{rules}
+use Prim.Native.Nat.{◌-◌}
 use lib.ListN.{drop}
 use Rattle.refusals.specs.Tables.{not_finite}
-use Rattle.refusals.proofs.Laws.{Passed, begin, step, answered}
+use Rattle.refusals.proofs.Laws.{Passed}
 use Rattle.sheet.specs.Fields.{numbers_in}
-use Rattle.sheet.proofs.Bytes.{tested}
 use Rattle.sheet.proofs.check_part.Given as goal
 
 abbrev pub invariant-loop-i : goal.invariant-loop-i

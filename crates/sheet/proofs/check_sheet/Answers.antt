@@ -1,7 +1,6 @@
 -- `sheet::check_sheet` meets its contract. Assumes nothing.
 use mathlib.Core.Path.{sym, ◌∙◌}
 use native.Mathlib.Omega.{arith}
-use borrow.Author.Rules.{rules}
 use Rattle.sheet.specs.Fields.{transitions_in_of, states_in_of}
 use Rattle.sheet.proofs.Rows.{Sizes, sizes, sizes_refused, sizes_passed}
 use Rattle.sheet.proofs.check_sheet.Goals.{In_default}

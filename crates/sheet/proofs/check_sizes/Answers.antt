@@ -1,5 +1,4 @@
 -- `sheet::check_sizes` meets its contract. Assumes nothing.
-use borrow.Author.Rules.{rules}
 use Rattle.sheet.proofs.Rows.{sizes_in_order}
 use Rattle.sheet.proofs.check_sizes.Goals as goal
 

@@ -1,5 +1,4 @@
 -- `sheet::in_order` meets its contract. Assumes nothing.
-use borrow.Author.Rules.{rules}
 use Rattle.refusals.specs.Refusals.{or_next_of}
 use Rattle.sheet.proofs.in_order.Goals as goal
 

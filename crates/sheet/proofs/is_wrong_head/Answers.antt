@@ -1,5 +1,4 @@
 -- `sheet::is_wrong_head` meets its contract. Assumes nothing.
-use borrow.Author.Rules.{rules}
 use Rattle.sheet.proofs.is_wrong_head.Goals as goal
 
 pub returns : goal.returns

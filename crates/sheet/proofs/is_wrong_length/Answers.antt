@@ -1,5 +1,4 @@
 -- `sheet::is_wrong_length` meets its contract. Assumes nothing.
-use borrow.Author.Rules.{rules}
 use Rattle.sheet.proofs.is_wrong_length.Goals as goal
 
 pub returns : goal.returns

@@ -1,15 +1,9 @@
 -- `sheet::read_part` meets its contract. The loop's invariant: the table is filled as far as i. Assumes nothing.
-use Prim.Native.Nat.{◌≤◌, ◌<◌, ◌-◌}
-use mathlib.Core.Path.{◌≡◌, refl}
-use native.Mathlib.Omega.{arith}
-use borrow.Author.Rules.{rules}
-use lib.ListN.{length, drop, length-set}
-use Rattle.refusals.proofs.Meant.{numbers_finite}
+use Prim.Native.Nat.{◌≤◌, ◌-◌}
+use mathlib.Core.Path.{◌≡◌}
+use lib.ListN.{length, drop}
 use Rattle.sheet.specs.Fields.{numbers_in}
 use Rattle.sheet.specs.Steps.{filled}
-use Rattle.sheet.proofs.Pattern.{pattern_number}
-use Rattle.sheet.proofs.Bytes.{number_at, length_numbers}
-use Rattle.sheet.proofs.Laws.{filled_none, filled_more}
 use Rattle.sheet.proofs.read_part.Given as goal
 
 abbrev pub invariant-loop-i : goal.invariant-loop-i

@@ -2,7 +2,6 @@
 use Prim.Native.Nat.{ℕ, ◌*◌}
 use mathlib.Core.Path.{◌≡◌, sym, ◌∙◌}
 use native.Mathlib.Omega.{arith}
-use borrow.Author.Rules.{rules}
 use Rattle.sheet.specs.Fields.{transitions_in_of, states_in_of}
 use Rattle.sheet.proofs.Rows.{Accepts, accepts}
 use Rattle.sheet.specs.Promise.{read}

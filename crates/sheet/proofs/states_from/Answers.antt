@@ -1,7 +1,6 @@
 -- `sheet::states_from` meets its contract. Assumes nothing.
 use Prim.Native.Nat.{◌+◌, ◌*◌, ◌≤◌}
 use native.Mathlib.Omega.{arith}
-use borrow.Author.Rules.{rules}
 use Rattle.sheet.proofs.Bytes.{small_sizes}
 use Rattle.sheet.proofs.states_from.Goals.{After-labels_in-labels}
 use Rattle.sheet.proofs.states_from.Goals as goal

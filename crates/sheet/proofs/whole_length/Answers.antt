@@ -1,7 +1,6 @@
 -- `sheet::whole_length` meets its contract. Assumes nothing.
 use Prim.Native.Nat.{◌+◌, ◌*◌, ◌≤◌}
 use native.Mathlib.Omega.{arith}
-use borrow.Author.Rules.{rules}
 use Rattle.sheet.proofs.Bytes.{small_sizes}
 use Rattle.sheet.proofs.whole_length.Goals.{After-words_in-words}
 use Rattle.sheet.proofs.whole_length.Goals as goal

@@ -1,5 +1,4 @@
 -- `sheet::word_at` meets its contract. Assumes nothing.
-use borrow.Author.Rules.{rules}
 use native.Mathlib.Omega.{arith}
 use Rattle.sheet.proofs.Bytes.{four_halves}
 use Rattle.sheet.proofs.word_at.Goals as goal

@@ -1,6 +1,5 @@
 -- `survey::begun` meets its contract. Assumes nothing.
 use borrow.Author.Tests.{eq-eqb, ne_eqb}
-use borrow.Author.Rules.{rules}
 use Rattle.survey.proofs.begun.Goals as goal
 
 pub returns-then-present-eq0 : goal.returns-then-present-eq0

@@ -1,11 +1,6 @@
 -- `survey::survey_text` meets its contract. Assumes nothing.
-use Prim.Native.Nat.{◌+◌, ◌-◌}
 use native.Mathlib.Omega.{arith}
-use borrow.Author.Rules.{rules}
-use lib.ListN.{length}
-use Rattle.layout.specs.Layout.{WellFormed}
-use Rattle.text_tables.specs.Pieces.{pieces_of}
-use Rattle.survey.proofs.Pass.{Going, SameLengths, same_lengths, rooms_on, going_starts, going_some, going_met, going_asks, going_on, going_over}
+use Rattle.survey.proofs.Pass.{same_lengths, rooms_on, going_starts, going_some, going_met, going_asks, going_on, going_over}
 use Rattle.survey.proofs.survey_text.Goals as goal
 
 pub loop-cursor-init : goal.loop-cursor-init
@@ -38,9 +33,9 @@ pub loop-cursor-preserved : goal.loop-cursor-preserved
 loop-cursor-preserved c =
     let i = c.loop-cursor.invariant in (
       record {
-        labels_long = omega (arith, c.with_piece-found.kept, i.0.labels_long);
-        slots_long = omega (arith, c.with_piece-found.kept, i.0.slots_long);
-        positions_long = omega (arith, c.with_piece-found.kept, i.0.positions_long);
+        labels_long = omega arith;
+        slots_long = omega arith;
+        positions_long = omega arith;
       },
       λ h. going_on (i.1 h) c.loop-cursor-test.true c.piece_at-span.ensures c.after-cursor.ensures c.with_piece-found.ensures,
     )

@@ -1,11 +1,9 @@
 -- `survey::survey_text` meets its contract. Assumes nothing.
 use Prim.Native.Nat.{◌+◌, ◌-◌}
-use native.Mathlib.Omega.{arith}
-use borrow.Author.Rules.{rules}
 use lib.ListN.{length}
 use Rattle.layout.specs.Layout.{WellFormed}
 use Rattle.text_tables.specs.Pieces.{pieces_of}
-use Rattle.survey.proofs.Pass.{Going, SameLengths, same_lengths, rooms_on, going_starts, going_some, going_met, going_asks, going_on, going_over}
+use Rattle.survey.proofs.Pass.{Going, SameLengths}
 use Rattle.survey.proofs.survey_text.Given as goal
 
 abbrev pub invariant-loop-cursor : goal.invariant-loop-cursor

@@ -1,5 +1,4 @@
 -- `survey::with_label` meets its contract. Assumes nothing.
-use borrow.Author.Rules.{rules}
 use Rattle.survey.proofs.Named.{label_more, label_full}
 use Rattle.survey.proofs.with_label.Goals as goal
 

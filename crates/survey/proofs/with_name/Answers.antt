@@ -1,5 +1,4 @@
 -- `survey::with_name` meets its contract. Assumes nothing.
-use borrow.Author.Rules.{rules}
 use Rattle.survey.proofs.Named.{name_tabled, name_more, name_full}
 use Rattle.survey.proofs.with_name.Goals as goal
 

@@ -1,5 +1,4 @@
 -- `survey::with_piece` meets its contract. Assumes nothing.
-use borrow.Author.Rules.{rules}
 use Rattle.survey.proofs.Pass.{step_blank, step_label, step_attribute}
 use Rattle.survey.proofs.with_piece.Goals as goal
 

@@ -1,5 +1,4 @@
 -- `survey::with_word` meets its contract. Assumes nothing.
-use borrow.Author.Rules.{rules}
 use Rattle.survey.proofs.Figured.{word_more}
 use Rattle.survey.proofs.with_word.Goals as goal
 

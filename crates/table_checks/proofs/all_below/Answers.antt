@@ -1,9 +1,6 @@
 -- `table_checks::all_below` meets its contract: while the flag holds, no place so far is refused. Assumes nothing.
-use Prim.Native.Nat.{◌-◌}
 use native.Mathlib.Omega.{arith}
-use borrow.Author.Rules.{rules}
-use Rattle.refusals.specs.Tables.{not_below}
-use Rattle.table_checks.proofs.Passing.{Passing, pass_begin, pass_end, below_step}
+use Rattle.table_checks.proofs.Passing.{pass_begin, pass_end, below_step}
 use Rattle.table_checks.proofs.all_below.Goals as goal
 
 pub loop-i-init : goal.loop-i-init

@@ -1,9 +1,7 @@
 -- `table_checks::all_below` meets its contract: while the flag holds, no place so far is refused. Assumes nothing.
 use Prim.Native.Nat.{◌-◌}
-use native.Mathlib.Omega.{arith}
-use borrow.Author.Rules.{rules}
 use Rattle.refusals.specs.Tables.{not_below}
-use Rattle.table_checks.proofs.Passing.{Passing, pass_begin, pass_end, below_step}
+use Rattle.table_checks.proofs.Passing.{Passing}
 use Rattle.table_checks.proofs.all_below.Given as goal
 
 abbrev pub invariant-loop-i : goal.invariant-loop-i

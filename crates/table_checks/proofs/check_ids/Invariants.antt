@@ -1,10 +1,7 @@
 -- `table_checks::check_ids` meets its contract, by the laws of a search. Assumes nothing.
 use Prim.Native.Nat.{◌-◌}
-use native.Mathlib.Omega.{arith}
-use borrow.Author.Rules.{rules}
 use Rattle.refusals.specs.Tables.{not_below}
-use Rattle.refusals.proofs.Laws.{Passed, step, answered}
-use Rattle.table_checks.proofs.Passing.{begun}
+use Rattle.refusals.proofs.Laws.{Passed}
 use Rattle.table_checks.proofs.check_ids.Given as goal
 
 abbrev pub invariant-loop-i : goal.invariant-loop-i

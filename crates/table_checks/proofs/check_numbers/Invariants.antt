@@ -1,11 +1,7 @@
 -- `table_checks::check_numbers` meets its contract, by the laws of a search. Assumes nothing.
-use mathlib.Core.Path.{sym, ◌∙◌}
 use Prim.Native.Nat.{◌-◌}
-use native.Mathlib.Omega.{arith}
-use borrow.Author.Rules.{rules}
 use Rattle.refusals.specs.Tables.{not_finite}
-use Rattle.refusals.proofs.Laws.{Passed, step, answered}
-use Rattle.table_checks.proofs.Passing.{begun, finite_passed}
+use Rattle.refusals.proofs.Laws.{Passed}
 use Rattle.table_checks.proofs.check_numbers.Given as goal
 
 abbrev pub invariant-loop-i : goal.invariant-loop-i

@@ -1,11 +1,10 @@
 -- `table_checks::check_starts` meets its contract, by the laws of a search. Assumes nothing.
-use Prim.Native.Nat.{◌-◌}
-use mathlib.Core.Path.{◌≡◌, refl}
+use mathlib.Core.Path.{refl}
 use native.Mathlib.Numerals.{add-one}
 use native.Mathlib.Omega.{arith}
-use borrow.Author.Rules.{rules}
-use Rattle.refusals.specs.Tables.{bad_start, start_before}
-use Rattle.refusals.proofs.Laws.{Passed, begin, step, answered}
+use Rattle.refusals.proofs.Laws.{begin, step, answered}
+use mathlib.Core.Logic.{inl, inr}
+use Rattle.table_checks.proofs.check_starts.Goals.{else-loop-i-test, then-loop-i-test+then-bad}
 use Rattle.table_checks.proofs.check_starts.Goals as goal
 
 pub loop-i-init : goal.loop-i-init
@@ -17,4 +16,4 @@ loop-i-preserved c =
     (step l.invariant.0 (omega arith) (rw l.invariant.1 at c.if-bad.false), rw add-one)
 
 pub returns : goal.returns
-returns c = answered _ _ c.refuse_if.ensures c.to_check-end.ensures.value c.loop-i.invariant.0 (λ w. w.left) (λ w. (w.0.taken, rw c.loop-i.invariant.1 at w.2.taken)) c.loop-i-test.branch
+returns c = answered _ _ c.refuse_if.ensures c.to_check-end.ensures.value c.loop-i.invariant.0 (λ a. a) (λ b. b) (elim c.loop-i-test.branch [ else-loop-i-test w ↦ inl w.loop-i-test.false | then-loop-i-test+then-bad w ↦ inr (w.loop-i-test.true, rw c.loop-i.invariant.1 at w.if-bad.true) ])

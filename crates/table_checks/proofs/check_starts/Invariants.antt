@@ -1,11 +1,8 @@
 -- `table_checks::check_starts` meets its contract, by the laws of a search. Assumes nothing.
 use Prim.Native.Nat.{◌-◌}
-use mathlib.Core.Path.{◌≡◌, refl}
-use native.Mathlib.Numerals.{add-one}
-use native.Mathlib.Omega.{arith}
-use borrow.Author.Rules.{rules}
+use mathlib.Core.Path.{◌≡◌}
 use Rattle.refusals.specs.Tables.{bad_start, start_before}
-use Rattle.refusals.proofs.Laws.{Passed, begin, step, answered}
+use Rattle.refusals.proofs.Laws.{Passed}
 use Rattle.table_checks.proofs.check_starts.Given as goal
 
 abbrev pub invariant-loop-i : goal.invariant-loop-i

@@ -1,5 +1,4 @@
 -- `text_check::check_long` meets its contract. Assumes nothing.
-use borrow.Author.Rules.{rules}
 use Rattle.text_check.proofs.Long.{long_none, long_some}
 use Rattle.text_check.proofs.check_long.Goals as goal
 

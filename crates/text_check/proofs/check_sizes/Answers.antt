@@ -1,5 +1,4 @@
 -- `text_check::check_sizes` meets its contract. Assumes nothing.
-use borrow.Author.Rules.{rules}
 use Rattle.text_check.proofs.Needed.{sized_same}
 use Rattle.text_check.proofs.check_sizes.Goals as goal
 

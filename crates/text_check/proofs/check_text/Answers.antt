@@ -1,5 +1,4 @@
 -- `text_check::check_text` meets its contract. Assumes nothing.
-use borrow.Author.Rules.{rules}
 use Rattle.text_check.proofs.Needed.{text_same}
 use Rattle.text_check.proofs.check_text.Goals as goal
 

@@ -1,5 +1,4 @@
 -- `text_check::survey_alone` meets its contract. Assumes nothing.
-use borrow.Author.Rules.{rules}
 use Rattle.text_check.proofs.Tells.{new_slots}
 use Rattle.text_check.proofs.survey_alone.Goals as goal
 

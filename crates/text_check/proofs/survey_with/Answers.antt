@@ -1,7 +1,5 @@
 -- `text_check::survey_with` meets its contract. Assumes nothing.
-use mathlib.Core.Path.{◌∙◌}
 use native.Mathlib.Omega.{arith}
-use borrow.Author.Rules.{rules}
 use Rattle.text_check.proofs.Tells.{text_surveyed, new_labels, new_positions, arrays_ready}
 use Rattle.text_check.proofs.survey_with.Goals as goal
 
@@ -11,4 +9,4 @@ survey_text-requires c =
 
 pub returns : goal.returns
 returns c =
-    λ h. text_surveyed h c.requires.text_len_bound.0 (omega (arith, c.survey_text.kept, new_labels)) (omega (arith, c.survey_text.kept, new_positions)) (c.survey_text.ensures h)
+    λ h. text_surveyed h c.requires.text_len_bound.0 (omega (arith, new_labels)) (omega (arith, new_positions)) (c.survey_text.ensures h)

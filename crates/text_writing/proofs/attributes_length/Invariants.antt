@@ -1,14 +1,8 @@
 -- `text_writing::attributes_length` meets its contract. Assumes nothing.
-use mathlib.Core.Path.{◌∙◌}
-use Prim.Native.Nat.{◌-◌, ◌≤◌}
-use native.Mathlib.Omega.{arith}
-use borrow.Author.Rules.{rules}
+use Prim.Native.Nat.{◌-◌}
 use Rattle.text_writing.specs.Ready.{strings}
 use Rattle.text_writing.specs.Sums.{attribute_size}
-use Rattle.text_writing.proofs.Lengths.{Summed, summed_starts, summed_more, summed_over}
-use Rattle.text_writing.proofs.attributes_length.Reads as reads
-use Rattle.text_writing.proofs.attributes_length.Lts as lts
-use Rattle.text_writing.proofs.attribute_length.Reads as attribute_length_reads
+use Rattle.text_writing.proofs.Lengths.{Summed}
 use Rattle.text_writing.proofs.attributes_length.Given as goal
 
 abbrev pub invariant-loop-a : goal.invariant-loop-a

@@ -1,13 +1,7 @@
 -- `text_writing::put_attributes` meets its contract. Assumes nothing.
 use Prim.Native.Nat.{◌-◌}
-use native.Mathlib.Omega.{arith}
-use borrow.Author.Rules.{rules}
 use Rattle.text_writing.specs.Ready.{strings, attribute_bytes, each_from}
-use Rattle.byte_buffers.proofs.Onto.{Onto, onto_starts, onto_as, onto_part, onto_put, onto_over}
-use Rattle.text_writing.proofs.Laws.{each_first, each_over}
-use Rattle.text_writing.proofs.put_attributes.Reads as reads
-use Rattle.text_writing.proofs.put_attributes.Lts as lts
-use Rattle.text_writing.proofs.put_attribute.Reads as put_attribute_reads
+use Rattle.byte_buffers.proofs.Onto.{Onto}
 use Rattle.text_writing.proofs.put_attributes.Given as goal
 
 abbrev pub invariant-loop-a : goal.invariant-loop-a

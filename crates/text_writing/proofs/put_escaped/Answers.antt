@@ -1,40 +1,19 @@
 -- `text_writing::put_escaped` meets its contract. Assumes nothing.
 use mathlib.Core.Path.{sym, ◌∙◌}
-use Prim.Native.Nat.{◌-◌, ◌≤◌}
 use native.Mathlib.Omega.{arith}
-use borrow.Author.Rules.{rules}
-use lib.ListN.{length}
-use lib.Seq.{slice}
-use Rattle.layout.specs.Layout.{escaped}
-use Rattle.byte_buffers.proofs.Onto.{Onto, onto_starts, onto_as, onto_room, onto_byte, onto_two, onto_over}
+use Rattle.byte_buffers.proofs.Onto.{onto_as, onto_room, onto_byte, onto_two, onto_over}
 use Rattle.text_writing.proofs.Laws.{name_special, name_plain, name_over}
-use Rattle.text_writing.proofs.put_escaped.Reads as reads
-use Rattle.text_writing.proofs.put_escaped.Lts as lts
 use Rattle.text_writing.proofs.put_escaped.Goals as goal
-
-pub loop-i-init : goal.loop-i-init
-loop-i-init c =
-    (c.requires.from_le_to.0, c.requires.from_le_to.1, onto_starts c.requires.room_for)
 
 pub bounds-text-k : goal.bounds-text-k
 bounds-text-k c =
     let g = onto_as (name_special _ _ _ c.loop-i-test.true c.loop-i.invariant.1 (sym c.needs_slash.ensures ∙ c.if-needs_slash.true)) c.loop-i.invariant.2 in
     onto_room g
 
-pub overflow_add-text : goal.overflow_add-text
-overflow_add-text c =
-    let g = onto_as (name_special _ _ _ c.loop-i-test.true c.loop-i.invariant.1 (sym c.needs_slash.ensures ∙ c.if-needs_slash.true)) c.loop-i.invariant.2 in
-    omega (arith, onto_room (onto_byte g))
-
 pub bounds-text-k-then-needs_slash : goal.bounds-text-k-then-needs_slash
 bounds-text-k-then-needs_slash c =
     let g = onto_as (name_special _ _ _ c.loop-i-test.true c.loop-i.invariant.1 (sym c.needs_slash.ensures ∙ c.if-needs_slash.true)) c.loop-i.invariant.2 in
     onto_room (onto_byte g)
-
-pub overflow_add-k : goal.overflow_add-k
-overflow_add-k c =
-    let g = onto_as (name_special _ _ _ c.loop-i-test.true c.loop-i.invariant.1 (sym c.needs_slash.ensures ∙ c.if-needs_slash.true)) c.loop-i.invariant.2 in
-    omega (arith, onto_room (onto_byte g))
 
 pub loop-i-preserved-then-needs_slash : goal.loop-i-preserved-then-needs_slash
 loop-i-preserved-then-needs_slash c =
@@ -46,19 +25,10 @@ bounds-text-k-else-needs_slash c =
     let g = onto_as (name_plain _ _ _ c.loop-i-test.true c.loop-i.invariant.1 (sym c.needs_slash.ensures ∙ c.if-needs_slash.false)) c.loop-i.invariant.2 in
     onto_room g
 
-pub overflow_add-k-else-needs_slash : goal.overflow_add-k-else-needs_slash
-overflow_add-k-else-needs_slash c =
-    let g = onto_as (name_plain _ _ _ c.loop-i-test.true c.loop-i.invariant.1 (sym c.needs_slash.ensures ∙ c.if-needs_slash.false)) c.loop-i.invariant.2 in
-    omega (arith, onto_room g)
-
 pub loop-i-preserved : goal.loop-i-preserved
 loop-i-preserved c =
     let g = onto_as (name_plain _ _ _ c.loop-i-test.true c.loop-i.invariant.1 (sym c.needs_slash.ensures ∙ c.if-needs_slash.false)) c.loop-i.invariant.2 in
     (omega arith, c.loop-i.invariant.1, onto_byte g)
-
-pub shape_of-text : goal.shape_of-text
-shape_of-text c =
-    c.loop-i.invariant.2.long
 
 pub returns : goal.returns
 returns c =

@@ -1,11 +1,6 @@
 -- `text_writing::written_length` meets its contract. Assumes nothing.
 use Rattle.text_writing.specs.Ready.{strings, lent_tables}
 use Rattle.text_writing.proofs.Lengths.{whole_length}
-use borrow.Author.Rules.{rules}
-use Rattle.text_writing.proofs.written_length.Reads as reads
-use Rattle.text_writing.proofs.written_length.Lts as lts
-use Rattle.text_writing.proofs.attributes_length.Reads as attributes_length_reads
-use Rattle.text_writing.proofs.labels_length.Reads as labels_length_reads
 use Rattle.text_writing.proofs.written_length.Goals as goal
 
 pub returns : goal.returns

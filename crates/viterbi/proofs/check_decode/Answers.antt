@@ -1,7 +1,6 @@
 -- `check_decode` meets its contract: each check takes the answer so far, so the last has them all. Assumes nothing.
 use Rattle.viterbi.specs.Rows.{decode_checked}
 use Rattle.viterbi.proofs.Room.{room}
-use borrow.Author.Rules.{rules}
 use Rattle.viterbi.proofs.check_decode.Goals as goal
 
 pub check_finite-requires : goal.check_finite-requires

@@ -1,13 +1,10 @@
 -- `decode_rows` meets its contract. The loop's invariant: the words up to the one at hand are done. Assumes nothing.
-use mathlib.Core.Path.{◌≡◌, refl, ap, ◌∙◌}
+use mathlib.Core.Path.{◌≡◌, refl, ap}
 use Prim.Native.Nat.{◌+◌, ◌-◌, ◌*◌, ◌≤◌, ◌<◌}
 use native.Mathlib.Nat.{le_trans}
 use native.Mathlib.Omega.{arith}
-use borrow.Author.Rules.{rules}
 use lib.ListN.{length}
-use Rattle.refusals.specs.Bounds.{the_labels, most}
 use Rattle.viterbi_steps.specs.declared.Row.{Row}
-use Rattle.viterbi_steps.specs.Rows.{Before}
 use Rattle.viterbi.specs.Answered.{Ready}
 use Rattle.viterbi.proofs.Laws.{Done, one_row, first_done, done_as, ready_as, room_as, answered_as, before, done_next, done_last, walk, answered}
 use Rattle.viterbi.proofs.decode_rows.Goals.{After-first_row-row, After-next_row, After-next_row-then-word-words, At-loop-word, Else-word-words}
@@ -24,7 +21,7 @@ ready c = ready_as (width c) c.requires.ready
 
 -- the steps have room for every word
 long : (c : At-loop-word) → c.args.words * c.first_row-row.result.width ≤ length c.loop-word.steps
-long c = room_as _ (width c) c.loop-word.invariant.1 c.requires.labels_in_bounds
+long c = room_as _ (ap (λ (r : Row). r.width) c.first_row-row.ensures) c.loop-word.invariant.1 c.requires.labels_in_bounds
 
 -- a turn has two words to go
 two_left : (c : After-next_row) → c.loop-word.word + 2 < c.args.words
@@ -57,15 +54,15 @@ next_row-requires c =
 pub next_row-requires-in-loop-word : goal.next_row-requires-in-loop-word
 next_row-requires-in-loop-word c =
     let done = done_next (ready (goal.at.next_row-requires-in-loop-word c).After-first_row-row) c.loop-word.invariant.3 (long (goal.at.next_row-requires-in-loop-word c).At-loop-word) (omega (arith, two_left (goal.at.next_row-requires-in-loop-word c).After-next_row)) c.loop-word.invariant.2 c.next_row.ensures in
-    before (ready (goal.at.next_row-requires-in-loop-word c).After-first_row-row) done (omega (arith, c.next_row.kept, long (goal.at.next_row-requires-in-loop-word c).At-loop-word)) (omega (arith, two_left (goal.at.next_row-requires-in-loop-word c).After-next_row)) c.loop-word.invariant.3.wide
+    before (ready (goal.at.next_row-requires-in-loop-word c).After-first_row-row) done (omega (arith, c.next_row.auto.steps, long (goal.at.next_row-requires-in-loop-word c).At-loop-word)) (omega (arith, two_left (goal.at.next_row-requires-in-loop-word c).After-next_row)) c.loop-word.invariant.3.wide
 
 pub loop-word-preserved : goal.loop-word-preserved
 loop-word-preserved c =
     let r = ready (goal.at.loop-word-preserved c).After-first_row-row in
     let once = done_next r c.loop-word.invariant.3 (long (goal.at.loop-word-preserved c).At-loop-word) (omega (arith, two_left (goal.at.loop-word-preserved c).After-next_row)) c.loop-word.invariant.2 c.next_row.ensures in
     let two : c.loop-word.word + 1 + 1 ≡ c.loop-word.word + 2 = omega arith in
-    let twice = done_next r once (omega (arith, c.next_row.kept, long (goal.at.loop-word-preserved c).At-loop-word)) (omega (arith, two_left (goal.at.loop-word-preserved c).After-next_row)) c.loop-word.invariant.3.wide c.next_row-in-loop-word.ensures in
-    (omega (arith, two_left (goal.at.loop-word-preserved c).After-next_row), omega (arith, c.next_row-in-loop-word.kept, c.next_row.kept, c.loop-word.invariant.1), once.wide, done_as two twice)
+    let twice = done_next r once (omega (arith, c.next_row.auto.steps, long (goal.at.loop-word-preserved c).At-loop-word)) (omega (arith, two_left (goal.at.loop-word-preserved c).After-next_row)) c.loop-word.invariant.3.wide c.next_row-in-loop-word.ensures in
+    (omega (arith, two_left (goal.at.loop-word-preserved c).After-next_row), omega (arith, c.next_row-in-loop-word.auto.steps, c.next_row.auto.steps, c.loop-word.invariant.1), once.wide, done_as two twice)
 
 pub next_row-requires-then-word-words : goal.next_row-requires-then-word-words
 next_row-requires-then-word-words c =
@@ -75,7 +72,7 @@ pub finish-requires : goal.finish-requires
 finish-requires c =
     let r = ready (goal.at.finish-requires c).After-first_row-row in
     let done = done_last r c.loop-word.invariant.3 (long (goal.at.finish-requires c).At-loop-word) (one_left (goal.at.finish-requires c).After-next_row-then-word-words) (at_most_two (goal.at.finish-requires c).After-next_row-then-word-words) c.loop-word.invariant.2 c.next_row-then-word-words.ensures in
-    walk r done (omega (arith, c.next_row-then-word-words.kept, long (goal.at.finish-requires c).At-loop-word))
+    walk r done (omega (arith, c.next_row-then-word-words.auto.steps, long (goal.at.finish-requires c).At-loop-word))
 
 -- where none is left, the row is the last word's
 row_done : (c : Else-word-words) →

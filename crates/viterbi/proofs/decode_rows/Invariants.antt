@@ -1,15 +1,9 @@
 -- `decode_rows` meets its contract. The loop's invariant: the words up to the one at hand are done. Assumes nothing.
-use mathlib.Core.Path.{◌≡◌, refl, ap, ◌∙◌}
-use Prim.Native.Nat.{◌+◌, ◌-◌, ◌*◌, ◌≤◌, ◌<◌}
-use native.Mathlib.Nat.{le_trans}
-use native.Mathlib.Omega.{arith}
-use borrow.Author.Rules.{rules}
+use mathlib.Core.Path.{◌≡◌}
+use Prim.Native.Nat.{◌-◌, ◌<◌}
 use lib.ListN.{length}
 use Rattle.refusals.specs.Bounds.{the_labels, most}
-use Rattle.viterbi_steps.specs.declared.Row.{Row}
-use Rattle.viterbi_steps.specs.Rows.{Before}
-use Rattle.viterbi.specs.Answered.{Ready}
-use Rattle.viterbi.proofs.Laws.{Done, one_row, first_done, done_as, ready_as, room_as, answered_as, before, done_next, done_last, walk, answered}
+use Rattle.viterbi.proofs.Laws.{Done}
 use Rattle.viterbi.proofs.decode_rows.Given as goal
 
 abbrev pub invariant-loop-word : goal.invariant-loop-word

@@ -1,7 +1,6 @@
 -- `finish` meets its contract. Assumes nothing.
 use Prim.Native.Nat.{◌<◌}
 use native.Mathlib.Omega.{arith}
-use borrow.Author.Rules.{rules}
 use Rattle.refusals.specs.Bounds.{the_labels, most}
 use Rattle.viterbi_end.proofs.Laws.{ended}
 use Rattle.viterbi_end.proofs.finish.Goals.{After-last_largest-last}

@@ -1,14 +1,8 @@
 -- `last_largest` meets its contract. The loop's invariant: of the labels passed, the last with the largest score, and that score. Assumes nothing.
-use mathlib.Core.Path.{◌≡◌, refl, sym, ◌∙◌}
+use mathlib.Core.Path.{◌≡◌}
 use Prim.Native.Nat.{◌-◌, ◌≤◌, ◌<◌}
-use native.Mathlib.Nat.{le_antisymm}
-use native.Mathlib.Numerals.{add-one-le}
-use native.Mathlib.Omega.{arith}
-use Rattle.best_path.proofs.Laws.{largest_first, largest_within}
-use Rattle.viterbi_steps.proofs.Choices.{score_more, from_more}
 use Rattle.viterbi_end.specs.Rival.{score_at}
 use Rattle.viterbi_end.specs.Ends.{last_of}
-use borrow.Author.Rules.{rules}
 use Rattle.viterbi_end.proofs.last_largest.Given as goal
 
 abbrev pub invariant-loop-label : goal.invariant-loop-label

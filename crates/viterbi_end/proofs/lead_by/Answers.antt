@@ -1,7 +1,6 @@
 -- `lead_by` meets its contract. Assumes nothing.
 use mathlib.Core.Path.{ap}
 use Rattle.best_path.specs.Lead.{by, lead_between}
-use borrow.Author.Rules.{rules}
 use Rattle.viterbi_end.proofs.lead_by.Goals as goal
 
 pub returns-then-is_finite : goal.returns-then-is_finite

@@ -1,7 +1,6 @@
 -- `lead_of` meets its contract. Assumes nothing.
 use native.Mathlib.Omega.{arith}
 use borrow.Author.Tests.{lt-ltb, le-ltb}
-use borrow.Author.Rules.{rules}
 use Rattle.viterbi_end.proofs.lead_of.Goals as goal
 
 pub returns-then-n-gt1 : goal.returns-then-n-gt1

@@ -1,11 +1,10 @@
 -- `rival` meets its contract. The loop's invariant: the score is the largest of the other labels passed. Assumes nothing.
 use mathlib.Core.Path.{◌≡◌, ◌∙◌}
-use Prim.Native.Nat.{ℕ, ◌+◌, ◌-◌, ◌≤◌, ◌<◌, zero-le}
+use Prim.Native.Nat.{ℕ, ◌-◌, ◌≤◌, ◌<◌, zero-le}
 use native.Mathlib.Nat.{lt_of_lt_of_le}
 use native.Mathlib.Omega.{arith}
 use lib.Ieee.{Float}
 use Rattle.refusals.specs.Bounds.{the_labels, most}
-use Rattle.best_path.specs.Decoded.{last_largest}
 use Rattle.best_path.specs.Lead.{other}
 use Rattle.best_path.proofs.Laws.{largest_first, other_within}
 use Rattle.viterbi_steps.proofs.Choices.{score_more}

@@ -1,16 +1,10 @@
 -- `rival` meets its contract. The loop's invariant: the score is the largest of the other labels passed. Assumes nothing.
-use mathlib.Core.Path.{◌≡◌, ◌∙◌}
-use Prim.Native.Nat.{ℕ, ◌+◌, ◌-◌, ◌≤◌, ◌<◌, zero-le}
-use native.Mathlib.Nat.{lt_of_lt_of_le}
-use native.Mathlib.Omega.{arith}
+use mathlib.Core.Path.{◌≡◌}
+use Prim.Native.Nat.{ℕ, ◌+◌, ◌-◌, ◌≤◌, ◌<◌}
 use lib.Ieee.{Float}
-use Rattle.refusals.specs.Bounds.{the_labels, most}
 use Rattle.best_path.specs.Decoded.{last_largest}
 use Rattle.best_path.specs.Lead.{other}
-use Rattle.best_path.proofs.Laws.{largest_first, other_within}
-use Rattle.viterbi_steps.proofs.Choices.{score_more}
 use Rattle.viterbi_end.specs.Rival.{score_at}
-use borrow.Author.Rules.{rules}
 use Rattle.viterbi_end.proofs.rival.Given as goal
 
 abbrev pub invariant-loop-k : goal.invariant-loop-k

@@ -1,6 +1,5 @@
 -- `step_back` meets its contract. Assumes nothing.
 use native.Mathlib.Omega.{arith}
-use borrow.Author.Rules.{rules}
 use Rattle.viterbi_end.proofs.step_back.Goals as goal
 
 pub overflow_cast-result : goal.overflow_cast-result

@@ -1,15 +1,12 @@
 -- `walk_back` meets its contract. The loop's invariant: what is still to be walked, with what is written after it, is the whole path with the rest of the buffer. Assumes nothing.
 use mathlib.Core.Path.{◌≡◌, refl, ◌∙◌}
-use mathlib.Core.List.{◌++◌}
 use Prim.Native.Nat.{◌+◌, ◌-◌, ◌*◌, ◌<◌}
 use native.Mathlib.Nat.{lt_of_lt_of_le}
 use native.Mathlib.Omega.{arith}
 use lib.Arith.{digits_lt}
-use lib.ListN.{length, drop}
+use lib.ListN.{length}
 use Rattle.refusals.specs.Bounds.{the_labels, most}
-use Rattle.viterbi_end.specs.Walked.{walked}
 use Rattle.viterbi_end.proofs.Laws.{walk_more, walk_end, step_within}
-use borrow.Author.Rules.{rules}
 use Rattle.viterbi_end.proofs.walk_back.Goals.{At-loop-word}
 use Rattle.viterbi_end.proofs.walk_back.Goals as goal
 
@@ -50,7 +47,7 @@ loop-word-preserved c =
     let any = c.loop-word-test.true in (
       omega (arith, c.loop-word.invariant.0),
       step_within c.requires.walk c.loop-word.word c.loop-word.label any c.loop-word.invariant.0 c.loop-word.invariant.1 c.step_back-label.ensures,
-      omega (arith, c.put_label.kept, c.loop-word.invariant.2),
+      omega (arith, c.put_label.auto.path, c.loop-word.invariant.2),
       walk_more a.steps.now a.n c.loop-word.path c.loop-word.label c.loop-word.word any (omega (arith, c.loop-word.invariant.0, c.loop-word.invariant.2, c.requires.walk.long_path)) c.put_label.ensures c.step_back-label.ensures ∙ c.loop-word.invariant.3,
     )
 

@@ -1,15 +1,9 @@
 -- `walk_back` meets its contract. The loop's invariant: what is still to be walked, with what is written after it, is the whole path with the rest of the buffer. Assumes nothing.
-use mathlib.Core.Path.{◌≡◌, refl, ◌∙◌}
+use mathlib.Core.Path.{◌≡◌}
 use mathlib.Core.List.{◌++◌}
-use Prim.Native.Nat.{◌+◌, ◌-◌, ◌*◌, ◌<◌}
-use native.Mathlib.Nat.{lt_of_lt_of_le}
-use native.Mathlib.Omega.{arith}
-use lib.Arith.{digits_lt}
+use Prim.Native.Nat.{◌+◌, ◌-◌, ◌<◌}
 use lib.ListN.{length, drop}
-use Rattle.refusals.specs.Bounds.{the_labels, most}
 use Rattle.viterbi_end.specs.Walked.{walked}
-use Rattle.viterbi_end.proofs.Laws.{walk_more, walk_end, step_within}
-use borrow.Author.Rules.{rules}
 use Rattle.viterbi_end.proofs.walk_back.Given as goal
 
 abbrev pub invariant-loop-word : goal.invariant-loop-word

@@ -1,13 +1,11 @@
 -- `best_step` meets its contract. The loop's invariant: the score and its origin are those chosen of the candidates passed. Assumes nothing.
-use mathlib.Core.Path.{◌≡◌, sym, ap, ◌∙◌}
-use Prim.Native.Nat.{◌+◌, ◌-◌, ◌*◌, ◌≤◌, ◌<◌}
+use mathlib.Core.Path.{sym, ap, ◌∙◌}
+use Prim.Native.Nat.{◌*◌, ◌≤◌, ◌<◌}
 use native.Mathlib.Nat.{le_antisymm, le-mul_of_pos_right, zero-mul, zero-add, one-mul}
 use native.Mathlib.Omega.{arith}
-use borrow.Author.Rules.{rules}
 use lib.Arith.{digits_lt}
 use lib.ListN.{get_or}
 use lib.Ieee.{nan, binary64, add}
-use Rattle.best_path.specs.Decoded.{last_largest}
 use Rattle.best_path.proofs.Laws.{largest_first}
 use Rattle.viterbi_steps.specs.Chosen.{candidate}
 use Rattle.viterbi_steps.proofs.Choices.{square_small, row_after, score_more, from_more}

@@ -1,12 +1,10 @@
 -- `first_row` meets its contract. The loop's invariant: the labels passed have their state score. Assumes nothing.
-use mathlib.Core.Path.{◌≡◌, refl}
-use Prim.Native.Nat.{◌-◌, ◌≤◌}
+use mathlib.Core.Path.{refl}
 use native.Mathlib.Omega.{arith}
 use borrow.Author.Rules.{rules}
-use lib.ListN.{get_or, replicate}
-use lib.Ieee.{nan, of_bits, binary64}
+use lib.ListN.{replicate}
+use lib.Ieee.{of_bits, binary64}
 use Rattle.refusals.specs.Bounds.{the_labels, most}
-use Rattle.viterbi_steps.specs.Written.{written}
 use Rattle.viterbi_steps.proofs.Written.{written_none, front_more, written_end}
 use Rattle.viterbi_steps.proofs.first_row.Goals as goal
 

@@ -1,13 +1,10 @@
 -- `first_row` meets its contract. The loop's invariant: the labels passed have their state score. Assumes nothing.
-use mathlib.Core.Path.{◌≡◌, refl}
+use mathlib.Core.Path.{◌≡◌}
 use Prim.Native.Nat.{◌-◌, ◌≤◌}
-use native.Mathlib.Omega.{arith}
-use borrow.Author.Rules.{rules}
 use lib.ListN.{get_or, replicate}
 use lib.Ieee.{nan, of_bits, binary64}
 use Rattle.refusals.specs.Bounds.{the_labels, most}
 use Rattle.viterbi_steps.specs.Written.{written}
-use Rattle.viterbi_steps.proofs.Written.{written_none, front_more, written_end}
 use Rattle.viterbi_steps.proofs.first_row.Given as goal
 
 abbrev pub invariant-loop-label : goal.invariant-loop-label

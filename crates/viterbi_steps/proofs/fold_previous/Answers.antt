@@ -1,11 +1,8 @@
 -- `fold_previous` meets its contract. The loop's invariant: the labels passed have taken their candidate or not, and the others are as they were. Assumes nothing.
-use mathlib.Core.Path.{◌≡◌, ◌∙◌}
-use Prim.Native.Nat.{◌-◌, ◌≤◌}
+use mathlib.Core.Path.{◌∙◌}
 use native.Mathlib.Omega.{arith}
 use borrow.Author.Rules.{rules}
 use lib.Ieee.{nan}
-use Rattle.viterbi_steps.specs.Written.{written}
-use Rattle.viterbi_steps.specs.Rows.{onward, score_tried, mark_tried}
 use Rattle.viterbi_steps.proofs.Written.{written_none, front_more, front_later, written_end}
 use Rattle.viterbi_steps.proofs.fold_previous.Goals as goal
 

@@ -1,10 +1,8 @@
 -- `keep_steps` meets its contract. The loop's invariant: the labels passed have their mark in its place. Assumes nothing.
-use mathlib.Core.Path.{◌≡◌, refl}
-use Prim.Native.Nat.{◌-◌, ◌≤◌}
+use mathlib.Core.Path.{refl}
 use native.Mathlib.Omega.{arith}
 use borrow.Author.Rules.{rules}
-use lib.ListN.{length, get_or, length-set}
-use Rattle.viterbi_steps.specs.Written.{written}
+use lib.ListN.{length-set}
 use Rattle.viterbi_steps.proofs.Written.{written_none, written_more, written_end}
 use Rattle.viterbi_steps.proofs.keep_steps.Goals as goal
 

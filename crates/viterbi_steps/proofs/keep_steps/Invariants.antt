@@ -1,11 +1,8 @@
 -- `keep_steps` meets its contract. The loop's invariant: the labels passed have their mark in its place. Assumes nothing.
-use mathlib.Core.Path.{◌≡◌, refl}
+use mathlib.Core.Path.{◌≡◌}
 use Prim.Native.Nat.{◌-◌, ◌≤◌}
-use native.Mathlib.Omega.{arith}
-use borrow.Author.Rules.{rules}
-use lib.ListN.{length, get_or, length-set}
+use lib.ListN.{length, get_or}
 use Rattle.viterbi_steps.specs.Written.{written}
-use Rattle.viterbi_steps.proofs.Written.{written_none, written_more, written_end}
 use Rattle.viterbi_steps.proofs.keep_steps.Given as goal
 
 abbrev pub invariant-loop-label : goal.invariant-loop-label

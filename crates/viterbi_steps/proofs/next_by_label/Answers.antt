@@ -1,12 +1,9 @@
 -- `next_by_label` meets its contract. The loop's invariant: the labels passed have their best score and their step back. Assumes nothing.
-use mathlib.Core.Path.{◌≡◌, refl}
-use Prim.Native.Nat.{◌+◌, ◌-◌, ◌*◌, ◌≤◌}
+use mathlib.Core.Path.{refl}
+use Prim.Native.Nat.{◌+◌, ◌*◌}
 use native.Mathlib.Omega.{arith}
 use borrow.Author.Rules.{rules}
-use lib.ListN.{length, length-set}
-use Rattle.best_path.specs.Scores.{tabled}
-use Rattle.best_path.specs.Decoded.{best, back}
-use Rattle.viterbi_steps.specs.Written.{written}
+use lib.ListN.{length-set}
 use Rattle.viterbi_steps.proofs.Written.{written_none, written_more, front_more, written_end}
 use Rattle.viterbi_steps.proofs.Laws.{choice_within, choice_back, choice_best}
 use Rattle.viterbi_steps.proofs.next_by_label.Goals as goal

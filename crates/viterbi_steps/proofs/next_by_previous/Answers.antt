@@ -1,6 +1,6 @@
 -- `next_by_previous` meets its contract. The loop's invariant: of the labels of the word before that are passed, the row has the best candidates, and the marks say whence. Assumes nothing.
-use mathlib.Core.Path.{◌≡◌, refl, sym}
-use Prim.Native.Nat.{◌+◌, ◌-◌, ◌*◌, ◌≤◌, ◌<◌}
+use mathlib.Core.Path.{refl, sym}
+use Prim.Native.Nat.{◌+◌, ◌*◌, ◌≤◌}
 use native.Mathlib.Nat.{le-mul_of_pos_right, one-mul}
 use native.Mathlib.Numerals.{add-one-le}
 use native.Mathlib.Omega.{arith}
@@ -8,7 +8,7 @@ use borrow.Author.Rules.{rules}
 use lib.ListN.{get_or-replicate}
 use Rattle.refusals.specs.Bounds.{the_labels, most}
 use Rattle.viterbi_steps.proofs.Choices.{square_small, row_after}
-use Rattle.viterbi_steps.proofs.Laws.{row_inside, Tried, tried_first, tried_wide, tried_more, tried_all, tried_after, marks_within}
+use Rattle.viterbi_steps.proofs.Laws.{row_inside, tried_first, tried_wide, tried_more, tried_all, tried_after, marks_within}
 use Rattle.viterbi_steps.proofs.next_by_previous.Goals.{In-loop-previous}
 use Rattle.viterbi_steps.proofs.next_by_previous.Goals as goal
 
@@ -41,7 +41,7 @@ loop-previous-preserved c =
       omega arith,
       add-one-le c.loop-previous-test.true,
       rw row_after (omega (arith, c.loop-previous.invariant.2)),
-      tried_more c.loop-previous.invariant.0 c.requires.few wide c.loop-previous.invariant.2 c.loop-previous.invariant.3 folded.0 folded.1,
+      tried_more c.loop-previous.invariant.0 c.requires.few wide c.loop-previous.invariant.2 c.loop-previous.invariant.3 folded.next_after folded.from_after,
     )
 
 pub keep_steps-requires : goal.keep_steps-requires

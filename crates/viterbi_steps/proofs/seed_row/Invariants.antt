@@ -1,12 +1,8 @@
 -- `seed_row` meets its contract. The loop's invariant: the labels passed have their candidate. Assumes nothing.
 use mathlib.Core.Path.{◌≡◌}
 use Prim.Native.Nat.{◌-◌, ◌≤◌}
-use native.Mathlib.Nat.{zero-add}
-use native.Mathlib.Omega.{arith}
-use borrow.Author.Rules.{rules}
 use Rattle.viterbi_steps.specs.Written.{written}
 use Rattle.viterbi_steps.specs.Rows.{onward}
-use Rattle.viterbi_steps.proofs.Written.{written_none, front_more, written_end}
 use Rattle.viterbi_steps.proofs.seed_row.Given as goal
 
 abbrev pub invariant-loop-label : goal.invariant-loop-label

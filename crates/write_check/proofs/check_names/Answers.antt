@@ -26,4 +26,4 @@ loop-i-preserved c =
     step c.loop-i.invariant (omega arith) (sym c.lacks_name-bad.ensures ∙ c.if-bad.false)
 
 pub returns : goal.returns
-returns c = answered _ _ c.refuse_if.ensures c.to_check-end.ensures.value c.loop-i.invariant (λ w. w.left) (λ w. (w.0.taken, sym w.1.ensures ∙ w.2.taken)) c.loop-i-test.branch
+returns c = answered _ _ c.refuse_if.ensures c.to_check-end.ensures.value c.loop-i.invariant (λ a. a) (λ b. b) (elim c.loop-i-test.branch [ else-loop-i-test w ↦ inl w.loop-i-test.false | then-loop-i-test+then-bad w ↦ inr (w.loop-i-test.true, sym w.lacks_name-bad.ensures ∙ w.if-bad.true) ])
