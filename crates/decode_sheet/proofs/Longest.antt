@@ -3,7 +3,7 @@ use mathlib.Core.Path.{◌≡◌, sym, ◌∙◌, ap}
 use mathlib.Core.List.{List, [], ◌∷◌, ◌++◌}
 use Prim.Native.Nat.{ℕ, ◌<◌}
 use native.Mathlib.Omega.{arith}
-use lib.ListN.{length, take, replicate, length-replicate, get_or-replicate, length-append}
+use lib.ListN.{length, replicate, length-replicate, get_or-replicate, length-append}
 use lib.Seq.{take_at}
 use lib.Ieee.{Float, nan, fits}
 use Rattle.refusals.specs.declared.Checked.{Checked}
@@ -14,7 +14,7 @@ use Rattle.sheet.proofs.Files.{long}
 use Rattle.answer_line.specs.Line.{path_line_of, path_room}
 use Rattle.answer_line.proofs.OneSaying.{one_saying}
 use Rattle.sheet.proofs.Rows.{head_checked}
-use Rattle.decode_sheet.specs.Answer.{path_line_for, buffer_checked}
+use Rattle.decode_sheet.specs.Answer.{path_line_for}
 use Rattle.decode_sheet.specs.Program.{line_said, printed_line}
 use Rattle.decode_sheet.specs.Front.{longest_sheet, LessDoesNot}
 use Rattle.decode_sheet.proofs.Prints.{prints_the_path}

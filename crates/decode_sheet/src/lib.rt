@@ -50,7 +50,7 @@ fn decode_with(
     line: &mut [u8],
 ) -> Written
     requires { (1024 ≤ length transitions.old) × (4096 ≤ length states.old) }
-    ensures { Promised (record { bytes = bytes.entry.now }) line.old (record { answer = result; line = line.new }) }
+    ensures { Promised (record { bytes = bytes.now }) line.old (record { answer = result; line = line.new }) }
 {
     // A line with too little room is refused where a table with too little room is: none is lent then.
     let room = if line.len() < PATH_ROOM {
@@ -71,7 +71,7 @@ fn decode_with(
 
 // The line of the path, or a refusal that leaves the lent line as it was.
 pub fn decode_sheet(bytes: &[u8], line: &mut [u8]) -> Written
-    ensures { Promised (record { bytes = bytes.entry.now }) line.old (record { answer = result; line = line.new }) }
+    ensures { Promised (record { bytes = bytes.now }) line.old (record { answer = result; line = line.new }) }
 {
     let mut transitions = [0.0f64; 1024];
     let mut states = [0.0f64; 4096];

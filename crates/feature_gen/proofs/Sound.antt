@@ -17,7 +17,7 @@ use Rattle.refusals.specs.Bounds.{kind_table, source_table, weight_table, attrib
 use Rattle.refusal_rows.specs.Tests.{starts_rise, kinds_known, ids_below, sources_below, numbers_finite, Good, AllGood}
 use Rattle.refusal_rows.proofs.Means.{test_means}
 use Rattle.lines.specs.Tables.{Model, Transition}
-use Rattle.lines.specs.Sound.{SoundLists, SoundWords, SoundStates, SoundTransitions, SoundCounts}
+use Rattle.lines.specs.Sound.{SoundLists, SoundWords}
 use Rattle.feature_gen.specs.Rows.{start_tests, id_tests}
 use Rattle.feature_gen.specs.Sound.{ModelSized, SoundModel, Weighted}
 

@@ -1,5 +1,5 @@
 -- No two different answers satisfy the promise of `check_model`. Assumes nothing.
-use mathlib.Core.Path.{◌≡◌, sym, ◌∙◌}
+use mathlib.Core.Path.{sym, ◌∙◌}
 use Rattle.refusals.proofs.Said.{said_once}
 use Rattle.feature_gen.specs.CheckModel as model
 

@@ -1,5 +1,5 @@
 -- What a call on a single line answers, in plain terms: 1, 4, 2, 3, 5 and 6 beforehand and 8 afterwards, each exactly when document 01 gives it, and with which place. The proof for every such call is in proofs/Answers.
-use Rattle.std.specs.Prelude.{◌≡◌, List, [], ◌∷◌, ◌↔◌, ℕ}
+use Rattle.std.specs.Prelude.{List, [], ◌∷◌, ◌↔◌, ℕ}
 use Rattle.score_tables.specs.Sound.{LabelsIn, WordsIn}
 use Rattle.refusal_rows.specs.Limits.{Limit, Fitting}
 use Rattle.refusal_rows.specs.Tests.{Test, AllGood, FirstBadOf}

@@ -1,5 +1,5 @@
 -- The checks of a call on a single line mean what `Meaning` says, and what they accept may be relied on. Assumes nothing.
-use mathlib.Core.Path.{◌≡◌, refl}
+use mathlib.Core.Path.{refl}
 use mathlib.Core.List.{List, [], ◌∷◌, ◌++◌}
 use Prim.Native.Nat.{ℕ}
 use Rattle.refusals.specs.Refusals.{first}
@@ -14,7 +14,7 @@ use Rattle.refusal_rows.proofs.TableGroups.{pair}
 use Rattle.lines.specs.Tables.{Words}
 use Rattle.feature_gen.specs.Rows.{start_tests, id_tests, weight_tests}
 use Rattle.feature_gen.proofs.Sound.{rising, below, all_finite, sound_words, sound, weighted}
-use Rattle.line_check.specs.Rows.{Scoring, Counting, scoring_counts, scoring_rooms, counting_counts, counting_rooms, line_starts, label_tests, value_tests, scoring_checked, counting_checked}
+use Rattle.line_check.specs.Rows.{scoring_counts, scoring_rooms, counting_counts, counting_rooms, line_starts, label_tests, value_tests, scoring_checked, counting_checked}
 use Rattle.line_check.specs.Sound.{LineSized, SoundLine}
 use Rattle.line_check.specs.Meaning.{Meaning, ScoringCheckMeans, CountingCheckMeans, ScoringSound, CountingSound}
 use Rattle.line_check.proofs.Laws.{scoring_within, counting_within}

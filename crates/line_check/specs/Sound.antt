@@ -1,5 +1,5 @@
 -- What a call that has accepted a line under a model may rely on, in the records that scoring and counting ask for. Assumes nothing.
-use Rattle.std.specs.Prelude.{List, ℕ, ◌*◌, ◌<◌, ◌≤◌, length, get_or}
+use Rattle.std.specs.Prelude.{ℕ, ◌*◌, ◌<◌, ◌≤◌, length, get_or}
 use Rattle.refusals.specs.Bounds.{the_attributes, most}
 use Rattle.score_tables.specs.Sound.{WordsIn}
 use Rattle.fronts.specs.Finite.{FiniteTo}

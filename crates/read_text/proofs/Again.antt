@@ -6,14 +6,14 @@ use Prim.Native.Nat.{ℕ, ◌≤◌}
 use lib.ListN.{length, drop}
 use Rattle.refusals.specs.declared.Checked.{Checked}
 use Rattle.refusals.specs.declared.Checked.TheVariants.{Accepted, Refused}
-use Rattle.refusals.specs.Said.{Said, accepted, refused, or_refused}
-use Rattle.refusals.proofs.Said.{apart, same_given, accepted_said}
+use Rattle.refusals.specs.Said.{accepted, or_refused}
+use Rattle.refusals.proofs.Said.{apart, same_given}
 use Rattle.layout.specs.Layout.{Bytes, Word, Line, SoundText, text_of, WellFormed, sequences, NoneEmpty}
 use Rattle.layout.specs.Scan.{PlaceOf}
 use Rattle.layout.proofs.Runs.{none_empty}
 use Rattle.text_tables.specs.Tables.{Tables, tables}
 use Rattle.text_tables.specs.Laid.{laid}
-use Rattle.text_tables.specs.Written.{Unwritten, unwritten, sequences_in, all_lines, written_text}
+use Rattle.text_tables.specs.Written.{unwritten, all_lines, written_text}
 use Rattle.text_tables.specs.RoundTrip.{amounts_of}
 use Rattle.text_tables.specs.Tails.{Tails, lent_with}
 use Rattle.text_tables.proofs.Written.{sequences_of_lines}

@@ -2,13 +2,12 @@
 use mathlib.Core.Path.{◌≡◌, refl, sym, ap, subst, ◌∙◌}
 use mathlib.Core.List.{List, [], ◌∷◌, map, flatten}
 use Prim.Native.Nat.{ℕ, suc, ◌+◌, ◌≤◌}
-use native.Mathlib.Nat.{le_trans}
 use native.Mathlib.Omega.{arith}
 use lib.ListN.{length, take, replicate, length-map, length-replicate}
 use lib.Seq.{take_all}
 use Rattle.binary64.specs.Numbers.{whole}
 use Rattle.refusals.specs.declared.Checked.TheVariants.{Accepted}
-use Rattle.refusal_rows.specs.Limits.{Limit, room, AllWithin}
+use Rattle.refusal_rows.specs.Limits.{room, AllWithin}
 use Rattle.layout.specs.Layout.{Bytes, TextAttribute, Word, WellFormed, sequences}
 use Rattle.scales.specs.Value.{value_of}
 use Rattle.text_tables.specs.Distinct.{id_in, distinct}
@@ -20,7 +19,7 @@ use Rattle.survey.specs.declared.Survey.{Survey}
 use Rattle.text_check.specs.declared.Lengths.{Lengths}
 use Rattle.text_check.specs.Rows.{text_counts, text_rooms, text_sized}
 use Rattle.text_check.proofs.Meant.{text_checks_mean}
-use Rattle.text_check.specs.Told.{CountsFront, TellsSequences, FewSurvey, TextSurveyed}
+use Rattle.text_check.specs.Told.{CountsFront, TellsSequences, TextSurveyed}
 use Rattle.read_text.specs.Promise.{sizes_for}
 use Rattle.read_text.specs.Sizes.{sizes_rooms}
 use Rattle.read_text.specs.Steps.{sizes_in_of, SmallSurvey}

@@ -1,19 +1,17 @@
 -- Each way out of the two calls keeps the promise. Assumes nothing.
 use mathlib.Core.Path.{◌≡◌, refl, sym, ap, subst, ◌∙◌}
 use mathlib.Core.List.{List, ◌∷◌}
-use Prim.Native.Nat.{ℕ, ◌≤◌}
+use Prim.Native.Nat.{ℕ}
 use lib.ListN.{length}
-use lib.Ieee.{Float}
 use Rattle.refusals.specs.declared.Refusal.{Refusal}
 use Rattle.refusals.specs.declared.Checked.{Checked}
 use Rattle.refusals.specs.declared.Checked.TheVariants.{Accepted, Refused}
-use Rattle.refusals.specs.Refusals.{numbered, refused_at, refuse, or_next_of, first_from}
-use Rattle.refusals.specs.Said.{Said, accepted, refused, or_refused}
+use Rattle.refusals.specs.Refusals.{or_next_of}
+use Rattle.refusals.specs.Said.{accepted, refused, or_refused}
 use Rattle.refusals.proofs.Laws.{settled}
 use Rattle.refusal_rows.specs.Limits.{two}
 use Rattle.refusal_rows.specs.Tests.{checks}
-use Rattle.layout.specs.Layout.{Bytes, Word, Line, WellFormed, sequences}
-use Rattle.layout.specs.Scan.{PlaceOf}
+use Rattle.layout.specs.Layout.{Bytes, Word, WellFormed, sequences}
 use Rattle.text_tables.specs.Tables.{Tables, tables}
 use Rattle.fill_text.specs.Filled.{StringsLaid, WordsLaid, AttributesLaid}
 use Rattle.text_check.specs.Rows.{too_long_of, text_counts, text_rooms, sequence_tests, text_sized, text_checked}

@@ -1,20 +1,20 @@
 -- The promises of reading and of the sizes mean what `Meaning` says. Assumes nothing.
-use mathlib.Core.Path.{◌≡◌, refl, sym, ap, subst, ◌∙◌}
+use mathlib.Core.Path.{◌≡◌, sym, ap, subst, ◌∙◌}
 use mathlib.Core.List.{List, [], ◌∷◌}
-use mathlib.Core.Logic.{◌↔◌, ◌⊎◌, inl, inr}
+use mathlib.Core.Logic.{◌⊎◌, inl, inr}
 use Prim.Native.Nat.{ℕ}
 use native.Mathlib.Omega.{arith}
 use lib.ListN.{length}
 use Rattle.refusals.specs.declared.Refusal.{Refusal}
 use Rattle.refusals.specs.declared.Checked.{Checked}
 use Rattle.refusals.specs.declared.Checked.TheVariants.{Accepted, Refused}
-use Rattle.refusals.specs.Refusals.{numbered, refused_at}
-use Rattle.refusals.specs.Said.{Said, accepted, refused, or_refused}
+use Rattle.refusals.specs.Refusals.{numbered}
+use Rattle.refusals.specs.Said.{accepted, refused, or_refused}
 use Rattle.refusals.specs.Meaning.{FirstBad}
 use Rattle.refusals.proofs.Said.{apart, same_given, same_refusal, refused_said, accepted_said}
 use Rattle.refusal_rows.specs.Tests.{AllGood}
 use Rattle.refusal_rows.specs.Given.{AtZero, OneOf}
-use Rattle.layout.specs.Layout.{Bytes, Word, WellFormed, sequences}
+use Rattle.layout.specs.Layout.{Bytes, Word, WellFormed}
 use Rattle.layout.specs.Scan.{PlaceOf}
 use Rattle.layout.proofs.Runs.{none_empty}
 use Rattle.text_tables.specs.Tally.{AboveAt}

@@ -1,5 +1,5 @@
 -- A survey whose checks accept leaves the text ready to be filled. Assumes nothing.
-use mathlib.Core.Path.{◌≡◌, refl, sym, ap, subst, ◌∙◌}
+use mathlib.Core.Path.{◌≡◌, sym, ap, subst, ◌∙◌}
 use mathlib.Core.List.{List, map}
 use Prim.Native.Nat.{ℕ, ◌≤◌}
 use native.Mathlib.Omega.{arith}
@@ -7,19 +7,17 @@ use lib.ListN.{length, take}
 use lib.Seq.{take_all}
 use Rattle.refusals.specs.declared.Checked.{Checked}
 use Rattle.refusals.specs.declared.Checked.TheVariants.{Accepted}
-use Rattle.refusal_rows.specs.Limits.{Limit, AllWithin}
+use Rattle.refusal_rows.specs.Limits.{AllWithin}
 use Rattle.layout.specs.Layout.{Bytes, Word, escaped, WellFormed, sequences}
 use Rattle.text_tables.specs.Pieces.{pieces_of}
 use Rattle.text_tables.specs.Tally.{tally_of, Tallies}
-use Rattle.text_tables.specs.Tables.{tables}
 use Rattle.text_tables.proofs.Tallied.{tally_means}
 use Rattle.distinct.specs.Names.{Known}
 use Rattle.survey.specs.declared.NameSums.{NameSums}
 use Rattle.survey.specs.declared.Survey.{Survey}
 use Rattle.survey.specs.Surveyed.{KnowsFront}
 use Rattle.survey.proofs.Named.{name_tabled}
-use Rattle.fill_text.specs.Filled.{distinct_labels, distinct_names, TextRoom, TextReady}
-use Rattle.text_check.specs.declared.Lengths.{Lengths}
+use Rattle.fill_text.specs.Filled.{TextRoom, TextReady}
 use Rattle.text_check.specs.Rows.{text_counts, text_checked}
 use Rattle.text_check.specs.Told.{TellsSequences, FewSurvey, TextSurveyed}
 use Rattle.text_check.proofs.Meant.{text_checks_mean}

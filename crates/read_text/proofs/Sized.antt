@@ -1,13 +1,13 @@
 -- No two different answers satisfy the promise of the sizes, and some answer does; and what they tell of reading. Assumes nothing.
 use mathlib.Core.Path.{◌≡◌, refl, sym, ap, subst, ◌∙◌}
 use mathlib.Core.List.{List}
-use mathlib.Core.Logic.{◌↔◌, ◌⊎◌, inl, inr}
+use mathlib.Core.Logic.{◌⊎◌, inl, inr}
 use Prim.Native.Nat.{ℕ}
 use lib.ListN.{length}
 use Rattle.refusals.specs.declared.Checked.{Checked}
-use Rattle.refusals.specs.declared.Checked.TheVariants.{Accepted, Refused}
+use Rattle.refusals.specs.declared.Checked.TheVariants.{Accepted}
 use Rattle.refusals.specs.Refusals.{numbered, refused_at, or_next_of, first_from}
-use Rattle.refusals.specs.Said.{Said, accepted, refused, or_refused}
+use Rattle.refusals.specs.Said.{accepted, refused, or_refused}
 use Rattle.refusals.proofs.Said.{apart, same_given, accepted_said}
 use Rattle.refusals.proofs.Laws.{alone}
 use Rattle.refusal_rows.specs.Limits.{AllWithin, two}
@@ -23,7 +23,7 @@ use Rattle.text_check.proofs.Meant.{text_checks_mean}
 use Rattle.read_text.specs.declared.TextSizes.{TextSizes}
 use Rattle.read_text.specs.declared.TextReading.{TextReading}
 use Rattle.read_text.specs.Promise.{Buffers, Outcome, said, sizes_for, lengths_of, checked_of, Promised}
-use Rattle.read_text.specs.Sizes.{sized_of, SizesPromised, OnlyOneSizes, SomeSizes, sizes_rooms, SizesSuffice, SizesTell, SizesAgree}
+use Rattle.read_text.specs.Sizes.{sized_of, SizesPromised, OnlyOneSizes, SomeSizes, sizes_rooms, SizesTell, SizesAgree}
 use Rattle.read_text.proofs.Unique.{told, either, reading_of, said_back, same_place}
 use Rattle.read_text.proofs.Figures.{rooms_are}
 

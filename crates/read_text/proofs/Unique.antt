@@ -4,12 +4,10 @@ use mathlib.Core.List.{List}
 use mathlib.Core.Logic.{◌⊎◌, inl, inr}
 use Prim.Native.Nat.{ℕ}
 use native.Mathlib.Omega.{arith}
-use Rattle.refusals.specs.declared.Refusal.{Refusal}
-use Rattle.refusals.specs.declared.Checked.{Checked}
 use Rattle.refusals.specs.Refusals.{numbered}
 use Rattle.refusals.specs.Said.{Said, accepted, refused, or_refused}
 use Rattle.refusals.proofs.Said.{same_given, same_refusal}
-use Rattle.layout.specs.Layout.{Bytes, Line, SoundText, text_of, WellFormed, sequences}
+use Rattle.layout.specs.Layout.{Bytes, Line, WellFormed, sequences}
 use Rattle.layout.specs.Scan.{look, PlaceOf}
 use Rattle.layout.specs.declared.Found.{Found}
 use Rattle.layout.specs.declared.Found.TheVariants.{Whole, At}

@@ -1,5 +1,5 @@
 -- The round trip, of the reader's promise and the writer's definition: what was written of what was read reads back. The proof is in proofs/Again.
-use Rattle.std.specs.Prelude.{◌≡◌, List, ℕ, ◌≤◌, length}
+use Rattle.std.specs.Prelude.{◌≡◌, ◌≤◌, length}
 use Rattle.layout.specs.Layout.{Bytes}
 use Rattle.text_tables.specs.Tables.{Tables}
 use Rattle.text_tables.specs.Written.{Unwritten, written_text}

@@ -1,6 +1,6 @@
 -- Desk cases T1, T3 and T6 of the promises: what any outcome of a reading that keeps it is, and any answer of the sizes. Assumes nothing.
-use Rattle.std.specs.Prelude.{◌≡◌, refl, true, false, ℕ, ◌≤◌, replicate, Float}
-use Rattle.std.proofs.Common.{ap, ◌∙◌, arith}
+use Rattle.std.specs.Prelude.{◌≡◌, refl, true, false, ℕ, ◌≤◌, replicate}
+use Rattle.std.proofs.Common.{arith}
 use mathlib.Core.List.{List, [], ◌∷◌, flatten}
 use Rattle.binary64.specs.Numbers.{nought}
 use Rattle.refusals.specs.Refusals.{numbered, refuse, or_next_of, lowest}
@@ -9,7 +9,6 @@ use Rattle.layout.specs.Layout.{Bytes, Line, empty, word, Scale, point, none, So
 use Rattle.text_tables.specs.Distinct.{same, id_in, learnt, learnt_all}
 use Rattle.text_tables.specs.Tables.{starts_from, tables}
 use Rattle.text_check.specs.Rows.{text_sized, text_checked}
-use Rattle.read_text.specs.declared.TextSizes.{TextSizes}
 use Rattle.read_text.specs.declared.TextReading.{TextReading}
 use Rattle.read_text.specs.Promise.{Buffers, Outcome, said, Promised}
 use Rattle.read_text.specs.Sizes.{SizesPromised}

@@ -1,5 +1,5 @@
 -- What a path score answers, in plain terms: each number exactly when document 01 gives it, and with which place. The proofs are in proofs/Meant; for C in decoding_exports.
-use Rattle.std.specs.Prelude.{◌≡◌, List, [], ◌∷◌, ◌↔◌, ℕ, ◌≤◌, length, Float}
+use Rattle.std.specs.Prelude.{◌≡◌, [], ◌∷◌, ◌↔◌, ℕ, ◌≤◌, length, Float}
 use Rattle.refusals.specs.declared.Checked.TheVariants.{Accepted}
 use Rattle.refusals.specs.Refusals.{numbered, refused_at}
 use Rattle.refusals.specs.Said.{accepted, refused}

@@ -8,10 +8,10 @@ use borrow.Author.Tests.{ltb-false}
 use Rattle.refusals.specs.declared.Refusal.{Refusal}
 use Rattle.refusals.specs.declared.Checked.{Checked}
 use Rattle.refusals.specs.declared.Checked.TheVariants.{Accepted, Refused}
-use Rattle.refusals.specs.Refusals.{numbered, or_next_of}
+use Rattle.refusals.specs.Refusals.{or_next_of}
 use Rattle.refusals.proofs.Laws.{passes, never}
 use Rattle.layout.specs.Layout.{Bytes}
-use Rattle.layout.specs.Scan.{look, PlaceOf}
+use Rattle.layout.specs.Scan.{look}
 use Rattle.layout.specs.declared.Found.{Found}
 use Rattle.layout.specs.declared.Found.TheVariants.{Whole, At}
 use Rattle.layout.proofs.Place.{whole_meant, place_meant}

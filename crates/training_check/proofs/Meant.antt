@@ -1,24 +1,19 @@
 -- What a trainer refuses means what `Meaning` says, and what it accepts may be relied on. Assumes nothing.
-use mathlib.Core.Path.{◌≡◌, refl}
-use mathlib.Core.List.{List, [], ◌∷◌, ◌++◌}
-use Prim.Native.Nat.{ℕ, ◌+◌, ◌-◌, ◌<◌, ◌≤◌}
+use mathlib.Core.Path.{refl}
+use mathlib.Core.List.{List, [], ◌∷◌}
+use Prim.Native.Nat.{ℕ, ◌+◌, ◌-◌, ◌≤◌}
 use native.Mathlib.Omega.{arith}
-use lib.ListN.{length, get_or}
-use lib.Ieee.{Float}
-use Rattle.refusals.specs.Meaning.{Starts}
+use lib.ListN.{get_or}
 use Rattle.refusals.proofs.Meant.{within}
-use Rattle.score_tables.specs.Sound.{WordsIn}
 use Rattle.score_tables.proofs.Meant.{one_means}
 use Rattle.refusals.specs.Bounds.{word_table, attribute_table, reference_table, instance_weight_table}
-use Rattle.refusal_rows.specs.Tests.{lines_fit, starts_rise, ids_below, numbers_finite, AllGood, Good, line_length}
+use Rattle.refusal_rows.specs.Tests.{lines_fit, starts_rise, ids_below, numbers_finite, Good}
 use Rattle.refusal_rows.proofs.Means.{two_means, good_parts, fitting}
 use Rattle.refusal_rows.proofs.Groups.{Group, single, tested, given_first, given_after, accepted_when, given_only}
 use Rattle.refusal_rows.proofs.TableGroups.{pair}
-use Rattle.lines.specs.Sound.{SoundWords}
 use Rattle.feature_gen.specs.Rows.{start_tests, id_tests}
 use Rattle.feature_gen.proofs.Sound.{rising, below, all_finite, sound_words, sound}
-use Rattle.line_check.specs.Rows.{value_tests}
-use Rattle.lines.specs.Data.{Data, first_word, words_of}
+use Rattle.lines.specs.Data.{Data}
 use Rattle.parameters.specs.Parameters.{Parameter}
 use Rattle.parameters.proofs.Means.{fitness}
 use Rattle.training_check.specs.Rows.{Input, input_counts, input_rooms, input_starts, length_tests, input_ids, input_numbers, training_checked}

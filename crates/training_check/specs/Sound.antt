@@ -1,5 +1,5 @@
 -- What a trainer that has accepted its input may rely on. Assumes nothing.
-use Rattle.std.specs.Prelude.{List, ℕ, ◌+◌, ◌<◌, ◌≤◌, length, get_or}
+use Rattle.std.specs.Prelude.{ℕ, ◌+◌, ◌<◌, ◌≤◌, length, get_or}
 use Rattle.refusals.specs.Bounds.{the_instances, the_words, most}
 use Rattle.score_tables.specs.Sound.{WordsIn}
 use Rattle.fronts.specs.Finite.{FiniteTo}

@@ -1,13 +1,10 @@
 -- `arow::narrow` meets its contract: the loop is a pass of `narrowed`, and the flag the finite test of what it stored. Assumes nothing.
-use mathlib.Core.Path.{◌≡◌, refl}
-use Prim.Native.Nat.{◌≤◌, ◌-◌}
+use mathlib.Core.Path.{refl}
 use native.Mathlib.Omega.{arith}
 use borrow.Author.Rules.{rules}
-use lib.ListN.{length}
 use lib.Ieee.{of_bits, of_int}
 use Rattle.lines.specs.Passes.{raised}
 use Rattle.training.specs.Rules.{narrowed}
-use Rattle.training_tables.specs.Tables.{Moved}
 use Rattle.fronts.proofs.Finite.{finite_stored}
 use Rattle.training_tables.proofs.Moves.{moved_none, moved_next, moved_end}
 use Rattle.arow.proofs.narrow.Goals as goal

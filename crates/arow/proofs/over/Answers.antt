@@ -1,6 +1,5 @@
 -- `arow::over` meets its contract. Assumes nothing.
 use mathlib.Core.Path.{sym}
-use borrow.Author.Rules.{rules}
 use lib.Ieee.{of_bits}
 use Rattle.training_tables.proofs.Rounded.{over_one}
 use Rattle.arow.proofs.over.Goals as goal

@@ -1,9 +1,6 @@
 -- `arow::spread_of` meets its contract: the loop is a pass of `spread` from gamma. Assumes nothing.
-use mathlib.Core.Path.{◌≡◌, refl, ◌∙◌}
-use Prim.Native.Nat.{◌≤◌, ◌-◌}
+use mathlib.Core.Path.{refl, ◌∙◌}
 use native.Mathlib.Omega.{arith}
-use borrow.Author.Rules.{rules}
-use Rattle.lines.specs.Passes.{through}
 use Rattle.training.specs.Rules.{spread}
 use Rattle.lines.proofs.Laws.{through_none, through_next, through_end}
 use Rattle.arow.proofs.spread_of.Goals as goal

@@ -1,11 +1,8 @@
 -- `arow::spread_of` meets its contract: the loop is a pass of `spread` from gamma. Assumes nothing.
-use mathlib.Core.Path.{◌≡◌, refl, ◌∙◌}
+use mathlib.Core.Path.{◌≡◌}
 use Prim.Native.Nat.{◌≤◌, ◌-◌}
-use native.Mathlib.Omega.{arith}
-use borrow.Author.Rules.{rules}
 use Rattle.lines.specs.Passes.{through}
 use Rattle.training.specs.Rules.{spread}
-use Rattle.lines.proofs.Laws.{through_none, through_next, through_end}
 use Rattle.arow.proofs.spread_of.Given as goal
 
 abbrev pub invariant-loop-i : goal.invariant-loop-i

@@ -1,5 +1,4 @@
 -- `arow::update` meets its contract. Assumes nothing.
-use borrow.Author.Rules.{rules}
 use Rattle.arow.proofs.Parts.{by_arow_lem}
 use Rattle.arow.proofs.update.Goals as goal
 

@@ -1,15 +1,13 @@
 -- `decode_sheet::print_sheet` meets its contract. Assumes nothing.
-use borrow.Author.Rules.{rules}
+use native.Mathlib.Omega.{arith}
 use Rattle.decode_sheet.proofs.Print.{refused_room, printed_path, printed_refused}
 use Rattle.decode_sheet.proofs.print_sheet.Goals as goal
 
 pub refused_line-requires : goal.refused_line-requires
-refused_line-requires c = refused_room _ _ _ c.refused_line-arg-1.given.0.1
+refused_line-requires c = refused_room _ _ _ (omega arith)
 
 pub returns-in-Path : goal.returns-in-Path
-returns-in-Path c =
-    printed_path _ _ _ c.decode_sheet-arg-1.given.0.1 c.decode_sheet.ensures _ c.in-Path.is
+returns-in-Path c = printed_path _ _ _ (omega arith) c.decode_sheet.ensures _ c.in-Path.is
 
 pub returns-in-Refused : goal.returns-in-Refused
-returns-in-Refused c =
-    printed_refused _ _ _ c.decode_sheet-arg-1.given.0.1 c.decode_sheet.ensures _ c.in-Refused.is _ _ c.refused_line.ensures
+returns-in-Refused c = printed_refused _ _ _ (omega arith) c.decode_sheet.ensures _ c.in-Refused.is _ _ c.refused_line.ensures

@@ -1,5 +1,4 @@
 -- `decode_sheet::write_path` meets its contract. Assumes nothing.
-use borrow.Author.Rules.{rules}
 use mathlib.Core.Path.{◌≡◌, sym}
 use lib.ListN.{take}
 use Rattle.best_path.specs.Scores.{tabled}
@@ -20,7 +19,8 @@ slice_bounds-path_line-end c =
 
 pub path_line-requires : goal.path_line-requires
 path_line-requires c =
-    line_needs c.requires.sound_scores (front (goal.at.path_line-requires c).After-decode_tables-found) c.decode_tables-found.ensures.sum _ c.requires.path_room_in_bounds
+    let n = line_needs c.requires.sound_scores (front (goal.at.path_line-requires c).After-decode_tables-found) c.decode_tables-found.ensures.sum c.args.line.now c.requires.path_room_in_bounds in
+    record { t = n.0; labels_nonzero = n.1.0; room_for = n.1.1 }
 
 pub returns : goal.returns
 returns c =

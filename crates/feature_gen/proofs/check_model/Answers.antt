@@ -1,6 +1,5 @@
 -- `feature_gen::check_model` meets its contract. Assumes nothing.
 use mathlib.Core.Path.{ap}
-use borrow.Author.Rules.{rules}
 use Rattle.refusals.specs.Said.{said_of}
 use Rattle.feature_gen.specs.CheckModel.{answer_to}
 use Rattle.feature_gen.proofs.Laws.{model_answered}

@@ -1,6 +1,5 @@
 -- `feature_gen::check_sizes` meets its contract. Assumes nothing.
 use mathlib.Core.Path.{◌∙◌}
-use borrow.Author.Rules.{rules}
 use Rattle.refusals.specs.Refusals.{or_next_of}
 use Rattle.feature_gen.proofs.Laws.{sizes_parts}
 use Rattle.feature_gen.proofs.check_sizes.Goals as goal

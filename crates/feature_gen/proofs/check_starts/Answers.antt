@@ -1,5 +1,4 @@
 -- `feature_gen::check_starts` meets its contract. Assumes nothing.
-use borrow.Author.Rules.{rules}
 use Rattle.feature_gen.proofs.check_starts.Goals as goal
 
 pub returns : goal.returns

@@ -1,5 +1,4 @@
 -- `feature_gen::check_tables` meets its contract: where the sizes are accepted, every table has room for its test. Assumes nothing.
-use borrow.Author.Rules.{rules}
 use Rattle.feature_gen.proofs.Laws.{tables_stopped, tables_sized, tables_answered}
 use Rattle.feature_gen.proofs.check_tables.Goals as goal
 

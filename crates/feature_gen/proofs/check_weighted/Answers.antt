@@ -1,5 +1,4 @@
 -- `feature_gen::check_weighted` meets its contract. Assumes nothing.
-use borrow.Author.Rules.{rules}
 use Rattle.refusals.specs.Bounds.{weight_table}
 use Rattle.feature_gen.proofs.Laws.{weighted_joined}
 use Rattle.feature_gen.proofs.check_weighted.Goals as goal

@@ -1,6 +1,5 @@
 -- `feature_gen::check_weights` meets its contract. Assumes nothing.
 use mathlib.Core.Path.{◌∙◌, ap}
-use borrow.Author.Rules.{rules}
 use Rattle.refusals.specs.Refusals.{refuse, or_next_of}
 use Rattle.refusals.specs.Bounds.{weight_table}
 use Rattle.feature_gen.proofs.Laws.{weights_stopped, weights_sized, weights_answered}

@@ -1,6 +1,5 @@
 -- `finished::check_scores` meets its contract. Assumes nothing.
 use native.Mathlib.Omega.{arith}
-use borrow.Author.Rules.{rules}
 use Rattle.finished.proofs.Laws.{in_order}
 use Rattle.finished.proofs.check_scores.Goals as goal
 

@@ -1,7 +1,6 @@
 -- `finished::finish_scores` meets its contract. Assumes nothing.
 use mathlib.Core.Path.{refl, sym, ◌∙◌}
 use native.Mathlib.Omega.{arith}
-use borrow.Author.Rules.{rules}
 use lib.Ieee.{of_bits}
 use Rattle.finished.proofs.Laws.{cleared_to}
 use Rattle.finished.proofs.finish_scores.Goals as goal

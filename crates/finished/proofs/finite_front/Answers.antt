@@ -2,7 +2,6 @@
 use mathlib.Core.Path.{refl, sym, ◌∙◌}
 use native.Mathlib.Omega.{arith}
 use native.Mathlib.Nat.{le_refl}
-use borrow.Author.Rules.{rules}
 use Rattle.refusals.specs.Refusals.{lowest}
 use Rattle.finished.proofs.Laws.{test_accepts}
 use Rattle.finished.proofs.finite_front.Goals as goal

@@ -1,6 +1,5 @@
 -- `line_check::check_labels` meets its contract. Assumes nothing.
 use mathlib.Core.Path.{◌∙◌, ap}
-use borrow.Author.Rules.{rules}
 use Rattle.refusals.specs.Refusals.{refuse, or_next_of}
 use Rattle.line_check.proofs.Laws.{labels_stopped, labels_room, labels_answered}
 use Rattle.line_check.proofs.check_labels.Goals as goal

@@ -1,5 +1,4 @@
 -- `line_check::check_line` meets its contract: where the sizes are accepted, every table has room for its test. Assumes nothing.
-use borrow.Author.Rules.{rules}
 use Rattle.line_check.proofs.Laws.{line_stopped, line_room, line_answered}
 use Rattle.line_check.proofs.check_line.Goals as goal
 

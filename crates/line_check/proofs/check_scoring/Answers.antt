@@ -1,7 +1,6 @@
 -- `line_check::check_scoring` meets its contract. Assumes nothing.
 use mathlib.Core.Path.{◌∙◌, ap}
 use mathlib.Core.Bool.{Bool}
-use borrow.Author.Rules.{rules}
 use Rattle.refusals.specs.declared.Checked.TheVariants.{Accepted}
 use Rattle.refusals.specs.Refusals.{refuse, or_next_of}
 use Rattle.line_check.proofs.Laws.{scoring_answered}

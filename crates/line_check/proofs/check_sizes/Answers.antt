@@ -1,5 +1,4 @@
 -- `line_check::check_sizes` meets its contract. Assumes nothing.
-use borrow.Author.Rules.{rules}
 use Rattle.refusals.specs.Refusals.{or_next_of}
 use Rattle.line_check.specs.Parts.{line_sized}
 use Rattle.line_check.proofs.check_sizes.Goals as goal

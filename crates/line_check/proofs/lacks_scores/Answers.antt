@@ -1,5 +1,4 @@
 -- `line_check::lacks_scores` meets its contract. Assumes nothing.
-use borrow.Author.Rules.{rules}
 use Rattle.line_check.proofs.lacks_scores.Goals as goal
 
 pub returns : goal.returns

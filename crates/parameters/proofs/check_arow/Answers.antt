@@ -1,5 +1,4 @@
 -- `parameters::check_arow` meets its contract. Assumes nothing.
-use borrow.Author.Rules.{rules}
 use Rattle.parameters.proofs.check_arow.Goals as goal
 
 pub returns : goal.returns

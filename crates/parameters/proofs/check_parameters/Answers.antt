@@ -1,5 +1,4 @@
 -- `parameters::check_parameters` meets its contract, method by method. Assumes nothing.
-use borrow.Author.Rules.{rules}
 use Rattle.parameters.proofs.check_parameters.Goals as goal
 
 pub returns-in-AveragedPerceptron : goal.returns-in-AveragedPerceptron

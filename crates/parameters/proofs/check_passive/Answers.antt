@@ -1,5 +1,4 @@
 -- `parameters::check_passive` meets its contract. Assumes nothing.
-use borrow.Author.Rules.{rules}
 use Rattle.parameters.proofs.check_passive.Goals as goal
 
 pub returns : goal.returns

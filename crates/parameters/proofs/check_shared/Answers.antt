@@ -1,5 +1,4 @@
 -- `parameters::check_shared` meets its contract. Assumes nothing.
-use borrow.Author.Rules.{rules}
 use Rattle.parameters.proofs.check_shared.Goals as goal
 
 pub returns : goal.returns

@@ -1,5 +1,4 @@
 -- `parameters::is_negative` meets its contract. Assumes nothing.
-use borrow.Author.Rules.{rules}
 use Rattle.lines.proofs.Literals.{literal_nought}
 use Rattle.parameters.proofs.is_negative.Goals as goal
 

@@ -1,5 +1,4 @@
 -- `parameters::is_not_above_zero` meets its contract. Assumes nothing.
-use borrow.Author.Rules.{rules}
 use Rattle.lines.proofs.Literals.{literal_nought}
 use Rattle.parameters.proofs.is_not_above_zero.Goals as goal
 

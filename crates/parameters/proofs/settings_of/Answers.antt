@@ -1,5 +1,4 @@
 -- `parameters::settings_of` meets its contract, method by method. Assumes nothing.
-use borrow.Author.Rules.{rules}
 use Rattle.parameters.proofs.settings_of.Goals as goal
 
 pub returns-in-AveragedPerceptron : goal.returns-in-AveragedPerceptron

@@ -1,5 +1,4 @@
 -- `parameters::trainer_of` meets its contract, method by method. Assumes nothing.
-use borrow.Author.Rules.{rules}
 use Rattle.parameters.proofs.trainer_of.Goals as goal
 
 pub returns-in-PassiveAggressive : goal.returns-in-PassiveAggressive

@@ -5,7 +5,7 @@ use Rattle.passive_aggressive.proofs.tau_of.Goals as goal
 
 pub returns-then-norm : goal.returns-then-norm
 unfolding of_bits
-returns-then-norm c = rw c.if-norm.true c.step_of_lem.ensures
+returns-then-norm c = rw c.if-norm.true c.step_of.ensures
 
 pub returns-else-norm : goal.returns-else-norm
 unfolding of_bits

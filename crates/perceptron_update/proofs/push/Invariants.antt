@@ -1,14 +1,9 @@
 -- `perceptron_update::push` meets its contract: the loop is a pass of `pushed`, and the flag the finite test of what it stored. Assumes nothing.
-use mathlib.Core.Path.{◌≡◌, refl}
+use mathlib.Core.Path.{◌≡◌}
 use Prim.Native.Nat.{◌≤◌, ◌-◌}
-use native.Mathlib.Omega.{arith}
-use borrow.Author.Rules.{rules}
 use lib.ListN.{length}
-use Rattle.lines.specs.Passes.{raised}
 use Rattle.training.specs.Rules.{pushed}
 use Rattle.training_tables.specs.Tables.{Moved}
-use Rattle.fronts.proofs.Finite.{finite_stored}
-use Rattle.training_tables.proofs.Moves.{moved_none, moved_next, moved_end}
 use Rattle.perceptron_update.proofs.push.Given as goal
 
 abbrev pub invariant-loop-i : goal.invariant-loop-i

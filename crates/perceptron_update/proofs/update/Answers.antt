@@ -1,5 +1,4 @@
 -- `perceptron_update::update` meets its contract. Assumes nothing.
-use borrow.Author.Rules.{rules}
 use Rattle.perceptron_update.proofs.Parts.{by_perceptron_lem}
 use Rattle.perceptron_update.proofs.update.Goals as goal
 

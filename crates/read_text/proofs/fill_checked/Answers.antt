@@ -3,31 +3,19 @@ use mathlib.Core.Path.{◌≡◌, sym, ◌∙◌}
 use Rattle.refusals.specs.declared.Checked.TheVariants.{Accepted}
 use Rattle.layout.specs.Layout.{WellFormed, sequences}
 use Rattle.read_text.specs.Promise.{Buffers, checked_of}
+use Rattle.read_text.specs.Lent.{buffers_of}
 use Rattle.read_text.proofs.Figures.{sizes_told}
 use Rattle.read_text.proofs.Ready.{surveyed, few_made, checked_as, within, small_made, text_ready}
 use Rattle.read_text.proofs.Kept.{check_refused, filled_read}
-use borrow.Author.Rules.{rules}
-use Rattle.read_text.proofs.fill_checked.Goals.{In_default, Start}
+use Rattle.read_text.proofs.fill_checked.Goals.{In_default}
 use Rattle.read_text.proofs.fill_checked.Goals as goal
 
 -- the tables at entry, and that what was surveyed is accepted
-abbrev given : Start → Buffers
+abbrev given : In_default → Buffers
 given c =
     let a = c.args in
-    record {
-      line_starts = a.line_starts.now;
-      word_starts_of = a.word_starts.now;
-      ids = a.ids.now;
-      values = a.values.now;
-      references = a.references.now;
-      weights = a.instance_weights.now;
-      label_starts_of = a.label_name_starts.now;
-      label_bytes_of = a.label_names.now;
-      name_starts_of = a.attribute_name_starts.now;
-      name_bytes_of = a.attribute_names.now;
-      scale_starts_of = a.scale_starts.now;
-      scale_bytes_of = a.scales.now;
-    }
+    buffers_of a.line_starts.now a.word_starts.now a.ids.now a.values.now a.references.now a.instance_weights.now
+    a.label_name_starts.now a.label_names.now a.attribute_name_starts.now a.attribute_names.now a.scale_starts.now a.scales.now
 
 accepted : (c : In_default) → (h : WellFormed c.args.text.now) → checked_of c.args.text.now (sequences h.lines) (given c) ≡ Accepted
 accepted c h =
@@ -39,18 +27,18 @@ check_text-answer-requires c =
 
 pub returns-in-Refused : goal.returns-in-Refused
 returns-in-Refused c =
-    check_refused c.args.text.now (given (goal.at.returns-in-Refused c).Start) _ (λ h. sym (checked_as c.requires (given (goal.at.returns-in-Refused c).Start) c.check_text-answer.ensures h) ∙ c.in-Refused.is)
+    check_refused c.args.text.now _ _ (λ h. sym (checked_as c.requires _ c.check_text-answer.ensures h) ∙ c.in-Refused.is)
 
 pub fill-requires : goal.fill-requires
 fill-requires c =
-    text_ready c.requires (given (goal.at.fill-requires c).Start) (accepted (goal.at.fill-requires c).In_default)
+    text_ready c.requires (given (goal.at.fill-requires c).In_default) (accepted (goal.at.fill-requires c).In_default)
 
 pub sizes_in-requires : goal.sizes_in-requires
 sizes_in-requires c =
-    small_made c.requires (given (goal.at.sizes_in-requires c).Start) (accepted (goal.at.sizes_in-requires c).In_default)
+    small_made c.requires (given (goal.at.sizes_in-requires c).In_default) (accepted (goal.at.sizes_in-requires c).In_default)
 
 pub returns : goal.returns
 returns c = λ h.
-    filled_read c.args.text.now (sequences h.lines) (given (goal.at.returns c).Start) _ _ (accepted (goal.at.returns c).In_default h)
-    (c.sizes_in.ensures ∙ sizes_told (sequences h.lines) _ (surveyed c.requires h).tells (within c.requires (given (goal.at.returns c).Start) (accepted (goal.at.returns c).In_default) h))
+    filled_read c.args.text.now (sequences h.lines) (given (goal.at.returns c).In_default) _ _ (accepted (goal.at.returns c).In_default h)
+    (c.sizes_in.ensures ∙ sizes_told (sequences h.lines) _ (surveyed c.requires h).tells (within c.requires (given (goal.at.returns c).In_default) (accepted (goal.at.returns c).In_default) h))
     (c.fill.ensures h)

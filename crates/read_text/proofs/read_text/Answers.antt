@@ -1,10 +1,9 @@
 -- `read_text::read_text` meets its contract. Assumes nothing.
-use mathlib.Core.Path.{◌≡◌, sym, ◌∙◌}
+use mathlib.Core.Path.{sym, ◌∙◌}
 use Rattle.text_check.proofs.Tells.{new_slots}
 use Rattle.text_bytes.specs.Bytes.{Readable}
 use Rattle.text_bytes.proofs.Told.{bytes_mean}
 use Rattle.read_text.proofs.Kept.{bytes_refused, read_kept}
-use borrow.Author.Rules.{rules}
 use Rattle.read_text.proofs.read_text.Goals.{In_default}
 use Rattle.read_text.proofs.read_text.Goals as goal
 

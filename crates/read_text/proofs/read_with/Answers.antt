@@ -1,7 +1,6 @@
 -- `read_text::read_with` meets its contract. Assumes nothing.
 use native.Mathlib.Omega.{arith}
 use Rattle.text_check.proofs.Tells.{new_labels, new_positions, arrays_ready}
-use borrow.Author.Rules.{rules}
 use Rattle.read_text.proofs.read_with.Goals as goal
 
 pub survey_text-survey-requires : goal.survey_text-survey-requires
@@ -12,12 +11,8 @@ pub fill_checked-requires : goal.fill_checked-requires
 fill_checked-requires c =
     record {
       readable = c.requires.0;
-      labels_long = omega (arith, c.survey_text-survey.kept, new_labels);
-      slots_long = omega (arith, c.survey_text-survey.kept, c.requires.1.long);
-      positions_long = omega (arith, c.survey_text-survey.kept, new_positions);
+      labels_long = omega (arith, new_labels);
+      slots_long = omega (arith, c.requires.1.long);
+      positions_long = omega (arith, new_positions);
       surveys = c.survey_text-survey.ensures;
     }
-
-pub shape_of-slots : goal.shape_of-slots
-shape_of-slots c =
-    omega (arith, c.survey_text-survey.kept)

@@ -6,7 +6,6 @@ use Rattle.layout.specs.Layout.{WellFormed, sequences}
 use Rattle.text_check.specs.Rows.{text_sized}
 use Rattle.read_text.proofs.Figures.{sizes_told, sized_within, survey_small}
 use Rattle.read_text.proofs.Kept.{sized_refused, sized_accepted}
-use borrow.Author.Rules.{rules}
 use Rattle.read_text.proofs.sizes_readable.Goals.{In_default}
 use Rattle.read_text.proofs.sizes_readable.Goals as goal
 

@@ -1,9 +1,8 @@
 -- `read_text::text_sizes` meets its contract. Assumes nothing.
-use mathlib.Core.Path.{◌≡◌, sym, ◌∙◌}
+use mathlib.Core.Path.{sym, ◌∙◌}
 use Rattle.text_bytes.specs.Bytes.{Readable}
 use Rattle.text_bytes.proofs.Told.{bytes_mean}
 use Rattle.read_text.proofs.Kept.{sizes_refused, sizes_kept}
-use borrow.Author.Rules.{rules}
 use Rattle.read_text.proofs.text_sizes.Goals.{In_default}
 use Rattle.read_text.proofs.text_sizes.Goals as goal
 

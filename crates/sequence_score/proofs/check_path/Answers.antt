@@ -1,6 +1,5 @@
 -- `sequence_score::check_path` meets its contract: where the sizes are accepted there is room for what is read. Assumes nothing.
 use mathlib.Core.Path.{sym, ◌∙◌}
-use borrow.Author.Rules.{rules}
 use Rattle.sequence_score.specs.Rows.{path_sized, path_checked}
 use Rattle.sequence_score.proofs.Laws.{after, stopped, path_room, tables_room}
 use Rattle.sequence_score.proofs.check_path.Goals as goal

@@ -1,5 +1,4 @@
 -- `sequence_score::check_sizes` meets its contract. Assumes nothing.
-use borrow.Author.Rules.{rules}
 use Rattle.sequence_score.specs.Rows.{path_sized}
 use Rattle.sequence_score.proofs.check_sizes.Goals as goal
 

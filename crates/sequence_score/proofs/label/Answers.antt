@@ -1,6 +1,5 @@
 -- `sequence_score::label` meets its contract. Assumes nothing.
 use native.Mathlib.Omega.{arith}
-use borrow.Author.Rules.{rules}
 use Rattle.sequence_score.proofs.label.Goals as goal
 
 pub overflow_cast-result : goal.overflow_cast-result

@@ -1,6 +1,5 @@
 -- `sequence_score::sequence_score` keeps its promise: an accepted check meets what the score requires. Assumes nothing.
 use mathlib.Core.Path.{sym, ◌∙◌}
-use borrow.Author.Rules.{rules}
 use Rattle.sequence_score.specs.Promise.{answer_to}
 use Rattle.sequence_score.proofs.Laws.{met}
 use Rattle.sequence_score.proofs.sequence_score.Goals as goal

@@ -1,6 +1,4 @@
 -- `set_weights::check_new` meets its contract. Assumes nothing.
-use mathlib.Core.Path.{◌≡◌, sym, ◌∙◌}
-use borrow.Author.Rules.{rules}
 use Rattle.set_weights.specs.SetWeights.{new_checked}
 use Rattle.set_weights.proofs.Laws.{new_stopped, long_enough}
 use Rattle.set_weights.proofs.check_new.Goals as goal

@@ -1,7 +1,6 @@
 -- `set_weights::copy_front` meets its contract: what is passed is the new table's, what is left the old one's. Assumes nothing.
 use Prim.Native.Nat.{◌-◌}
-use borrow.Author.Rules.{rules}
-use Rattle.set_weights.proofs.Laws.{Filled, none_filled, one_more, all_filled}
+use Rattle.set_weights.proofs.Laws.{Filled}
 use Rattle.set_weights.proofs.copy_front.Given as goal
 
 abbrev pub invariant-loop-i : goal.invariant-loop-i

@@ -1,5 +1,4 @@
 -- `set_weights::set_weights` meets its contract: refused, the table is as it was; accepted, its front is the new weights. Assumes nothing.
-use borrow.Author.Rules.{rules}
 use Rattle.set_weights.proofs.Laws.{room_for_new, kept, filled}
 use Rattle.set_weights.proofs.set_weights.Goals as goal
 
@@ -7,7 +6,8 @@ pub returns-in-Refused : goal.returns-in-Refused
 returns-in-Refused c = kept _ _ _ _ c.check_new-answer.ensures c.in-Refused.is
 
 pub copy_front-requires : goal.copy_front-requires
-copy_front-requires c = room_for_new _ _ _ c.check_new-answer.ensures c.in_default.is
+copy_front-requires c =
+    let made = room_for_new _ _ _ c.check_new-answer.ensures c.in_default.is in record { n_in_bounds = made.0; n_in_bounds_2 = made.1 }
 
 pub returns : goal.returns
 returns c =

@@ -1,6 +1,5 @@
 -- `text_bytes::too_long` meets its contract. Assumes nothing.
-use mathlib.Core.Path.{◌≡◌, refl, ◌∙◌}
-use borrow.Author.Rules.{rules}
+use mathlib.Core.Path.{◌∙◌}
 use Rattle.text_bytes.proofs.Told.{first_alone}
 use Rattle.text_bytes.proofs.too_long.Goals as goal
 

@@ -1,7 +1,6 @@
 -- `text_bytes::well_formed` meets its contract. Assumes nothing.
-use mathlib.Core.Path.{◌≡◌, sym, ap, ◌∙◌}
+use mathlib.Core.Path.{sym, ap, ◌∙◌}
 use Rattle.text_bytes.specs.Bytes.{malformed_at}
-use borrow.Author.Rules.{rules}
 use Rattle.text_bytes.proofs.well_formed.Goals as goal
 
 pub returns-in-At : goal.returns-in-At

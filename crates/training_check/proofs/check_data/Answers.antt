@@ -1,5 +1,4 @@
 -- `training_check::check_data` meets its contract. Assumes nothing.
-use borrow.Author.Rules.{rules}
 use Rattle.refusals.specs.Bounds.{instance_weight_table}
 use Rattle.training_check.proofs.Laws.{data_joined}
 use Rattle.training_check.proofs.check_data.Goals as goal

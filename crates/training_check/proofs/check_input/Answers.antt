@@ -1,5 +1,4 @@
 -- `training_check::check_input` meets its contract. Assumes nothing.
-use borrow.Author.Rules.{rules}
 use Rattle.training_check.proofs.Laws.{input_answered}
 use Rattle.training_check.proofs.check_input.Goals as goal
 

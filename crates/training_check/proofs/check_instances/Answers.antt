@@ -1,5 +1,4 @@
 -- `training_check::check_instances` meets its contract: where the sizes are accepted, the starts have room for their tests. Assumes nothing.
-use borrow.Author.Rules.{rules}
 use Rattle.training_check.proofs.Laws.{instances_stopped, instances_room, instances_answered}
 use Rattle.training_check.proofs.check_instances.Goals as goal
 

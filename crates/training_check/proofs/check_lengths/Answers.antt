@@ -1,10 +1,9 @@
 -- `training_check::check_lengths` meets its contract, by the laws of a search. Assumes nothing.
 use mathlib.Core.Path.{sym, ◌∙◌}
-use Prim.Native.Nat.{◌-◌}
 use native.Mathlib.Omega.{arith}
-use borrow.Author.Rules.{rules}
-use Rattle.refusals.proofs.Laws.{Passed, begin, step, answered}
-use Rattle.refusal_rows.specs.Tests.{bad_length}
+use Rattle.refusals.proofs.Laws.{begin, step, answered}
+use mathlib.Core.Logic.{inl, inr}
+use Rattle.training_check.proofs.check_lengths.Goals.{else-loop-i-test, then-loop-i-test+then-bad}
 use Rattle.training_check.proofs.check_lengths.Goals as goal
 
 pub loop-i-init : goal.loop-i-init
@@ -15,4 +14,4 @@ loop-i-preserved c =
     step c.loop-i.invariant (omega arith) (sym c.is_bad_length-bad.ensures ∙ c.if-bad.false)
 
 pub returns : goal.returns
-returns c = answered _ _ c.refuse_if.ensures c.to_check-end.ensures.value c.loop-i.invariant (λ w. w.left) (λ w. (w.0.taken, sym w.3.ensures ∙ w.4.taken)) c.loop-i-test.branch
+returns c = answered _ _ c.refuse_if.ensures c.to_check-end.ensures.value c.loop-i.invariant (λ a. a) (λ b. b) (elim c.loop-i-test.branch [ else-loop-i-test w ↦ inl w.loop-i-test.false | then-loop-i-test+then-bad w ↦ inr (w.loop-i-test.true, sym w.is_bad_length-bad.ensures ∙ w.if-bad.true) ])

@@ -1,9 +1,6 @@
 -- `training_check::check_lengths` meets its contract, by the laws of a search. Assumes nothing.
-use mathlib.Core.Path.{sym, ◌∙◌}
 use Prim.Native.Nat.{◌-◌}
-use native.Mathlib.Omega.{arith}
-use borrow.Author.Rules.{rules}
-use Rattle.refusals.proofs.Laws.{Passed, begin, step, answered}
+use Rattle.refusals.proofs.Laws.{Passed}
 use Rattle.refusal_rows.specs.Tests.{bad_length}
 use Rattle.training_check.proofs.check_lengths.Given as goal
 

@@ -1,5 +1,4 @@
 -- `training_check::check_lent` meets its contract. Assumes nothing.
-use borrow.Author.Rules.{rules}
 use Rattle.refusal_rows.specs.Parts.{part_checked}
 use Rattle.training_check.specs.Parts.{lent_checked}
 use Rattle.training_check.proofs.check_lent.Goals as goal

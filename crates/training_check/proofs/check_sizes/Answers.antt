@@ -1,5 +1,4 @@
 -- `training_check::check_sizes` meets its contract. Assumes nothing.
-use borrow.Author.Rules.{rules}
 use Rattle.refusals.specs.Refusals.{or_next_of}
 use Rattle.training_check.specs.Parts.{instances_sized}
 use Rattle.training_check.proofs.check_sizes.Goals as goal

@@ -1,6 +1,5 @@
 -- `training_check::is_bad_length` meets its contract. Assumes nothing.
 use mathlib.Core.Path.{sym}
-use borrow.Author.Rules.{rules}
 use Rattle.training_check.proofs.Laws.{no_line}
 use Rattle.training_check.proofs.is_bad_length.Goals as goal
 

@@ -1,11 +1,7 @@
--- `training_tables::average` meets its contract: the loop is a pass of `averagedAt`, and the flag the finite test of what it stored. Assumes nothing.
-use mathlib.Core.Path.{◌≡◌, refl, ◌∙◌}
-use Prim.Native.Nat.{◌≤◌, ◌-◌}
+-- `training_tables::average` meets its contract: the loop is a pass of `averaged_at`, and the flag the finite test of what it stored. Assumes nothing.
+use mathlib.Core.Path.{refl, ◌∙◌}
 use native.Mathlib.Omega.{arith}
 use borrow.Author.Rules.{rules}
-use lib.ListN.{length}
-use Rattle.lines.specs.Passes.{through}
-use Rattle.fronts.specs.Finite.{all_finite_of}
 use Rattle.training.specs.Rules.{averaged_at}
 use Rattle.lines.proofs.Laws.{through_none, through_next, through_end}
 use Rattle.fronts.proofs.Finite.{finite_none, finite_stored, flag_next, finite_end}

@@ -1,14 +1,10 @@
--- `training_tables::average` meets its contract: the loop is a pass of `averagedAt`, and the flag the finite test of what it stored. Assumes nothing.
-use mathlib.Core.Path.{◌≡◌, refl, ◌∙◌}
+-- `training_tables::average` meets its contract: the loop is a pass of `averaged_at`, and the flag the finite test of what it stored. Assumes nothing.
+use mathlib.Core.Path.{◌≡◌}
 use Prim.Native.Nat.{◌≤◌, ◌-◌}
-use native.Mathlib.Omega.{arith}
-use borrow.Author.Rules.{rules}
 use lib.ListN.{length}
 use Rattle.lines.specs.Passes.{through}
 use Rattle.fronts.specs.Finite.{all_finite_of}
 use Rattle.training.specs.Rules.{averaged_at}
-use Rattle.lines.proofs.Laws.{through_none, through_next, through_end}
-use Rattle.fronts.proofs.Finite.{finite_none, finite_stored, flag_next, finite_end}
 use Rattle.training_tables.proofs.average.Given as goal
 
 abbrev pub invariant-loop-i : goal.invariant-loop-i

@@ -1,13 +1,10 @@
 -- `training_tables::count_up` meets its contract: each place passed has its own place. Assumes nothing.
-use mathlib.Core.Path.{◌≡◌, refl, sym, ◌∙◌}
-use Prim.Native.Nat.{◌≤◌, ◌-◌}
+use mathlib.Core.Path.{refl, sym, ◌∙◌}
 use native.Mathlib.Omega.{arith}
 use borrow.Author.Rules.{rules}
-use lib.ListN.{length}
 use native.Mathlib.Nat.{zero-add}
-use Rattle.training.specs.Epochs.{up_to}
 use Rattle.training_tables.proofs.Counted.{length_counted, get_d_counted}
-use Rattle.fronts.proofs.Filled.{filled, filled_none, filled_next, filled_end}
+use Rattle.fronts.proofs.Filled.{filled_none, filled_next, filled_end}
 use Rattle.training_tables.proofs.count_up.Goals as goal
 
 pub loop-i-init : goal.loop-i-init

@@ -1,9 +1,0 @@
--- `answers::trainings::numbers_of_training` meets its contract, by the two cases of an answer. Assumes nothing.
-use borrow.Author.Rules.{rules}
-use Rattle.answers.proofs.trainings.numbers_of_training.Goals as goal
-
-pub returns-in-Accepted : goal.returns-in-Accepted
-returns-in-Accepted c = rw c.in-Accepted.is
-
-pub returns-in-Refused : goal.returns-in-Refused
-returns-in-Refused c = rw c.in-Refused.is
