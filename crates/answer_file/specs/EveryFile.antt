@@ -1,6 +1,6 @@
 -- What is written of a file of which only the front was read. Assumes nothing.
-use Rattle.std.specs.Prelude.{◌≡◌, ◌×◌, List, [], ℕ, ◌<◌, length, take, IfSome}
-use Rattle.core.specs.declared.option.Option.{Option}
+use Rattle.std.specs.Prelude.{◌≡◌, List, [], ℕ, ◌<◌, length, take, IfSome}
+use Rattle.std.specs.declared.option.Option.{Option}
 use Rattle.decode_sheet.specs.Program.{printed_line, Printed}
 
 -- n bytes of a buffer were read: the line is that of every file that begins so, which ends there or fills the buffer

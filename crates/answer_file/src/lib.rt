@@ -1,7 +1,7 @@
 // From an open file to its answer line. Everything between what is read and what is written is `answer_front`.
 #![tactic(auto)]
 
-ghost use Rattle.std.specs.Prelude.{ℕ, ◌×◌, ◌≤◌, ◌<◌, List, length, take, IfOk, OnOk, OnErr};
+ghost use Rattle.std.specs.Prelude.{ℕ, ◌≤◌, ◌<◌, List, length, take, IfOk, OnOk, OnErr};
 ghost use Rattle.std.specs.Io.KnownBytes.{Appends, Consumes, IsAtEnd};
 ghost use Rattle.decode_sheet.specs.Front.{longest_sheet};
 ghost use Rattle.answer_file.specs.EveryFile.{PrintedOfEvery, IsLineOf};

@@ -1,5 +1,5 @@
 -- The lead of the decoded path. Assumes nothing.
-use Rattle.std.specs.Prelude.{Bool, true, false, cond, ◌&&◌, ℕ, zero, suc, ◌-◌, ltb, pos, Float}
+use Rattle.std.specs.Prelude.{false, cond, ◌&&◌, ℕ, suc, ◌-◌, ltb, pos, Float}
 use Rattle.std.specs.Float.{fin, binary64}
 use Rattle.std.specs.Float.Ieee.{sub, eq}
 use Rattle.std.specs.Float.Ieee.Scale.{finite}

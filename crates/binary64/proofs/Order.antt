@@ -4,13 +4,13 @@ use mathlib.Core.Logic.{◌⊎◌, inl, inr}
 use Prim.Native.Nat.{ℕ, ◌+◌, ◌*◌, ◌≤◌, ◌<◌}
 use native.Mathlib.Nat.{lt_of_not-le}
 use native.Mathlib.Omega.{arith}
-use mathlib.Core.Bool.{Bool, true, false, not, ◌||◌, false≢true}
-use lib.IntN.{ℤ, pos}
+use mathlib.Core.Bool.{Bool, true, false, not, ◌||◌}
+use lib.IntN.{pos}
 use lib.Dec.{T, T_not}
 use lib.Ieee.{Float, nan, inf, fin, up, down, below, level, lt, le, eq, is_nan}
 use lib.Ieee.Fits.{down_pos}
 use Rattle.binary64.specs.Order.{is_number, Ordered}
-use Rattle.binary64.proofs.Signed.{over, under, Cross, below→, →below, test→, →test, level→, →level, fin-le→, →fin-le, le_or_le, cross_trans, or_r, or_split, iff_eq}
+use Rattle.binary64.proofs.Signed.{over, under, below→, →below, test→, →test, level→, →level, fin-le→, →fin-le, le_or_le, cross_trans, or_r, or_split, iff_eq}
 
 -- ---- the infinities, and NaN
 

@@ -1,13 +1,13 @@
 -- Signed fractions: ±a is the difference of two natural numbers, and a finite value of binary64 is such a difference over a power of two. The tests of `lib.Ieee` mean their order. Assumes nothing.
 use mathlib.Core.Path.{◌≡◌, refl, sym}
 use mathlib.Core.Logic.{◌⊎◌, inl, inr}
-use Prim.Native.Nat.{ℕ, zero, suc, ◌+◌, ◌-◌, ◌*◌, ◌≤◌, ◌<◌}
+use Prim.Native.Nat.{ℕ, ◌+◌, ◌*◌, ◌≤◌, ◌<◌}
 use native.Mathlib.Nat.{le_of_lt, eq-or-lt_of_le, zero-mul, mul-le-mul_right, le_of_mul-le-mul_right}
 use native.Mathlib.Omega.{arith}
-use mathlib.Core.Bool.{Bool, true, false, not, ◌&&◌, ◌||◌}
+use mathlib.Core.Bool.{Bool, true, false, not, ◌||◌}
 use lib.IntN.{ℤ}
-use lib.Dec.{T, ltb, eqb, leb, eqb→eq, ltb→lt, lt→ltb, leb→le, nleb→lt}
-use lib.Ieee.{Float, fin, up, down, below, level, le}
+use lib.Dec.{T, eqb, leb, eqb→eq, ltb→lt, lt→ltb, leb→le, nleb→lt}
+use lib.Ieee.{fin, up, down, below, level, le}
 use lib.Ieee.Fits.{and_l, and_r, and_i, eq→eqb}
 
 -- ---- a signed number ±a, as the difference of two natural numbers

@@ -1,15 +1,15 @@
 -- A rounded sum with a finite number keeps the order and is no NaN: of x ≤ y, x + z ≤ y + z. A sum is one signed fraction, rounded once, and rounding keeps the order of fractions. Assumes nothing.
 use mathlib.Core.Path.{◌≡◌, refl, sym, ap, ◌∙◌, subst}
-use mathlib.Core.Logic.{◌⊎◌, inl, inr}
+use mathlib.Core.Logic.{inl, inr}
 use Prim.Native.Nat.{ℕ, zero, suc, ◌+◌, ◌-◌, ◌*◌, ◌^◌, ◌≤◌, ◌<◌}
-use native.Mathlib.Nat.{le_of_lt, eq-or-lt_of_le, zero-mul, eq-zero-or-pos, mul-le-mul_right, mul-pos}
+use native.Mathlib.Nat.{zero-mul, eq-zero-or-pos, mul-le-mul_right, mul-pos}
 use native.Mathlib.Omega.{arith}
-use mathlib.Core.Bool.{Bool, true, false, not, ◌&&◌, ◌||◌, cond, beq, true≢false, false≢true}
+use mathlib.Core.Bool.{Bool, true, false, not, ◌&&◌, cond, true≢false, false≢true}
 use lib.IntN.{ℤ}
 use lib.Pow.{pow_pos}
-use lib.Dec.{T, ltb, eqb, leb, ltb→lt, nltb→le}
+use lib.Dec.{T, ltb, ltb→lt, nltb→le}
 use lib.Ieee.{Float, nan, inf, fin, Format, prec, emax, low, up, down, le, is_nan, neg, odd, units, round, sum, add}
-use lib.Ieee.Fits.{up_pos, down_pos, core, round_is}
+use lib.Ieee.Fits.{down_pos, round_is}
 use lib.Ieee.Exact.{HasValue, round_exact}
 use lib.Ieee.Order.{round_mono}
 use lib.Ieee.Scale.{finite}

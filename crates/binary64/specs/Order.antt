@@ -1,7 +1,7 @@
 -- The order of binary64, as the decoder relies on it: what is claimed. The proofs are in proofs/Order and proofs/Sums.
 use Rattle.std.specs.Prelude.{Bool, true, false, not, ◌⊎◌, T, pos, Float}
 use Rattle.std.specs.Float.{Format, fin}
-use Rattle.std.specs.Float.Ieee.{is_nan, le, lt, eq, add}
+use Rattle.std.specs.Float.Ieee.{is_nan, le, eq, add}
 use Rattle.std.specs.Float.Ieee.Scale.{finite}
 
 -- "an order without NaN": a number is all that is no NaN, the infinities among them

@@ -1,7 +1,7 @@
 -- What code that walks through a text cites of the look. Assumes nothing.
-use mathlib.Core.Path.{◌≡◌, refl, sym, ap, subst, ◌∙◌}
-use mathlib.Core.Bool.{Bool, true, false, cond, not, ◌||◌, true≢false, false≢true}
-use mathlib.Core.List.{List, [], ◌∷◌}
+use mathlib.Core.Path.{◌≡◌, refl, sym, ap, ◌∙◌}
+use mathlib.Core.Bool.{Bool, true, false, cond, not, ◌||◌, true≢false}
+use mathlib.Core.List.{[], ◌∷◌}
 use Prim.Native.Nat.{ℕ, zero, suc, ◌+◌, ◌≤◌, ◌<◌}
 use native.Mathlib.Numerals.{add-one}
 use lib.Dec.{eqb}
@@ -12,11 +12,10 @@ use native.Mathlib.Nat.{suc-ne-zero}
 use Rattle.layout.specs.declared.Class.{Class}
 use Rattle.layout.specs.declared.Class.TheVariants.{Tab as tab, Feed as feed, Colon as colon, Slash as slash, Minus as minus, Point as point, Digit as digit, Other as other}
 use Rattle.layout.specs.declared.Mode.{Mode}
-use Rattle.layout.specs.declared.Mode.TheVariants.{Begin, Inside, Slashed, Field, Value, Digits, Bad}
-use Rattle.layout.specs.declared.Found.{Found}
+use Rattle.layout.specs.declared.Mode.TheVariants.{Inside, Slashed, Digits}
 use Rattle.layout.specs.declared.Found.TheVariants.{Whole, At}
 use Rattle.layout.specs.Layout.{Bytes}
-use Rattle.layout.specs.Scan.{class_of, ends_scale, next_mode_of, accepting, alive, look_from, look}
+use Rattle.layout.specs.Scan.{class_of, ends_scale, next_mode_of, accepting, alive, look_from}
 use Rattle.layout.proofs.Read.{View, view}
 
 look_cons : (q : Mode) (b : ℕ) (t : Bytes) (i : ℕ) → alive (next_mode_of q (class_of b)) ≡ true → look_from q (b ∷ t) i ≡ look_from (next_mode_of q (class_of b)) t (i + 1)

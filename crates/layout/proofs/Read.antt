@@ -2,19 +2,17 @@
 use mathlib.Core.Path.{◌≡◌, refl, sym, ap, subst, ◌∙◌}
 use mathlib.Core.Bool.{Bool, true, false, cond, ◌&&◌, ◌||◌, true≢false, false≢true}
 use mathlib.Core.List.{List, [], ◌∷◌, ◌++◌, tail, cons≢nil, append_assoc}
-use mathlib.Core.Logic.{◌↔◌}
 use Prim.Native.Nat.{ℕ, zero, suc, ◌+◌, ◌≤◌, ◌<◌}
 use native.Mathlib.Omega.{arith}
-use native.Mathlib.Numerals.{add-one}
 use lib.Dec.{eqb, leb, ltb}
 use lib.ListN.{length}
-use borrow.Author.Tests.{eqb-true, eqb-false, leb-true, leb-false, ltb-true, ltb-false, lt-ltb, le-ltb, le-leb, lt-leb, eq-eqb, ne_eqb}
+use borrow.Author.Tests.{eqb-true, eqb-false, leb-true, ltb-true, lt-ltb, le-leb, ne_eqb}
 use Rattle.layout.specs.declared.Class.{Class}
 use Rattle.layout.specs.declared.Class.TheVariants.{Tab as tab, Feed as feed, Colon as colon, Slash as slash, Minus as minus, Point as point, Digit as digit, Other as other}
 use Rattle.layout.specs.declared.Mode.{Mode}
 use Rattle.layout.specs.declared.Mode.TheVariants.{Begin, Inside, Slashed, Field, Value, Digits, Bad}
-use Rattle.layout.specs.Layout.{Bytes, TextAttribute, Word, Line, empty, word, escaped, scale_text, attributes_text, line_text, more_lines, text_of, Clean, Name, Digits as AllDigits, minus_text, Part, none, point as pointed, part_text, fraction, Scale, KeptText, SoundAttributes, SoundTextLine, EachSound, SoundText, WellFormed, OneOne}
-use Rattle.layout.specs.Scan.{class_of, ends_scale, next_mode_of, mode_after, accepting, alive}
+use Rattle.layout.specs.Layout.{Bytes, TextAttribute, Line, empty, word, escaped, scale_text, attributes_text, line_text, more_lines, text_of, Clean, Name, Digits as AllDigits, minus_text, Part, none, point as pointed, part_text, fraction, Scale, KeptText, SoundAttributes, SoundTextLine, EachSound, SoundText, WellFormed, OneOne}
+use Rattle.layout.specs.Scan.{class_of, ends_scale, next_mode_of, mode_after, accepting}
 
 -- what a byte's class says of it
 abbrev pub View : ℕ → Class → Type 0

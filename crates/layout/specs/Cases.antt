@@ -1,5 +1,5 @@
 -- Document 02's layout on texts: every error with the byte that is charged, and what is no error, in one table. Assumes nothing.
-use Rattle.std.specs.Prelude.{◌≡◌, refl, List, [], ◌∷◌, ◌++◌, map, ℕ, zero, suc, length}
+use Rattle.std.specs.Prelude.{◌≡◌, refl, List, [], ◌∷◌, ◌++◌, map, ℕ, zero, suc}
 use Rattle.layout.specs.declared.Found.{Found}
 use Rattle.layout.specs.declared.Found.TheVariants.{Whole, At}
 use Rattle.layout.specs.Layout.{Bytes}

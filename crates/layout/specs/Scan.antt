@@ -1,5 +1,5 @@
 -- 11 and its place: an automaton over bytes, and what it has to do with the layout. Assumes nothing.
-use Rattle.std.specs.Prelude.{◌≡◌, Bool, true, false, cond, ◌&&◌, List, [], ◌∷◌, ◌++◌, ◌↔◌, ℕ, zero, suc, ◌+◌, ◌≤◌, ◌<◌, eqb, leb, ltb, length, take}
+use Rattle.std.specs.Prelude.{◌≡◌, Bool, true, false, cond, ◌&&◌, [], ◌∷◌, ◌++◌, ◌↔◌, ℕ, zero, suc, ◌+◌, ◌≤◌, ◌<◌, eqb, leb, ltb, length, take}
 use Rattle.layout.specs.declared.Mode.{Mode}
 use Rattle.layout.specs.declared.Mode.TheVariants.{Begin, Inside, Slashed, Field, Value, Digits, Bad}
 use Rattle.layout.specs.declared.Class.{Class}

@@ -1,18 +1,18 @@
 -- Scoring and counting in the front of a longer buffer: the front is as if it stood alone, and what comes after it stays. And the
 -- lengths of their tables. Assumes nothing.
-use mathlib.Core.Path.{◌≡◌, refl, sym, ap, ◌∙◌}
+use mathlib.Core.Path.{◌≡◌, refl, ap, ◌∙◌}
 use mathlib.Core.List.{List, ◌++◌}
-use Prim.Native.Nat.{ℕ, suc, ◌+◌, ◌-◌, ◌*◌, ◌≤◌, ◌<◌, min}
+use Prim.Native.Nat.{ℕ, ◌+◌, ◌-◌, ◌*◌, ◌≤◌, ◌<◌, min}
 use native.Mathlib.Nat.{suc-mul}
 use native.Mathlib.Numerals.{add-one}
 use native.Mathlib.Nat.{mul-le-mul_right}
 use native.Mathlib.Omega.{arith}
-use lib.ListN.{get_or, set, length, length-set, replicate, length-replicate, get_or-append}
+use lib.ListN.{set, length, length-set, replicate, length-replicate, get_or-append}
 use lib.Seq.{set-append_left}
 use lib.Ieee.{Float, nan, binary64, add}
 use Rattle.lines.specs.Passes.{through, raised}
 use Rattle.binary64.specs.Numbers.{nought, whole}
-use Rattle.lines.specs.Tables.{Model, Words, Transition}
+use Rattle.lines.specs.Tables.{Model, Words}
 use Rattle.lines.specs.Scored.{scored_word, states_of, scored_label, transitions_of}
 use Rattle.lines.specs.Counted.{counted_word, counted_transition, counts_of}
 use Rattle.lines.specs.Sound.{SoundLists, SoundStates, SoundTransitions}

@@ -1,21 +1,19 @@
 -- Scoring and counting add at the places that the lists' entries lead to and change nothing else: a property of changes that those
 -- additions have, the whole has. Assumes nothing.
-use mathlib.Core.Bool.{Bool, true, false, cond, ◌&&◌}
+use mathlib.Core.Bool.{◌&&◌}
 use mathlib.Core.Path.{◌≡◌}
 use mathlib.Core.List.{List}
-use Prim.Native.Nat.{ℕ, ◌+◌, ◌-◌, ◌*◌, ◌<◌, min}
-use native.Mathlib.Omega.{arith}
+use Prim.Native.Nat.{ℕ, ◌+◌, ◌-◌, ◌*◌, ◌<◌}
 use lib.Dec.{eqb, ltb}
 use lib.ListN.{get_or}
-use lib.Ieee.{Float, nan, binary64, mul}
+use lib.Ieee.{Float}
 use borrow.Author.Tests.{ltb-true, eqb-true}
-use Rattle.lines.specs.declared.Attribute.{Attribute}
-use Rattle.lines.specs.Passes.{through, through_list, start, raised}
+use Rattle.lines.specs.Passes.{start, raised}
 use Rattle.lines.specs.Tables.{Model, Words, attribute_at, State, Transition}
 use Rattle.lines.specs.Scored.{state_entry_of, scored_attribute, scored_at, scored_word, transition_entry_of, scored_label}
 use Rattle.lines.specs.Counted.{state_count, counted_attribute, counted_at, counted_word, transition_count_of, counted_transition}
 use Rattle.binary64.specs.Numbers.{whole}
-use Rattle.lines.proofs.Changes.{Closed, through_all, cond_all, list_all}
+use Rattle.lines.proofs.Changes.{Closed, cond_all, list_all}
 
 -- the features that attribute lists and label lists name
 abbrev pub listed : Model → ℕ → ℕ

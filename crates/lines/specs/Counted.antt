@@ -3,7 +3,7 @@ use Rattle.std.specs.Prelude.{cond, ◌&&◌, List, ℕ, ◌+◌, ◌-◌, eqb, 
 use Rattle.lines.specs.declared.Attribute.{Attribute}
 use Rattle.lines.specs.Passes.{through, through_list, raised}
 use Rattle.binary64.specs.Numbers.{nought, whole}
-use Rattle.lines.specs.Tables.{Features, Lists, Model, Words, attribute_at, State, Transition}
+use Rattle.lines.specs.Tables.{Model, Words, attribute_at, State, Transition}
 
 module _ (m : Model) where
   -- "State entries of the word's label add their value": the entry at a place of the attribute lists

@@ -1,5 +1,5 @@
 -- Sentences of document 01 on scoring and counting, on one small model, computed. Assumes nothing.
-use Rattle.std.specs.Prelude.{◌≡◌, refl, List, [], ◌∷◌, map, ℕ, pos, Float}
+use Rattle.std.specs.Prelude.{◌≡◌, refl, List, [], ◌∷◌, map, Float}
 use Rattle.std.specs.Float.{binary64}
 use Rattle.std.specs.Float.Ieee.{of_int, to_bits, add, mul}
 use Rattle.lines.specs.Passes.{through, raised}

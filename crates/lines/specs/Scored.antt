@@ -5,7 +5,7 @@ use Rattle.std.specs.Float.Ieee.{mul}
 use Rattle.lines.specs.declared.Attribute.{Attribute}
 use Rattle.lines.specs.Passes.{through, through_list, raised}
 use Rattle.binary64.specs.Numbers.{nought}
-use Rattle.lines.specs.Tables.{Features, Lists, Model, Words, attribute_at, State, Transition}
+use Rattle.lines.specs.Tables.{Model, Words, attribute_at, State, Transition}
 
 module _ (m : Model) (weights : List Float) where
   -- "each State entry adds weight·value at its destination": the entry at a place of the attribute lists, for a word of the line

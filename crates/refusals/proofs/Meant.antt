@@ -1,21 +1,20 @@
 -- The checks of one table mean what `Meaning` says: one law over the test, and each test against its row. Assumes nothing.
 use mathlib.Core.Path.{◌≡◌, refl, sym, ◌∙◌, ap}
-use mathlib.Core.Bool.{Bool, true, false, not, ◌&&◌, ◌||◌, or-true, true≢false, false≢true}
-use mathlib.Core.Logic.{◌⊎◌, inl, inr, ◌↔◌, ⊎_elim}
+use mathlib.Core.Bool.{Bool, true, false, ◌&&◌, ◌||◌, or-true, true≢false, false≢true}
+use mathlib.Core.Logic.{◌↔◌, ⊎_elim}
 use mathlib.Core.List.{List}
 use Prim.Native.Nat.{ℕ, zero, suc, ◌+◌, ◌-◌, ◌<◌, ◌≤◌}
 use native.Mathlib.Nat.{lt_of_not-le}
 use native.Mathlib.Omega.{arith}
 use borrow.Author.Tests.{eqb-true, eqb-false, ltb-true, ltb-false, leb-true, leb-false, eq-eqb, ne_eqb, lt-ltb, le-leb, not-true, not-false}
-use lib.Dec.{eqb, ltb, leb}
+use lib.Dec.{eqb}
 use lib.ListN.{get_or}
 use lib.Ieee.{Float, nan}
 use lib.Ieee.Scale.{finite}
 use Rattle.refusals.specs.Refusals.{refused_at, refuse, or_next_of, lowest}
-use Rattle.refusals.specs.Tables.{bad_start, start_before, bad_kind, not_below, bad_source, not_finite, starts_checked, kinds_checked, ids_checked, sources_checked, numbers_checked}
+use Rattle.refusals.specs.Tables.{bad_start, start_before, bad_kind, not_below, bad_source, not_finite, kinds_checked, ids_checked, sources_checked, numbers_checked}
 use Rattle.refusals.specs.Meaning.{FirstBad, Exactly, BadStart, not_zero, falls, not_the_count, StartsMean, KindsMean, IdsMean, SourcesMean, NumbersMean, Starts, StartsKept, FirstMeans}
 use Rattle.refusals.specs.declared.Refusal.{Refusal}
-use Rattle.refusals.specs.declared.Checked.{Checked}
 use Rattle.refusals.specs.declared.Checked.TheVariants.{Accepted, Refused}
 use Rattle.refusals.proofs.Laws.{hit, never, both, either, passes, holds, number_of_lem, place_of_lem, all_accepted, accepted_all, first_refused, refused_first}
 

@@ -1,7 +1,6 @@
 -- Decided points and rows of document 01, computed. Assumes nothing.
 use Rattle.std.specs.Prelude.{◌≡◌, refl, false, true, [], ◌∷◌, pos}
 use Rattle.std.specs.Float.{nan, inf, fin}
-use Rattle.refusals.specs.declared.Checked.{Checked}
 use Rattle.refusals.specs.declared.Checked.TheVariants.{Accepted}
 use Rattle.refusals.specs.Refusals.{refused_at, refuse, or_next_of, sooner, lowest, first}
 use Rattle.refusals.specs.Tables.{outside, starts_checked, kinds_checked, ids_checked, sources_checked, numbers_checked}

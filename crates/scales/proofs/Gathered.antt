@@ -1,11 +1,9 @@
 -- A scale gathered byte by byte is the scale's value. Assumes nothing.
-use Rattle.std.proofs.Common.{◌≡◌, ℕ, zero, suc, ◌+◌, ◌-◌, ◌*◌, ◌^◌, ◌<◌, ◌≤◌, Bool, true, false, cond, eqb, List, [], ◌∷◌, ◌++◌, length, get_or, drop, sym, refl, ap, ◌∙◌, subst, append-nil, le_trans, pow-suc, add-one, arith, drop_of_length-le, drop-cons, ne_eqb, eqb-true}
-use native.Mathlib.Nat.{pow-zero}
+use Rattle.std.proofs.Common.{◌≡◌, ℕ, suc, ◌+◌, ◌-◌, ◌*◌, ◌^◌, ◌<◌, ◌≤◌, Bool, true, false, cond, [], ◌∷◌, ◌++◌, length, get_or, drop, sym, refl, ap, ◌∙◌, subst, append-nil, le_trans, pow-suc, add-one, arith, drop_of_length-le, drop-cons, ne_eqb}
 use lib.Ieee.{Float, binary64, round}
-use borrow.Author.Tests.{eqb-false}
 use Rattle.layout.specs.Layout.{Bytes, Digits, Part, none, point as pointed, part_text, fraction, minus_text, Scale}
 use Rattle.scales.specs.declared.Amount.{Amount}
-use Rattle.scales.specs.Value.{digits_worth, scale_value, value_of, taken, Ready}
+use Rattle.scales.specs.Value.{digits_worth, value_of, taken, Ready}
 use Rattle.scales.proofs.Laws.{tens}
 use Rattle.scales.proofs.Meant.{value_meant}
 

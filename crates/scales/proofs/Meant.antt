@@ -1,7 +1,7 @@
 -- The value of a kept text is that of its sign, digits and point. Assumes nothing.
-use Rattle.std.proofs.Common.{◌≡◌, ℕ, zero, suc, ◌+◌, ◌^◌, ◌<◌, ◌≤◌, Bool, true, false, cond, ◌&&◌, eqb, leb, List, [], ◌∷◌, ◌++◌, length, sym, refl, ap, ◌∙◌, subst, append-nil, arith, ne_eqb, le-leb}
+use Rattle.std.proofs.Common.{◌≡◌, ℕ, ◌+◌, ◌^◌, ◌≤◌, Bool, true, false, [], ◌∷◌, ◌++◌, length, sym, refl, ap, ◌∙◌, subst, append-nil, arith, ne_eqb, le-leb}
 use lib.Ieee.{Float, binary64, round, of_bits, of_int}
-use Rattle.layout.specs.Layout.{Bytes, Digits, Part, none, point as pointed, part_text, fraction, minus_text, Scale}
+use Rattle.layout.specs.Layout.{Bytes, Digits, Part, none, point as pointed, part_text, fraction, minus_text}
 use Rattle.scales.specs.Value.{digits_worth, digits_in, behind_point, value_of, scale_value, ValueMeant}
 
 -- digits in front stay, and no point is among them

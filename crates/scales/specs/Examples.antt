@@ -1,5 +1,5 @@
 -- Values of the desk: the bits of the nearest binary64. Assumes nothing.
-use Rattle.std.specs.Prelude.{◌≡◌, ℕ, List, [], ◌∷◌, refl}
+use Rattle.std.specs.Prelude.{◌≡◌, ℕ, [], ◌∷◌, refl}
 use Rattle.std.specs.Float.{binary64}
 use Rattle.std.specs.Float.Ieee.{to_bits, round, of_int}
 use Rattle.layout.specs.Layout.{Bytes}

@@ -1,11 +1,11 @@
 -- Laws of the shuffle: those of the draw rule, and one swap of the loop. Assumes nothing.
-use mathlib.Core.Path.{◌≡◌, refl, sym, ap, ◌∙◌}
+use mathlib.Core.Path.{◌≡◌, refl}
 use mathlib.Core.List.{List}
-use Prim.Native.Nat.{ℕ, zero, suc, ◌+◌, ◌-◌, ◌%◌, ◌≤◌, ◌<◌}
+use Prim.Native.Nat.{ℕ, zero, suc, ◌+◌, ◌-◌, ◌≤◌, ◌<◌}
 use native.Mathlib.Nat.{mod-lt, not-suc-le-zero}
 use native.Mathlib.Omega.{arith}
 use Rattle.generator.specs.Draw.{next, number}
-use Rattle.shuffle.specs.Shuffle.{Deal, chosen, swapped, swapped_at, shuffled_from, shuffled}
+use Rattle.shuffle.specs.Shuffle.{Deal, chosen, swapped, swapped_at, shuffled_from}
 
 -- the draw rule stays among 0 to i
 pub chosen_within : (drawn i : ℕ) → chosen drawn i ≤ i

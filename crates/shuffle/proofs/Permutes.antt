@@ -1,5 +1,5 @@
 -- A shuffle permutes the first n of an order and leaves the rest, whatever is drawn: each swap does. Assumes nothing.
-use mathlib.Core.Path.{◌≡◌, refl, sym, ap, ◌∙◌}
+use mathlib.Core.Path.{◌≡◌, refl, ap, ◌∙◌}
 use mathlib.Core.Bool.{Bool, true, false, cond}
 use mathlib.Core.List.{List, [], ◌∷◌}
 use Prim.Native.Nat.{ℕ, zero, suc, ◌+◌, ◌-◌, ◌≤◌, ◌<◌}
@@ -7,10 +7,10 @@ use native.Mathlib.Nat.{not-suc-le-zero, lt_of_le_of_lt}
 use native.Mathlib.Omega.{arith}
 use borrow.Author.Tests.{eqb-true, eqb-false}
 use lib.Dec.{eqb}
-use lib.ListN.{length, get_or, set, take, drop, length-set}
+use lib.ListN.{length, get_or, set, take, length-set}
 use lib.Seq.{length-take-le, take-set-lt, drop-set-lt, get_or-take, get_or-set_same, get_or-set_other}
 use Rattle.shuffle.specs.Shuffle.{Deal, chosen, swapped, swapped_at, shuffled_from, shuffled}
-use Rattle.shuffle.specs.Permutation.{times, Permutation, FrontPermuted}
+use Rattle.shuffle.specs.Permutation.{times, FrontPermuted}
 use Rattle.shuffle.proofs.Laws.{chosen_within}
 
 -- ---- one store changes how often two numbers stand in a list

@@ -1,10 +1,8 @@
 -- `byte_buffers::put_bytes` meets its contract. Assumes nothing.
 use Prim.Native.Nat.{◌-◌, ◌≤◌}
-use native.Mathlib.Omega.{arith}
-use borrow.Author.Rules.{rules}
 use lib.ListN.{length}
 use lib.Seq.{slice}
-use Rattle.byte_buffers.proofs.Onto.{Onto, onto_starts, onto_as, onto_room, onto_byte, onto_over, part_next, part_over}
+use Rattle.byte_buffers.proofs.Onto.{Onto}
 use Rattle.byte_buffers.proofs.put_bytes.Given as goal
 
 abbrev pub invariant-loop-i : goal.invariant-loop-i

@@ -1,7 +1,4 @@
 -- `byte_steps::behind_slash` meets its contract. Assumes nothing.
-use borrow.Author.Rules.{rules}
-use Rattle.byte_steps.proofs.behind_slash.Reads as reads
-use Rattle.byte_steps.proofs.behind_slash.Lts as lts
 use Rattle.byte_steps.proofs.behind_slash.Goals as goal
 
 pub returns-in-Colon : goal.returns-in-Colon

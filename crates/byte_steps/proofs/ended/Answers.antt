@@ -1,8 +1,5 @@
 -- `byte_steps::ended` meets its contract. Assumes nothing.
 use Rattle.layout.proofs.Laws.{ended_law}
-use borrow.Author.Rules.{rules}
-use Rattle.byte_steps.proofs.ended.Reads as reads
-use Rattle.byte_steps.proofs.ended.Lts as lts
 use Rattle.byte_steps.proofs.ended.Goals as goal
 
 pub returns-else-digits-eq0 : goal.returns-else-digits-eq0

@@ -1,9 +1,4 @@
 -- `byte_steps::in_digits` meets its contract. Assumes nothing.
-use borrow.Author.Rules.{rules}
-use Rattle.byte_steps.proofs.in_digits.Reads as reads
-use Rattle.byte_steps.proofs.in_digits.Lts as lts
-use Rattle.byte_steps.proofs.ended.Reads as ended_reads
-use Rattle.byte_steps.proofs.one_more.Reads as one_more_reads
 use Rattle.byte_steps.proofs.in_digits.Goals as goal
 
 pub returns-in-Tab : goal.returns-in-Tab

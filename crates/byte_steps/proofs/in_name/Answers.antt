@@ -1,7 +1,4 @@
 -- `byte_steps::in_name` meets its contract. Assumes nothing.
-use borrow.Author.Rules.{rules}
-use Rattle.byte_steps.proofs.in_name.Reads as reads
-use Rattle.byte_steps.proofs.in_name.Lts as lts
 use Rattle.byte_steps.proofs.in_name.Goals as goal
 
 pub returns-in-Colon : goal.returns-in-Colon

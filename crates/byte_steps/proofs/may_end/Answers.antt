@@ -1,8 +1,5 @@
 -- `byte_steps::may_end` meets its contract. Assumes nothing.
 use Rattle.layout.proofs.Laws.{digits_law}
-use borrow.Author.Rules.{rules}
-use Rattle.byte_steps.proofs.may_end.Reads as reads
-use Rattle.byte_steps.proofs.may_end.Lts as lts
 use Rattle.byte_steps.proofs.may_end.Goals as goal
 
 pub returns-in-Digits : goal.returns-in-Digits

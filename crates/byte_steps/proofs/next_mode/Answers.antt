@@ -1,13 +1,4 @@
 -- `byte_steps::next_mode` meets its contract. Assumes nothing.
-use borrow.Author.Rules.{rules}
-use Rattle.byte_steps.proofs.next_mode.Reads as reads
-use Rattle.byte_steps.proofs.next_mode.Lts as lts
-use Rattle.byte_steps.proofs.at_begin.Reads as at_begin_reads
-use Rattle.byte_steps.proofs.at_field.Reads as at_field_reads
-use Rattle.byte_steps.proofs.at_value.Reads as at_value_reads
-use Rattle.byte_steps.proofs.behind_slash.Reads as behind_slash_reads
-use Rattle.byte_steps.proofs.in_digits.Reads as in_digits_reads
-use Rattle.byte_steps.proofs.in_name.Reads as in_name_reads
 use Rattle.byte_steps.proofs.next_mode.Goals as goal
 
 pub returns-in-Inside : goal.returns-in-Inside

@@ -1,8 +1,5 @@
 -- `byte_steps::one_more` meets its contract. Assumes nothing.
 use borrow.Author.Tests.{lt-ltb, le-ltb}
-use borrow.Author.Rules.{rules}
-use Rattle.byte_steps.proofs.one_more.Reads as reads
-use Rattle.byte_steps.proofs.one_more.Lts as lts
 use Rattle.byte_steps.proofs.one_more.Goals as goal
 
 pub returns-then-digits-lt15 : goal.returns-then-digits-lt15

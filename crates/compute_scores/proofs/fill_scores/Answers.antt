@@ -1,5 +1,4 @@
 -- `compute_scores::fill_scores` meets its contract: an accepted line meets what its scores require. Assumes nothing.
-use borrow.Author.Rules.{rules}
 use Rattle.lines.specs.Tables.{Model}
 use Rattle.feature_gen.specs.Lent.{model_of}
 use Rattle.finished.proofs.Laws.{from_first}

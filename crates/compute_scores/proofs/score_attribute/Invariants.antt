@@ -1,12 +1,10 @@
 -- `compute_scores::score_attribute` meets its contract. The loop's invariant: the entries before this one are added. Assumes nothing.
 use Prim.Native.Nat.{◌-◌}
-use mathlib.Core.Path.{◌≡◌, refl}
+use mathlib.Core.Path.{◌≡◌}
 use mathlib.Core.List.{[]}
-use native.Mathlib.Omega.{arith}
-use borrow.Author.Rules.{rules}
 use lib.ListN.{length}
 use Rattle.lines.specs.Scored.{state_entry_of}
-use Rattle.lines.proofs.Laws.{Passed, passed_none, passed_next, passed_end}
+use Rattle.lines.proofs.Laws.{Passed}
 use Rattle.lines.specs.Lent.{bare, with_states}
 use Rattle.compute_scores.proofs.score_attribute.Given as goal
 

@@ -1,13 +1,8 @@
 -- `compute_scores::score_label` meets its contract. The loop's invariant: the entries before this one are added. Assumes nothing.
-use Prim.Native.Nat.{◌-◌}
-use mathlib.Core.Path.{◌≡◌, refl}
-use mathlib.Core.List.{[]}
+use mathlib.Core.Path.{refl}
 use native.Mathlib.Omega.{arith}
 use borrow.Author.Rules.{rules}
-use lib.ListN.{length}
-use Rattle.lines.specs.Scored.{transition_entry_of}
-use Rattle.lines.proofs.Laws.{Passed, passed_none, passed_next, passed_end}
-use Rattle.lines.specs.Lent.{bare, with_transitions}
+use Rattle.lines.proofs.Laws.{passed_none, passed_next, passed_end}
 use Rattle.compute_scores.proofs.score_label.Goals as goal
 
 pub loop-e-init : goal.loop-e-init

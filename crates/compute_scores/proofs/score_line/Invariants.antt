@@ -1,16 +1,10 @@
 -- `compute_scores::score_line` meets its contract. The loop's invariant: the words before this one are scored. Assumes nothing.
-use Prim.Native.Nat.{◌≤◌, ◌<◌, ◌-◌, ◌+◌}
-use mathlib.Core.Path.{◌≡◌, refl}
-use native.Mathlib.Omega.{arith}
-use borrow.Author.Rules.{rules}
-use lib.Ieee.{of_bits}
+use Prim.Native.Nat.{◌≤◌, ◌-◌}
+use mathlib.Core.Path.{◌≡◌}
 use lib.ListN.{length}
 use Rattle.lines.specs.Passes.{through}
-use Rattle.lines.specs.Scored.{scored_at, scored_word}
-use Rattle.lines.proofs.Laws.{through_none, through_next}
-use Rattle.lines.proofs.Fronts.{row_room}
+use Rattle.lines.specs.Scored.{scored_word}
 use Rattle.lines.specs.Lent.{bare, with_states}
-use Rattle.compute_scores.proofs.StateTurns.{word_turn, line_end}
 use Rattle.compute_scores.proofs.score_line.Given as goal
 
 abbrev pub invariant-loop-word : goal.invariant-loop-word

@@ -1,13 +1,10 @@
 -- `compute_scores::score_transitions` meets its contract. The loop's invariant: the label lists before this one are added. Assumes nothing.
-use Prim.Native.Nat.{◌≤◌, ◌<◌, ◌-◌}
-use mathlib.Core.Path.{◌≡◌, refl}
+use Prim.Native.Nat.{◌<◌}
+use mathlib.Core.Path.{refl}
 use native.Mathlib.Omega.{arith}
 use borrow.Author.Rules.{rules}
 use lib.Ieee.{of_bits}
-use lib.ListN.{length}
-use Rattle.lines.specs.Passes.{through, through_list}
 use Rattle.lines.specs.Scored.{transition_entry_of}
-use Rattle.lines.specs.Lent.{bare, with_transitions}
 use Rattle.lines.proofs.Laws.{through_none, through_next}
 use Rattle.lines.proofs.Spans.{span_sound, list_turn}
 use Rattle.compute_scores.proofs.TransitionTurns.{labels_end}

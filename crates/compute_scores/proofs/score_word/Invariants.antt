@@ -1,15 +1,11 @@
 -- `compute_scores::score_word` meets its contract. The loop's invariant: the attributes before this one are scored, and this one and the places of its list are at hand. Assumes nothing.
 use Prim.Native.Nat.{◌-◌}
-use mathlib.Core.Path.{refl, ◌≡◌}
+use mathlib.Core.Path.{◌≡◌}
 use mathlib.Core.List.{[]}
-use native.Mathlib.Omega.{arith}
-use borrow.Author.Rules.{rules}
 use lib.ListN.{length}
 use Rattle.lines.specs.Spans.{attribute_before_of, span_of}
-use Rattle.lines.specs.Scored.{state_entry_of, scored_at}
-use Rattle.lines.proofs.Laws.{between_nothing, Passed, passed_none, passed_next, passed_end}
-use Rattle.lines.proofs.Spans.{span_sound}
-use Rattle.compute_scores.proofs.StateTurns.{scored_turn}
+use Rattle.lines.specs.Scored.{scored_at}
+use Rattle.lines.proofs.Laws.{Passed}
 use Rattle.lines.specs.Lent.{bare, with_states}
 use Rattle.compute_scores.proofs.score_word.Given as goal
 

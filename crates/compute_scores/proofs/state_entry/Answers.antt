@@ -1,7 +1,6 @@
 -- `compute_scores::state_entry` meets its contract: the destination is a label, so its place is in the word's row. Assumes nothing.
 use Prim.Native.Nat.{◌+◌, ◌*◌, ◌<◌}
 use native.Mathlib.Omega.{arith}
-use borrow.Author.Rules.{rules}
 use borrow.Author.Tests.{eq-eqb, ne_eqb}
 use lib.ListN.{length}
 use Rattle.lines.specs.Passes.{raised}
@@ -11,7 +10,7 @@ use Rattle.compute_scores.proofs.state_entry.Goals as goal
 
 inside : (c : After-at) → c.args.word * c.args.labels + c.at.result < length c.args.states.now
 inside c =
-    omega (arith, c.at.ensures, c.requires.sound_states.leads c.at-i.result (omega (arith, c.at-i.ensures, c.requires.1)), c.requires.1)
+    omega (arith, c.at.ensures, c.requires.sound_states.leads c.at-i.result (omega (arith, c.at-i.ensures, c.requires.e_bound)), c.requires.labels_in_bounds)
 
 pub overflow_add-p : goal.overflow_add-p
 overflow_add-p c = omega (arith, inside (goal.at.overflow_add-p c).After-at)

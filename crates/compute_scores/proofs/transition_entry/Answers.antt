@@ -2,7 +2,6 @@
 use Prim.Native.Nat.{ℕ, ◌+◌, ◌*◌, ◌≤◌, ◌<◌}
 use native.Mathlib.Omega.{arith}
 use native.Mathlib.Nat.{mul-le-mul_right, le_of_lt}
-use borrow.Author.Rules.{rules}
 use borrow.Author.Tests.{eq-eqb, ne_eqb}
 use lib.ListN.{length}
 use Rattle.lines.specs.Passes.{raised}
@@ -30,7 +29,7 @@ both labels size a b h k r =
 read : (c : After-at-destination) → Labels c.args.labels (length c.args.transitions.now) c.at-source.result c.at-destination.result
 read c =
     let i = c.at-i.result in
-    let h : i < c.args.features = omega (arith, c.at-i.ensures, c.requires.1) in
+    let h : i < c.args.features = omega (arith, c.at-i.ensures, c.requires.e_bound) in
     both _ _ _ _ (rw c.at-source.ensures (c.requires.sound_transitions.leaves i h c.if-kinds-i-eq1.true)) (rw c.at-destination.ensures (c.requires.sound_transitions.states.leads i h)) c.requires.labels_in_bounds
 
 pub overflow_mul-p : goal.overflow_mul-p

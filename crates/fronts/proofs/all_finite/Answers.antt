@@ -1,6 +1,5 @@
 -- `fronts::all_finite` meets its contract: twice the half is the whole front, or all but its last. Assumes nothing.
 use native.Mathlib.Omega.{arith}
-use borrow.Author.Rules.{rules}
 use Rattle.fronts.proofs.Finite.{odd_end, even_end}
 use Rattle.fronts.proofs.all_finite.Goals as goal
 

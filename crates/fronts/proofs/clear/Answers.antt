@@ -1,10 +1,9 @@
 -- `fronts::clear` meets its contract: each place passed has 0. Assumes nothing.
-use mathlib.Core.Path.{◌≡◌, refl, sym, ◌∙◌}
-use Prim.Native.Nat.{◌≤◌, ◌-◌}
+use mathlib.Core.Path.{refl, sym, ◌∙◌}
 use native.Mathlib.Omega.{arith}
 use borrow.Author.Rules.{rules}
-use lib.ListN.{length, replicate, length-replicate, get_or-replicate}
-use Rattle.fronts.proofs.Filled.{filled, filled_none, filled_next, filled_end}
+use lib.ListN.{length-replicate, get_or-replicate}
+use Rattle.fronts.proofs.Filled.{filled_none, filled_next, filled_end}
 use Rattle.fronts.proofs.clear.Goals as goal
 
 pub loop-i-init : goal.loop-i-init

@@ -1,10 +1,8 @@
 -- `fronts::clear` meets its contract: each place passed has 0. Assumes nothing.
-use mathlib.Core.Path.{◌≡◌, refl, sym, ◌∙◌}
+use mathlib.Core.Path.{◌≡◌}
 use Prim.Native.Nat.{◌≤◌, ◌-◌}
-use native.Mathlib.Omega.{arith}
-use borrow.Author.Rules.{rules}
-use lib.ListN.{length, replicate, length-replicate, get_or-replicate}
-use Rattle.fronts.proofs.Filled.{filled, filled_none, filled_next, filled_end}
+use lib.ListN.{length, replicate}
+use Rattle.fronts.proofs.Filled.{filled}
 use Rattle.fronts.proofs.clear.Given as goal
 
 abbrev pub invariant-loop-i : goal.invariant-loop-i

@@ -1,11 +1,10 @@
 -- `fronts::fill` meets its contract: each place passed has the value. Assumes nothing.
-use mathlib.Core.Path.{◌≡◌, refl, sym, ◌∙◌}
-use Prim.Native.Nat.{◌≤◌, ◌-◌}
+use mathlib.Core.Path.{refl, sym, ◌∙◌}
 use native.Mathlib.Omega.{arith}
 use borrow.Author.Rules.{rules}
-use lib.ListN.{length, replicate, length-replicate, get_or-replicate}
+use lib.ListN.{length-replicate, get_or-replicate}
 use lib.Ieee.{nan}
-use Rattle.fronts.proofs.Filled.{filled, filled_none, filled_next, filled_end}
+use Rattle.fronts.proofs.Filled.{filled_none, filled_next, filled_end}
 use Rattle.fronts.proofs.fill.Goals as goal
 
 pub loop-i-init : goal.loop-i-init

@@ -2,11 +2,8 @@
 use mathlib.Core.Bool.{◌&&◌}
 use mathlib.Core.Path.{◌≡◌}
 use Prim.Native.Nat.{◌≤◌, ◌-◌}
-use native.Mathlib.Omega.{arith}
-use borrow.Author.Rules.{rules}
 use lib.ListN.{drop}
 use Rattle.fronts.specs.Finite.{all_finite_of}
-use Rattle.fronts.proofs.Finite.{finite_none_both, halves_next, halves_end}
 use Rattle.fronts.proofs.halves_finite.Given as goal
 
 abbrev pub invariant-loop-i : goal.invariant-loop-i

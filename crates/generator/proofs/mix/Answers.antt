@@ -1,5 +1,5 @@
 -- `generator::mix` meets its contract: the two products' equations, one inside the other. Assumes nothing.
-use Rattle.std.proofs.Common.{ℕ, ap, ◌∙◌, rules}
+use Rattle.std.proofs.Common.{ℕ, ap, ◌∙◌}
 use Rattle.generator.specs.SplitMix64.{folded, wrapped}
 use Rattle.generator.proofs.mix.Goals as goal
 

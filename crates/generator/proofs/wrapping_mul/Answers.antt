@@ -1,5 +1,5 @@
 -- `generator::wrapping_mul` meets its contract: each product of halves fits, and together they are the product. Assumes nothing.
-use Rattle.std.proofs.Common.{◌∙◌, arith, rules}
+use Rattle.std.proofs.Common.{◌∙◌, arith}
 use Rattle.generator.proofs.Product.{below, halves}
 use Rattle.generator.proofs.wrapping_mul.Goals as goal
 

@@ -1,6 +1,5 @@
 -- `lines::at` meets its contract: a number of 32 bits fits an index. Assumes nothing.
 use native.Mathlib.Omega.{arith}
-use borrow.Author.Rules.{rules}
 use Rattle.lines.proofs.at.Goals as goal
 
 pub overflow_cast-result : goal.overflow_cast-result

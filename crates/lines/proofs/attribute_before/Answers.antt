@@ -1,5 +1,4 @@
 -- `lines::attribute_before` meets its contract. Assumes nothing.
-use borrow.Author.Rules.{rules}
 use Rattle.lines.specs.Spans.{attribute_before_of}
 use Rattle.lines.proofs.attribute_before.Goals as goal
 

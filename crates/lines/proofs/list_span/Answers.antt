@@ -1,6 +1,5 @@
 -- `lines::list_span` meets its contract. Assumes nothing.
 use borrow.Author.Tests.{lt-ltb, le-ltb}
-use borrow.Author.Rules.{rules}
 use Rattle.lines.specs.Spans.{span_of}
 use Rattle.lines.proofs.list_span.Goals as goal
 

@@ -1,6 +1,5 @@
 -- `refusals::refuse_if` meets its contract. Assumes nothing.
-use mathlib.Core.Path.{sym, ◌∙◌}
-use borrow.Author.Rules.{rules}
+use mathlib.Core.Path.{sym}
 use Rattle.refusals.specs.Refusals.{refuse}
 use Rattle.refusals.proofs.Laws.{alone}
 use Rattle.refusals.proofs.refuse_if.Goals as goal

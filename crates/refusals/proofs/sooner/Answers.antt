@@ -1,6 +1,5 @@
 -- `refusals::sooner` meets its contract. Assumes nothing.
 use mathlib.Core.Path.{sym}
-use borrow.Author.Rules.{rules}
 use Rattle.refusals.specs.Refusals.{sooner}
 use Rattle.refusals.proofs.sooner.Goals as goal
 

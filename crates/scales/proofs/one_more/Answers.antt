@@ -1,5 +1,4 @@
 -- `scales::one_more` meets its contract. Assumes nothing.
-use Rattle.std.proofs.Common.{rules}
 use Rattle.scales.proofs.one_more.Goals as goal
 
 pub returns-then-point : goal.returns-then-point

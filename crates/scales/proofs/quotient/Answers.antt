@@ -1,5 +1,5 @@
 -- `scales::quotient` meets its contract. Assumes nothing.
-use Rattle.std.proofs.Common.{ap, ◌∙◌, rules}
+use Rattle.std.proofs.Common.{ap, ◌∙◌}
 use lib.Ieee.{neg}
 use Rattle.scales.proofs.Laws.{tenths, negated}
 use Rattle.scales.proofs.quotient.Goals as goal

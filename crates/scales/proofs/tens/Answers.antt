@@ -1,6 +1,5 @@
 -- `scales::tens` meets its contract. Assumes nothing.
 use Rattle.scales.proofs.Laws.{tens_at}
-use Rattle.std.proofs.Common.{rules}
 use Rattle.scales.proofs.tens.Goals as goal
 
 pub returns : goal.returns

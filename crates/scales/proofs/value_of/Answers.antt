@@ -1,6 +1,6 @@
 -- `scales::value_of` meets its contract. Assumes nothing.
-use Rattle.std.proofs.Common.{◌-◌, length, arith}
-use Rattle.scales.proofs.Gathered.{Gathering, begins, ready, again, bounded, ends}
+use Rattle.std.proofs.Common.{arith}
+use Rattle.scales.proofs.Gathered.{begins, ready, again, bounded, ends}
 use Rattle.scales.proofs.value_of.Goals as goal
 
 pub loop-i-init : goal.loop-i-init

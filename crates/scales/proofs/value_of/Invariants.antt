@@ -1,6 +1,6 @@
 -- `scales::value_of` meets its contract. Assumes nothing.
-use Rattle.std.proofs.Common.{◌-◌, length, arith}
-use Rattle.scales.proofs.Gathered.{Gathering, begins, ready, again, bounded, ends}
+use Rattle.std.proofs.Common.{◌-◌, length}
+use Rattle.scales.proofs.Gathered.{Gathering}
 use Rattle.scales.proofs.value_of.Given as goal
 
 abbrev pub invariant-loop-i : goal.invariant-loop-i

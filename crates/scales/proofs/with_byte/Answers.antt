@@ -1,5 +1,5 @@
 -- `scales::with_byte` meets its contract. Assumes nothing.
-use Rattle.std.proofs.Common.{arith, rules, eq-eqb, ne_eqb}
+use Rattle.std.proofs.Common.{arith, eq-eqb, ne_eqb}
 use Rattle.scales.proofs.Gathered.{amount_fits, behind_fits, one_byte}
 use Rattle.scales.proofs.with_byte.Goals as goal
 

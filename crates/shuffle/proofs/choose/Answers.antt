@@ -1,7 +1,6 @@
 -- `shuffle::choose` meets its contract. Assumes nothing.
 use mathlib.Core.Path.{refl}
 use Rattle.shuffle.specs.Shuffle.{chosen}
-use borrow.Author.Rules.{rules}
 use Rattle.shuffle.proofs.choose.Goals as goal
 
 pub returns : goal.returns

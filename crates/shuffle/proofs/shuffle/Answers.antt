@@ -1,10 +1,9 @@
 -- `shuffle::shuffle` meets its contract. The loop's invariant: what is left to do, done to what there is, gives what is promised. Assumes nothing.
-use Prim.Native.Nat.{ℕ, ◌≤◌, ◌<◌, ◌-◌}
-use mathlib.Core.Path.{◌≡◌, refl, sym, ap, ◌∙◌}
+use Prim.Native.Nat.{ℕ}
+use mathlib.Core.Path.{refl, sym, ap, ◌∙◌}
 use native.Mathlib.Omega.{arith}
 use borrow.Author.Rules.{rules}
-use lib.ListN.{length}
-use Rattle.shuffle.specs.Shuffle.{Deal, chosen, shuffled_from, shuffled}
+use Rattle.shuffle.specs.Shuffle.{chosen, shuffled}
 use Rattle.shuffle.proofs.Laws.{chosen_within, from_next, from_end}
 use Rattle.shuffle.proofs.shuffle.Goals as goal
 

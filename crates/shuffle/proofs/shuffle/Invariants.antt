@@ -1,11 +1,8 @@
 -- `shuffle::shuffle` meets its contract. The loop's invariant: what is left to do, done to what there is, gives what is promised. Assumes nothing.
-use Prim.Native.Nat.{ℕ, ◌≤◌, ◌<◌, ◌-◌}
-use mathlib.Core.Path.{◌≡◌, refl, sym, ap, ◌∙◌}
-use native.Mathlib.Omega.{arith}
-use borrow.Author.Rules.{rules}
+use Prim.Native.Nat.{◌<◌}
+use mathlib.Core.Path.{◌≡◌}
 use lib.ListN.{length}
-use Rattle.shuffle.specs.Shuffle.{Deal, chosen, shuffled_from, shuffled}
-use Rattle.shuffle.proofs.Laws.{chosen_within, from_next, from_end}
+use Rattle.shuffle.specs.Shuffle.{shuffled_from, shuffled}
 use Rattle.shuffle.proofs.shuffle.Given as goal
 
 abbrev pub invariant-loop-i : goal.invariant-loop-i
