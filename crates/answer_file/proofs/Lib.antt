@@ -1,1 +1,2 @@
 pub mod EveryFile
+pub mod Streams

@@ -62,8 +62,8 @@ pub fn answer_file<R: Read, W: Write>(file: &mut R, out: &mut W) -> io::Result<u
     ensures within { IfOk result (λ n. n ≤ 40969) }
     ensures line { IfOk result (λ n. (line : List ℕ) × IsLineOf (R.remaining file.old) n line
         × Appends (W.contents out.old) (W.contents out.new) line) }
-    ensures err { OnErr result ((n : ℕ) × (line : List ℕ) × IsLineOf (R.remaining file.old) n line
-        × ((k : ℕ) × Appends (W.contents out.old) (W.contents out.new) (take k line))) }
+    ensures err { OnErr result ((n : ℕ) × (k : ℕ) × (line : List ℕ) × IsLineOf (R.remaining file.old) n line
+        × Appends (W.contents out.old) (W.contents out.new) (take k line)) }
 {
     let mut bytes = [0u8; 40969];
     let n = read_bytes(file, &mut bytes);

@@ -5,7 +5,6 @@ use Prim.Native.Nat.{ℕ, ◌<◌, ◌≤◌}
 use native.Mathlib.Omega.{arith}
 use borrow.Author.Tests.{ltb-false}
 use lib.Dec.{ltb}
-use Rattle.refusals.specs.declared.Checked.{Checked}
 use Rattle.refusals.specs.declared.Checked.TheVariants.{Accepted}
 use Rattle.refusals.specs.Refusals.{refuse, refused_at}
 use Rattle.refusals.specs.Bounds.{the_instances, most, outside_its}

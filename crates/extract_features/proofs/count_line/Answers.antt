@@ -8,18 +8,16 @@ use Rattle.extract_features.proofs.count_line.Goals as goal
 pub count_words-requires : goal.count_words-requires
 count_words-requires c =
     let p = c.requires in
-    let q = p.1.1.1.1 in
-    record { sound_counts = p.0; sound_lists = p.1.1.0; sound_words = q.0; words_in_bounds = q.1.0; features_in_bounds = omega (arith, q.1.1, c.fill.kept) }
+    record { sound_counts = p.sound_counts; sound_lists = p.sound_lists; sound_words = p.sound_words; words_in_bounds = p.words_in_bounds; features_in_bounds = omega arith }
 
 pub count_transitions-requires : goal.count_transitions-requires
 count_transitions-requires c =
     let p = c.requires in
-    let q = p.1.1.1.1 in
-    record { sound_counts = p.0; features_in_bounds = p.1.0; sound_lists = p.1.1.1.0; words_in_bounds = q.1.0; features_in_bounds_2 = omega (arith, q.1.1, c.fill.kept, c.count_words.kept) }
+    record { sound_counts = p.sound_counts; features_in_bounds = p.features_in_bounds; sound_lists = p.sound_lists_2; words_in_bounds = p.words_in_bounds; features_in_bounds_2 = omega arith }
 
 pub returns : goal.returns
 unfolding of_bits
 returns c =
     λ rest size.
     let p = c.requires in
-    line_end _ _ _ _ _ _ p.1.1.0 p.1.1.1.0 c.fill.ensures c.count_words.ensures c.count_transitions.ensures
+    line_end _ _ _ _ _ _ p.sound_lists p.sound_lists_2 c.fill.ensures c.count_words.ensures c.count_transitions.ensures

@@ -9,25 +9,14 @@ use Rattle.line_check.proofs.Meant.{counting_sound}
 use Rattle.finished.proofs.Laws.{from_first}
 use Rattle.extract_features.specs.Promise.{Given, counting_of, checked_of}
 use Rattle.extract_features.proofs.Kept.{refused_kept, made_kept}
-use Rattle.extract_features.proofs.extract_features.Goals.{In_default, Start}
+use mathlib.Core.List.{List}
+use lib.Ieee.{Float}
+use Rattle.refusals.specs.declared.Checked.{Checked}
 use Rattle.extract_features.proofs.extract_features.Goals as goal
 
--- what the call is given, and that it is accepted
-abbrev given : Start → Given
-given c =
-    let a = c.args in
-    record {
-      model = model_of a.labels a.counts a.kinds.now a.destinations.now a.sources.now a.attribute_starts.now a.attribute_entries.now a.label_starts.now a.label_entries.now;
-      words = a.words;
-      line = record { starts = a.begins.now; size = a.attributes; ids = a.ids.now; values = a.values.now };
-      path = a.path.now;
-    }
-
-accepted : (c : In_default) → checked_of (given c) c.args.amounts.now ≡ Accepted
-accepted c = sym c.check_counting-checked.ensures ∙ c.in_default.is
-
-sound : (c : In_default) → SoundCounting (counting_of (given c) c.args.amounts.now)
-sound c = counting_sound (counting_of (given c) c.args.amounts.now) (accepted c)
+-- an accepted call has sound tables
+sound : (given : Given) (lent : List Float) {checked : Checked} → checked ≡ checked_of given lent → checked ≡ Accepted → SoundCounting (counting_of given lent)
+sound given lent e h = counting_sound (counting_of given lent) (sym e ∙ h)
 
 pub returns-in-Refused : goal.returns-in-Refused
 returns-in-Refused c =
@@ -35,14 +24,34 @@ returns-in-Refused c =
 
 pub count_line-requires : goal.count_line-requires
 count_line-requires c =
-    let s = sound (goal.at.count_line-requires c).In_default in
+    let a = c.args in
+    let given : Given = record {
+      model = model_of a.labels a.counts a.kinds.now a.destinations.now a.sources.now a.attribute_starts.now a.attribute_entries.now a.label_starts.now a.label_entries.now;
+      words = a.words;
+      line = record { starts = a.begins.now; size = a.attributes; ids = a.ids.now; values = a.values.now };
+      path = a.path.now;
+    } in
+    let s = sound given a.amounts.now c.check_counting-checked.ensures c.in_default.is in
     record { sound_counts = s.model.counts; features_in_bounds = s.model.sized.sources; sound_lists = s.model.attribute_lists; sound_lists_2 = s.model.label_lists; sound_words = from_first _ _ _ _ s.line.words; words_in_bounds = s.fits.path; features_in_bounds_2 = s.fits.features }
 
 pub finish_counts-finished-requires : goal.finish_counts-finished-requires
 finish_counts-finished-requires c =
-    omega (arith, c.count_line.kept, (sound (goal.at.finish_counts-finished-requires c).In_default).fits.features)
+    let a = c.args in
+    let given : Given = record {
+      model = model_of a.labels a.counts a.kinds.now a.destinations.now a.sources.now a.attribute_starts.now a.attribute_entries.now a.label_starts.now a.label_entries.now;
+      words = a.words;
+      line = record { starts = a.begins.now; size = a.attributes; ids = a.ids.now; values = a.values.now };
+      path = a.path.now;
+    } in
+    omega (arith, c.count_line.auto.counts, (sound given a.amounts.now c.check_counting-checked.ensures c.in_default.is).fits.features)
 
 pub returns : goal.returns
 returns c =
-    let g = given (goal.at.returns c).Start in
-    made_kept g c.args.amounts.now (accepted (goal.at.returns c).In_default) (c.count_line.ensures g.model g.line.size) c.finish_counts-finished.ensures.value c.finish_counts-finished.ensures.counts_after
+    let a = c.args in
+    let given : Given = record {
+      model = model_of a.labels a.counts a.kinds.now a.destinations.now a.sources.now a.attribute_starts.now a.attribute_entries.now a.label_starts.now a.label_entries.now;
+      words = a.words;
+      line = record { starts = a.begins.now; size = a.attributes; ids = a.ids.now; values = a.values.now };
+      path = a.path.now;
+    } in
+    made_kept given a.amounts.now (sym c.check_counting-checked.ensures ∙ c.in_default.is) (c.count_line.ensures given.model given.line.size) c.finish_counts-finished.ensures.value c.finish_counts-finished.ensures.counts_after

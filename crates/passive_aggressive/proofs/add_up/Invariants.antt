@@ -1,9 +1,7 @@
 -- `passive_aggressive::add_up` meets its contract: the loop is a pass of `squared`. Assumes nothing.
-use mathlib.Core.Path.{◌≡◌, refl}
 use Prim.Native.Nat.{◌-◌}
-use borrow.Author.Rules.{rules}
 use Rattle.training.specs.Rules.{squared}
-use Rattle.lines.proofs.Laws.{Passed, passed_none, passed_next, passed_end}
+use Rattle.lines.proofs.Laws.{Passed}
 use Rattle.passive_aggressive.proofs.add_up.Given as goal
 
 abbrev pub invariant-loop-i : goal.invariant-loop-i

@@ -1,12 +1,8 @@
 -- `passive_aggressive::differ` meets its contract: the loop is a pass of `differing`. Assumes nothing.
 use mathlib.Core.Bool.{false}
-use mathlib.Core.Path.{◌≡◌, refl, ◌∙◌}
 use Prim.Native.Nat.{◌+◌, ◌-◌}
-use borrow.Author.Rules.{rules}
-use lib.Ieee.{of_bits}
-use Rattle.lines.proofs.Laws.{Passed, passed_none, passed_next, passed_end}
+use Rattle.lines.proofs.Laws.{Passed}
 use Rattle.passive_aggressive.specs.Noted.{differing}
-use Rattle.passive_aggressive.proofs.Notes.{by_four}
 use Rattle.passive_aggressive.proofs.differ.Given as goal
 
 abbrev pub invariant-loop-i : goal.invariant-loop-i

@@ -1,11 +1,6 @@
 -- `passive_aggressive::norm` meets its contract. The loop's invariant: once the notes are added up, the features before this one are in the sum. Assumes nothing.
-use mathlib.Core.Logic.{⊎_elim}
-use mathlib.Core.Path.{◌≡◌, refl, sym}
-use Prim.Native.Nat.{◌+◌, ◌-◌, ◌≤◌, ◌<◌}
-use native.Mathlib.Omega.{arith}
-use borrow.Author.Rules.{rules}
-use lib.Ieee.{of_bits}
-use Rattle.passive_aggressive.proofs.Notes.{Going, going_none, going_next, going_settled, going_end}
+use Prim.Native.Nat.{◌-◌, ◌<◌}
+use Rattle.passive_aggressive.proofs.Notes.{Going}
 use Rattle.passive_aggressive.proofs.norm.Given as goal
 
 abbrev pub invariant-loop-i : goal.invariant-loop-i

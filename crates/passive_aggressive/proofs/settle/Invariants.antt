@@ -1,13 +1,8 @@
 -- `passive_aggressive::settle` meets its contract. The loop's invariant: the notes before this one are added up. Assumes nothing.
-use mathlib.Core.Path.{◌≡◌, ◌∙◌}
-use Prim.Native.Nat.{◌+◌, ◌-◌, ◌≤◌}
-use native.Mathlib.Omega.{arith}
-use borrow.Author.Rules.{rules}
-use lib.ListN.{get_or}
+use mathlib.Core.Path.{◌≡◌}
+use Prim.Native.Nat.{◌-◌, ◌≤◌}
 use Rattle.lines.specs.Passes.{through}
-use Rattle.lines.proofs.Laws.{through_none, through_next, through_end}
-use Rattle.passive_aggressive.specs.Noted.{four_added, fours_added}
-use Rattle.passive_aggressive.proofs.Notes.{by_four}
+use Rattle.passive_aggressive.specs.Noted.{four_added}
 use Rattle.passive_aggressive.proofs.settle.Given as goal
 
 abbrev pub invariant-loop-j : goal.invariant-loop-j
