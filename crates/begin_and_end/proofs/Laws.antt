@@ -25,10 +25,10 @@ use Rattle.begin_and_end.specs.Ending.{Finished, AveragedAs}
 
 -- ---- the end
 -- a visit that is one of the two other variants was not refused
-pub not_refused : (v : Visit) → OneOf (0 ∷ 1 ∷ []) (tag_of the_type v) → is_refused v ≡ false
+pub not_refused : (v : Visit) → ((why : Refusal) → v ≡ Refused why → ⊥) → is_refused v ≡ false
 not_refused Unchanged k = refl
 not_refused Updated k = refl
-not_refused (Refused why) k = absurd (miss (0 ∷ 1 ∷ []) 2 tt k)
+not_refused (Refused why) k = absurd (k why refl)
 
 module _ (rule : Rule) (set : Settings) (m : Model) (d : Data) where
   averaged_end : (v : Visit) (r : Run) → is_refused v ≡ false → finished rule set m d v r ≡ averaged rule set m d r

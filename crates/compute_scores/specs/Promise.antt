@@ -28,7 +28,7 @@ pub record Outcome : Type 0 where
   pub transitions : List Float
   pub states : List Float
 
--- how many entries are needed: T-as-L states, L-as-L transitions
+-- how many entries are needed: T·L states, L·L transitions
 abbrev pub state_entries : Given → ℕ
 state_entries given = given.words * given.model.labels
 

@@ -22,7 +22,7 @@ use feature_gen::Counts;
 use lines::{Attribute, Span};
 use refusals::Checked;
 
-// The entry at a place of the attribute lists: a State adds typeof.weight.value in the word's row, at its destination.
+// The entry at a place of the attribute lists: a State adds weight·value in the word's row, at its destination.
 fn state_entry(
     labels: usize,
     features: usize,

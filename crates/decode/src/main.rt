@@ -1,6 +1,9 @@
 // The program `decode`: a sheet on standard input, its answer line on standard output.
 #![tactic(auto)]
 
-fn main() {
-    answer_file::answer_file(libc::STDIN_FILENO);
+use std::io;
+
+fn main(rt: HostRuntime) -> io::Result<()> {
+    answer_file::answer_file(&mut rt.reader(), &mut io::writer(&rt))?;
+    Ok(())
 }

@@ -1,5 +1,5 @@
 -- Document 01's desk cases: what is asked, and what is answered. Numbers are bit patterns of binary64. Assumes nothing.
-use Rattle.std.specs.Prelude.{Bool, true, false, List, [], ◌∷◌, map, ℕ, ◌+◌, Float}
+use Rattle.std.specs.Prelude.{true, false, List, [], ◌∷◌, ℕ, ◌+◌, Float}
 use Rattle.std.specs.Float.{binary64}
 use Rattle.std.specs.Float.Ieee.{of_bits}
 use Rattle.training.specs.Rules.{Rule, perceptron, passive, arow}

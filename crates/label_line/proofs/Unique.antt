@@ -1,5 +1,5 @@
 -- No two different outcomes satisfy the promise of labelling a line. Assumes nothing.
-use mathlib.Core.Path.{◌≡◌, sym, ◌∙◌}
+use mathlib.Core.Path.{sym, ◌∙◌}
 use Rattle.viterbi.proofs.Unique.{told}
 use Rattle.label_line.specs.Promise.{OnlyOne}
 

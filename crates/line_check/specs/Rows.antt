@@ -48,7 +48,7 @@ line_rooms words line =
     ∷ room (length line.values) line.size
     ∷ []
 
--- the buffers for the scores: L-as-L transitions, T-as-L states
+-- the buffers for the scores: L·L transitions, T·L states
 abbrev pub score_rooms : ℕ → ℕ → ℕ → ℕ → List Limit
 score_rooms labels words transitions states =
     room transitions (labels * labels)

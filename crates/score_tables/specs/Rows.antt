@@ -13,7 +13,7 @@ one labels = refuse 1 0 (outside_its the_labels labels)
 abbrev pub four : ℕ → Checked
 four words = refuse 4 0 (outside_its the_line_words words)
 
--- 2 | "a lent buffer too short": L-as-L transitions, T-as-L states | 0
+-- 2 | "a lent buffer too short": L·L transitions, T·L states | 0
 abbrev pub scores_short : ℕ → ℕ → List Float → List Float → Checked
 scores_short labels words transitions states =
     refuse 2 0 (short (length transitions) (labels * labels) || short (length states) (words * labels))

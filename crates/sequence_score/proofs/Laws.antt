@@ -1,4 +1,4 @@
--- The laws of `pathScore` that its loop leans on, and what the rows give a call that accepts. Assumes nothing.
+-- The laws of `path_score` that its loop leans on, and what the rows give a call that accepts. Assumes nothing.
 use mathlib.Core.Path.{◌≡◌, refl, sym}
 use mathlib.Core.List.{List, ◌∷◌, ◌++◌}
 use Prim.Native.Nat.{ℕ, zero, suc, ◌+◌, ◌-◌, ◌*◌, ◌<◌, ◌≤◌}

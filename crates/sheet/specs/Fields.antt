@@ -27,7 +27,7 @@ labels_in_of bytes = get_or bytes 5 0
 abbrev pub words_in : List ℕ → ℕ
 words_in bytes = get_or bytes 6 0 + 256 * get_or bytes 7 0
 
--- L-as-L transitions after the eight bytes of head, then T-as-L states
+-- L·L transitions after the eight bytes of head, then T·L states
 abbrev pub states_from_of : List ℕ → ℕ
 states_from_of bytes = 8 + 8 * (labels_in_of bytes * labels_in_of bytes)
 

@@ -33,7 +33,7 @@ pub record Finite64 (table : List Float) : Type 0 where
   pub finite64 : (i : ℕ) → i < length table → T (finite (get_or table i nan))
   pub binary : (i : ℕ) → i < length table → T (fits binary64 (get_or table i nan))
 
--- a sheet that nothing is refused in: L and T in their bounds, L-as-L transitions, T-as-L states, all of them finite
+-- a sheet that nothing is refused in: L and T in their bounds, L·L transitions, T·L states, all of them finite
 pub record SoundSheet (s : Sheet) : Type 0 where
   pub labels_in : LabelsIn s.labels
   pub words_in_lem : WordsIn s.words

@@ -16,7 +16,7 @@ choice c b =
     let a = c.args in
     cond b (through (averaged_at a.counter a.beside.now) 0 a.features a.weights.now) a.weights.now
 
-picked : (c : After-is_averaging) → let g = c.args in averaged_by (rule_of g.trainer) g.features g.counter (record { weights = g.weights.now; beside = g.beside.now }) ≡ choice c c.is_averaging.result
+picked : (c : After-is_averaging) → let g = c.args in averaged_by (rule_of g.trainer) g.features g.counter (record { weights = g.weights.now; beside = g.beside.now }) ≡ cond c.is_averaging.result (through (averaged_at g.counter g.beside.now) 0 g.features g.weights.now) g.weights.now
 picked c = c.is_averaging.ensures _ _ _
 
 pub returns-then-is_averaging : goal.returns-then-is_averaging

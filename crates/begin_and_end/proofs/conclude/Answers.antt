@@ -21,10 +21,10 @@ int_to_float-counter c =
 
 pub returns-then-average : goal.returns-then-average
 returns-then-average c =
-    λ set m d r e f. accepted _ set m d e f (not_refused c.args.ran.progress.visit c.in-Refused.keys2) c.average.ensures c.if-average.true
+    λ set m d r e f. accepted _ set m d e f (not_refused c.args.ran.progress.visit c.in_default.not-Refused) c.average.ensures c.if-average.true
 
 pub returns : goal.returns
 unfolding of_bits
 returns c =
     λ set m d r e f.
-    averaging_refused _ set m d e f (not_refused c.args.ran.progress.visit c.in-Refused.keys2) c.average.ensures c.if-average.false c.numbered.ensures (c.fill-2.ensures ∙ all_of _ _ _ (c.average.kept.1.1.1.1.0 ∙ c.requires.0))
+    averaging_refused _ set m d e f (not_refused c.args.ran.progress.visit c.in_default.not-Refused) c.average.ensures c.if-average.false c.numbered.ensures (c.fill-2.ensures ∙ all_of _ _ _ (c.average.auto.weights ∙ c.requires.0))

@@ -7,19 +7,19 @@ use Rattle.begin_and_end.proofs.sweep.Goals as goal
 
 pub shape_of-order : goal.shape_of-order
 shape_of-order c =
-    c.clear.auto.0
+    c.clear.auto.order
 
 pub shape_of-beside : goal.shape_of-beside
 shape_of-beside c =
-    c.fill.auto.0
+    c.fill.auto.table
 
 pub shape_of-truly : goal.shape_of-truly
 shape_of-truly c =
-    c.fill-2.kept.0
+    c.fill-2.auto.table
 
 pub shape_of-predicted : goal.shape_of-predicted
 shape_of-predicted c =
-    c.fill-3.kept.0
+    c.fill-3.auto.table
 
 pub returns : goal.returns
 unfolding of_bits

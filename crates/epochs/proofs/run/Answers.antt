@@ -27,7 +27,7 @@ under c = c.loop-e-test.true
 
 bound : (c : After-epoch-progress) → c.epoch-progress.result.visits ≤ most_visits
 bound c =
-    omega (arith, c.loop-e.invariant.3, c.epoch-progress.ensures.counted_in.visits, under c, c.requires.few, c.requires.corpus.few)
+    omega (arith, c.loop-e.invariant.3, c.epoch-progress.ensures.counted_in.visits, c.loop-e-test.true, c.requires.few, c.requires.corpus.few)
 
 pub loop-e-init : goal.loop-e-init
 loop-e-init c =
@@ -62,23 +62,23 @@ ends-requires c =
 
 pub shape_of-order-then-ends : goal.shape_of-order-then-ends
 shape_of-order-then-ends c =
-    omega (arith, c.deal-g.kept, c.loop-e.invariant.1)
+    omega (arith, c.deal-g.auto, c.loop-e.invariant.1)
 
 pub shape_of-weights-then-ends : goal.shape_of-weights-then-ends
 shape_of-weights-then-ends c =
-    omega (arith, c.epoch-progress.kept, c.loop-e.invariant.2, c.requires.exact)
+    omega (arith, c.epoch-progress.auto, c.loop-e.invariant.2, c.requires.exact)
 
 pub shape_of-beside-then-ends : goal.shape_of-beside-then-ends
 shape_of-beside-then-ends c =
-    omega (arith, c.epoch-progress.kept, c.loop-e.invariant.2, c.requires.exact)
+    omega (arith, c.epoch-progress.auto, c.loop-e.invariant.2, c.requires.exact)
 
 pub shape_of-truly-then-ends : goal.shape_of-truly-then-ends
 shape_of-truly-then-ends c =
-    omega (arith, c.epoch-progress.kept, c.loop-e.invariant.2, c.requires.exact)
+    omega (arith, c.epoch-progress.auto, c.loop-e.invariant.2, c.requires.exact)
 
 pub shape_of-predicted-then-ends : goal.shape_of-predicted-then-ends
 shape_of-predicted-then-ends c =
-    omega (arith, c.epoch-progress.kept, c.loop-e.invariant.2, c.requires.exact)
+    omega (arith, c.epoch-progress.auto, c.loop-e.invariant.2, c.requires.exact)
 
 pub returns-then-ends : goal.returns-then-ends
 unfolding of_bits
@@ -92,15 +92,15 @@ loop-e-smaller c =
 pub loop-e-preserved : goal.loop-e-preserved
 loop-e-preserved c =
     let i = c.loop-e.invariant in
-    let w = c.epoch-progress.kept in
+    let w = c.epoch-progress.auto in
     let made = c.epoch-progress.ensures in (
       omega (arith, under (goal.at.loop-e-preserved c).After-deal-g),
-      omega (arith, c.deal-g.kept, i.1),
+      omega (arith, c.deal-g.auto, i.1),
       record { weights_long = omega (arith, w, i.2); beside_long = omega (arith, w, i.2); truly_long = omega (arith, w, i.2); predicted_long = omega (arith, w, i.2) },
-      omega (arith, i.3, made.1.visits, c.requires.corpus.few),
-      made.1.updates,
+      omega (arith, i.3, made.counted_in.visits, c.requires.corpus.few),
+      made.counted_in.updates,
       dealt_keeps _ _ _ c.deal-g.ensures i.5,
-      run_on _ _ _ _ c.loop-e.e i.6 c.deal-g.ensures made.0 c.ends.ensures c.if-ends.false,
+      run_on _ _ _ _ c.loop-e.e i.6 c.deal-g.ensures made.fact c.ends.ensures c.if-ends.false,
     )
 
 pub shape_of-order : goal.shape_of-order

@@ -1,6 +1,5 @@
 -- `extract_features::count_line` meets its contract: both loops in the front of the buffer. Assumes nothing.
 use native.Mathlib.Omega.{arith}
-use borrow.Author.Rules.{rules}
 use lib.Ieee.{of_bits}
 use Rattle.extract_features.proofs.Turns.{line_end}
 use Rattle.extract_features.proofs.count_line.Goals as goal

@@ -1,7 +1,6 @@
 -- `extract_features::extract_features` keeps its promise. Assumes nothing.
 use mathlib.Core.Path.{◌≡◌, sym, ◌∙◌}
 use native.Mathlib.Omega.{arith}
-use borrow.Author.Rules.{rules}
 use Rattle.refusals.specs.declared.Checked.TheVariants.{Accepted}
 use Rattle.feature_gen.specs.Lent.{model_of}
 use Rattle.line_check.specs.Sound.{SoundCounting}

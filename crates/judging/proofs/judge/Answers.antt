@@ -1,9 +1,7 @@
 -- `judging::judge` meets its contract. Assumes nothing.
 use mathlib.Core.Path.{◌≡◌, sym, ◌∙◌}
-use mathlib.Core.Bool.{true, false}
+use mathlib.Core.Bool.{true}
 use native.Mathlib.Omega.{arith}
-use borrow.Author.Rules.{rules}
-use borrow.Author.Tests.{not-true, not-false}
 use Rattle.best_path.specs.Scores.{tabled}
 use Rattle.best_path.specs.Decoded.{decoded_path}
 use Rattle.judging.specs.Judged.{finite_scores}
@@ -17,14 +15,14 @@ flag c = c.is_decoded-finite.ensures ∙ decoded_finite _ c.requires
 
 -- no 8: the scores are finite, and the path is the decoded one
 is_finite : (c : Else-not-finite) → let s = c.args in finite_scores s.labels s.words s.transitions.now s.states.now ≡ true
-is_finite c = sym (flag c) ∙ not-false _ c.if-not-finite.false
+is_finite c = sym (c.is_decoded-finite.ensures ∙ decoded_finite _ c.requires) ∙ c.if-not-finite.false
 
 path_so : (c : Else-not-finite) → let s = c.args in s.path.now ≡ decoded_path (tabled s.labels s.transitions.now s.states.now) s.words
-path_so c = path_is _ (sym c.is_decoded-finite.ensures ∙ not-false _ c.if-not-finite.false) c.requires
+path_so c = path_is _ (sym c.is_decoded-finite.ensures ∙ c.if-not-finite.false) c.requires
 
 pub returns-then-not-finite : goal.returns-then-not-finite
 returns-then-not-finite c =
-    unscored _ _ (sym (flag (goal.at.returns-then-not-finite c).After-is_decoded-finite) ∙ not-true _ c.if-not-finite.true)
+    unscored _ _ (sym (flag (goal.at.returns-then-not-finite c).After-is_decoded-finite) ∙ c.if-not-finite.true)
 
 pub count_wrong-wrong-requires : goal.count_wrong-wrong-requires
 count_wrong-wrong-requires c =

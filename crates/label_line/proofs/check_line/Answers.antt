@@ -1,7 +1,6 @@
 -- `label_line::check_line` meets its contract. Assumes nothing.
 use mathlib.Core.Path.{◌∙◌, ap}
 use mathlib.Core.Bool.{Bool}
-use borrow.Author.Rules.{rules}
 use Rattle.refusals.specs.declared.Checked.TheVariants.{Accepted}
 use Rattle.refusals.specs.Refusals.{refuse, or_next_of}
 use Rattle.label_line.proofs.Parted.{in_order}

@@ -1,7 +1,6 @@
 -- `label_line::label_in` meets its contract: an accepted line meets what scoring and labelling it require. Assumes nothing.
 use mathlib.Core.Path.{◌∙◌}
 use native.Mathlib.Omega.{arith}
-use borrow.Author.Rules.{rules}
 use Rattle.lines.specs.Entry.{line_of}
 use Rattle.feature_gen.specs.Lent.{model_of}
 use Rattle.fronts.proofs.Filled.{all_of}
@@ -36,7 +35,7 @@ label_at-requires c =
       lent_tables = record {
         labels_in = g.model.sound.labels_in;
         words_in_lem = g.line.words_in_lem;
-        long_transitions = omega (arith, c.score_transitions.kept, c.requires.transitions_len);
+        long_transitions = omega (arith, c.score_transitions.auto.transitions, c.requires.transitions_len);
         long_states = c.requires.transitions_len.1;
         long_path = g.long_path;
       };

@@ -1,7 +1,6 @@
 -- `label_line::label_long` meets its contract: the arrays have room for every line. Assumes nothing.
 use mathlib.Core.Path.{sym, ◌∙◌}
 use native.Mathlib.Omega.{arith}
-use borrow.Author.Rules.{rules}
 use lib.Seq.{length-take-le}
 use Rattle.labelling.proofs.Laws.{few_transitions, few_states}
 use Rattle.label_line.proofs.label_long.Goals as goal

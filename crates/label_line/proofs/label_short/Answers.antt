@@ -1,7 +1,6 @@
 -- `label_line::label_short` meets its contract: small arrays have room for a short line. Assumes nothing.
 use mathlib.Core.Path.{sym, ◌∙◌}
 use native.Mathlib.Omega.{arith}
-use borrow.Author.Rules.{rules}
 use lib.Seq.{length-take-le}
 use Rattle.label_line.proofs.label_short.Goals as goal
 

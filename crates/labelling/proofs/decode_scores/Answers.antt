@@ -1,5 +1,4 @@
 -- `labelling::decode_scores` meets its contract. Assumes nothing.
-use borrow.Author.Rules.{rules}
 use Rattle.labelling.proofs.Laws.{eight, path_found}
 use Rattle.labelling.proofs.decode_scores.Goals as goal
 

@@ -1,6 +1,5 @@
 -- `labelling::is_small` meets its contract. Assumes nothing.
 use native.Mathlib.Omega.{arith}
-use borrow.Author.Rules.{rules}
 use Rattle.labelling.proofs.Laws.{few_transitions, few_states}
 use Rattle.labelling.proofs.is_small.Goals as goal
 

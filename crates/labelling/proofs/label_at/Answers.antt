@@ -1,7 +1,6 @@
 -- `labelling::label_at` meets its contract: the pass scores the line, and what is decoded is its scores. Assumes nothing.
 use mathlib.Core.Path.{◌∙◌}
 use native.Mathlib.Omega.{arith}
-use borrow.Author.Rules.{rules}
 use Rattle.lines.specs.Lent.{with_states}
 use Rattle.lines.specs.Entry.{line_of}
 use Rattle.fronts.proofs.Filled.{all_of}
@@ -14,10 +13,10 @@ score_line-requires c =
 
 pub decode_scores-requires : goal.decode_scores-requires
 decode_scores-requires c =
-    ready c.requires.lent_tables (omega (arith, c.score_line.kept))
+    ready c.requires.lent_tables (omega arith)
 
 pub returns : goal.returns
-returns c =
+returns c rest size =
     let a = c.args in
     let m = with_states rest a.labels a.features a.kinds.now a.destinations.now a.lists a.starts.now a.entries.now in
     labelled_at m a.weights.now (line_of size a.begins.now a.ids.now a.values.now) a.first

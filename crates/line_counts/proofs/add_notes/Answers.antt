@@ -9,12 +9,6 @@ use Rattle.line_counts.proofs.add_notes.Goals as goal
 pub loop-j-init : goal.loop-j-init
 loop-j-init c = (omega arith, refl, through_none _ _ _)
 
-pub add_note-requires : goal.add_note-requires
-add_note-requires c =
-    let n = c.requires.notes in
-    let i = n.ids _ c.loop-j-test.true in
-    record { j_in_bounds = omega (arith, c.loop-j-test.true, n.there); j_in_bounds_2 = omega (arith, c.loop-j-test.true, n.there, n.level); j_in_bounds_3 = omega (arith, i, c.requires.features_in_bounds); j_in_bounds_4 = omega (arith, i, c.requires.features_in_bounds_2, c.loop-j.invariant) }
-
 pub loop-j-preserved : goal.loop-j-preserved
 loop-j-preserved c =
     (omega (arith, c.loop-j-test.true), search rules, through_next _ _ _ c.loop-j.invariant.2 c.add_note.ensures)

@@ -28,11 +28,6 @@ pub returns-then-next-who : goal.returns-then-next-who
 returns-then-next-who c =
     record { notes_2 = noted (goal.at.returns-then-next-who c).After-note-next; upper_bound = c.if-next-who.true; counts_value = counted (goal.at.returns-then-next-who c).After-note-next }
 
-pub add_notes-requires : goal.add_notes-requires
-add_notes-requires c =
-    let p = c.requires in
-    record { features_in_bounds = p.sound_counts.kinded; notes = noted (goal.at.add_notes-requires c).After-note-next; features_in_bounds_2 = p.features_in_bounds }
-
 pub returns : goal.returns
 returns c =
     let n = noted (goal.at.returns c).After-note-next in

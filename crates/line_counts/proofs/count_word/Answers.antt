@@ -2,7 +2,7 @@
 use mathlib.Core.Path.{refl}
 use native.Mathlib.Omega.{arith}
 use Rattle.lines.specs.Counted.{state_count}
-use Rattle.lines.proofs.Laws.{between_nothing, passed_none, passed_next, passed_end}
+use Rattle.lines.proofs.Laws.{between_nothing, passed_none, passed_next}
 use Rattle.lines.proofs.Spans.{span_sound}
 use Rattle.line_counts.proofs.StateTurns.{counted_turn}
 use Rattle.line_counts.proofs.count_word.Goals as goal
@@ -16,22 +16,11 @@ loop-a-init c =
       c.attribute_span-span.ensures,
     )
 
-pub attribute_span-ahead-requires : goal.attribute_span-ahead-requires
-attribute_span-ahead-requires c = c.requires.sound_lists.starting
-
 pub count_attribute-n-requires : goal.count_attribute-n-requires
 count_attribute-n-requires c =
     let p = c.requires in
     let g = c.loop-a.invariant.0 in
     record { sound_counts = p.sound_counts; sound_span = rw c.loop-a.invariant.3 (span_sound p.sound_lists _); notes = g.notes; noted_in_bounds = g.free; features_in_bounds = omega (arith, p.features_in_bounds, g.counts_long) }
-
-pub overflow_add-a-in-loop-a : goal.overflow_add-a-in-loop-a
-overflow_add-a-in-loop-a c =
-    omega (arith, c.loop-a-test.true, c.ranges.to)
-
-pub loop-a-smaller : goal.loop-a-smaller
-loop-a-smaller c =
-    omega (arith, c.loop-a-test.true)
 
 pub loop-a-preserved : goal.loop-a-preserved
 unfolding state_count
@@ -50,20 +39,6 @@ loop-a-preserved c =
       c.attribute_before-next.ensures,
       c.attribute_span-ahead.ensures,
     )
-
-pub shape_of-who : goal.shape_of-who
-shape_of-who c = c.loop-a.invariant.0.who_long
-
-pub shape_of-what : goal.shape_of-what
-shape_of-what c = c.loop-a.invariant.0.what_long
-
-pub shape_of-counts : goal.shape_of-counts
-shape_of-counts c = c.loop-a.invariant.0.counts_long
-
-pub returns-after-loop-a : goal.returns-after-loop-a
-returns-after-loop-a c =
-    let g = c.loop-a.invariant.0 in
-    record { notes_2 = g.notes; upper_bound = g.free; counts_value = passed_end c.loop-a.invariant.1 c.loop-a-test.false }
 
 pub returns-else-from-to : goal.returns-else-from-to
 returns-else-from-to c =

@@ -49,25 +49,25 @@ visit-progress-requires c =
 
 pub shape_of-weights-then-is_refused : goal.shape_of-weights-then-is_refused
 shape_of-weights-then-is_refused c =
-    omega (arith, c.visit-progress.kept, c.loop-j.invariant.1, c.requires.exact)
+    omega (arith, c.visit-progress.auto, c.loop-j.invariant.1, c.requires.exact)
 
 pub shape_of-beside-then-is_refused : goal.shape_of-beside-then-is_refused
 shape_of-beside-then-is_refused c =
-    omega (arith, c.visit-progress.kept, c.loop-j.invariant.1, c.requires.exact)
+    omega (arith, c.visit-progress.auto, c.loop-j.invariant.1, c.requires.exact)
 
 pub shape_of-truly-then-is_refused : goal.shape_of-truly-then-is_refused
 shape_of-truly-then-is_refused c =
-    omega (arith, c.visit-progress.kept, c.loop-j.invariant.1, c.requires.exact)
+    omega (arith, c.visit-progress.auto, c.loop-j.invariant.1, c.requires.exact)
 
 pub shape_of-predicted-then-is_refused : goal.shape_of-predicted-then-is_refused
 shape_of-predicted-then-is_refused c =
-    omega (arith, c.visit-progress.kept, c.loop-j.invariant.1, c.requires.exact)
+    omega (arith, c.visit-progress.auto, c.loop-j.invariant.1, c.requires.exact)
 
 pub returns-then-is_refused : goal.returns-then-is_refused
 unfolding opened of_bits
 returns-then-is_refused c =
     let i = c.loop-j.invariant in
-    let made = c.visit-progress.ensures in record { fact = visited_cut _ _ c.loop-j.j _ _ (given (goal.at.returns-then-is_refused c).Start) (under (goal.at.returns-then-is_refused c).After-at-i) c.at-i.ensures i.4 i.5 made.0 (sym c.is_refused.ensures ∙ c.if-is_refused.true); counted_in = record { visits = omega (arith, i.2, made.1.visits, under (goal.at.returns-then-is_refused c).After-at-i); updates = made.1.updates } }
+    let made = c.visit-progress.ensures in record { fact = visited_cut _ _ c.loop-j.j _ _ (given (goal.at.returns-then-is_refused c).Start) (under (goal.at.returns-then-is_refused c).After-at-i) c.at-i.ensures i.4 i.5 made.fact (sym c.is_refused.ensures ∙ c.if-is_refused.true); counted_in = record { visits = omega (arith, i.2, made.visit_counted.visits, under (goal.at.returns-then-is_refused c).After-at-i); updates = made.visit_counted.updates } }
 
 pub overflow_add-j : goal.overflow_add-j
 overflow_add-j c =
@@ -80,16 +80,16 @@ loop-j-smaller c =
 pub loop-j-preserved : goal.loop-j-preserved
 loop-j-preserved c =
     let i = c.loop-j.invariant in
-    let k = c.visit-progress.kept in
+    let k = c.visit-progress.auto in
     let e = i.1 in
     let made = c.visit-progress.ensures in
     let f = sym c.is_refused.ensures ∙ c.if-is_refused.false in (
       omega (arith, under (goal.at.loop-j-preserved c).After-at-i),
       record { weights_long = omega (arith, k, e); beside_long = omega (arith, k, e); truly_long = omega (arith, k, e); predicted_long = omega (arith, k, e) },
-      omega (arith, i.2, made.1.visits),
-      made.1.updates,
+      omega (arith, i.2, made.visit_counted.visits),
+      made.visit_counted.updates,
       f,
-      visited_next _ _ c.loop-j.j _ _ c.at-i.ensures i.4 i.5 made.0 f,
+      visited_next _ _ c.loop-j.j _ _ c.at-i.ensures i.4 i.5 made.fact f,
     )
 
 pub shape_of-weights : goal.shape_of-weights

@@ -22,19 +22,19 @@ line c = words_from c.args.sizes c.args.begins.now c.args.ids.now c.args.values.
 pub score_transitions-requires : goal.score_transitions-requires
 score_transitions-requires c =
     let m = c.requires.sound_model in
-    record { sound_transitions = transitions_sound m _ (omega (arith, c.requires.1.1)); sound_lists = m.label_lists; labels_in_bounds = omega (arith, c.requires.1.1) }
+    record { sound_transitions = transitions_sound m _ (omega (arith, c.requires)); sound_lists = m.label_lists; labels_in_bounds = omega (arith, c.requires) }
 
 pub label_at-answer-requires : goal.label_at-answer-requires
 label_at-answer-requires c =
     let m = c.requires.sound_model in
     let line = c.requires.sound_instance in record {
-      sound_states = (transitions_sound m c.args.weights.now (omega (arith, c.requires.1.1))).states;
+      sound_states = (transitions_sound m c.args.weights.now (omega (arith, c.requires))).states;
       sound_lists = m.attribute_lists;
       sound_words = line.worded;
       lent_tables = record {
         labels_in = m.labels_in;
         words_in_lem = line.sized;
-        long_transitions = omega (arith, c.score_transitions.kept, c.requires.1.1);
+        long_transitions = omega (arith, c.score_transitions.auto, c.requires);
         long_states = c.requires.transitions_len.1;
         long_path = omega (arith, c.requires.weights_len);
       };
@@ -47,8 +47,8 @@ judge-requires c =
       words_in_lem = c.requires.sound_instance.sized;
       referenced = c.requires.sound_instance.referenced;
       below = c.requires.sound_instance.below;
-      long_transitions = omega (arith, c.score_transitions.kept, c.requires.1.1);
-      long_states = omega (arith, c.label_at-answer.kept, c.requires.1.1);
+      long_transitions = omega (arith, c.score_transitions.auto, c.requires);
+      long_states = omega (arith, c.label_at-answer.auto, c.requires);
       before = c.args.path.now;
       long_before = c.requires.weights_len.1;
       labelled = labelled_in (model (goal.at.judge-requires c).Start) c.args.weights.now (line (goal.at.judge-requires c).Start) c.args.first (c.label_at-answer.ensures (model (goal.at.judge-requires c).Start) c.args.sizes.attributes);

@@ -18,11 +18,3 @@ loop-i-preserved c = (
   through_next _ _ _ c.loop-i.invariant.2 refl,
   flag_next c.loop-i.invariant.3 c.is_finite-all.ensures (finite_stored _ _ _ (search rules)),
 )
-
-pub returns : goal.returns
-returns c =
-    let l = c.loop-i.invariant in
-    record {
-      weights = l.2 ∙ through_end _ _ _ _ l.0 c.loop-i-test.false;
-      finite = l.3 ∙ finite_end _ _ _ l.0 c.loop-i-test.false;
-    }

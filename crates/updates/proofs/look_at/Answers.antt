@@ -6,12 +6,12 @@ use Rattle.updates.proofs.look_at.Goals as goal
 
 pub returns-then-not-scored : goal.returns-then-not-scored
 returns-then-not-scored c =
-    λ l. not_scored _ _ _ (not-true _ c.if-not-scored.true) (c.refuse.ensures l)
+    λ l. not_scored _ _ _ (c.if-not-scored.true) (c.refuse.ensures l)
 
 pub returns-then-agree : goal.returns-then-agree
 returns-then-agree c =
-    λ l. agreeing _ _ _ (not-false _ c.if-not-scored.false) c.if-agree.true (c.unchanged.ensures l)
+    λ l. agreeing _ _ _ (c.if-not-scored.false) c.if-agree.true (c.unchanged.ensures l)
 
 pub returns : goal.returns
 returns c =
-    λ l. differing _ _ _ (not-false _ c.if-not-scored.false) c.if-agree.false
+    λ l. differing _ _ _ (c.if-not-scored.false) c.if-agree.false

@@ -36,8 +36,8 @@ learn-requires c =
       wrong_bound = (
         c.requires.few,
         record {
-          truly_long = omega (arith, c.count_line.kept, e);
-          predicted_long = omega (arith, c.count_line-2.kept, e);
+          truly_long = omega (arith, c.count_line.auto, e);
+          predicted_long = omega (arith, c.count_line-2.auto, e);
           weights_long = omega (arith, e);
           beside_long = omega (arith, e);
         },
@@ -49,4 +49,4 @@ pub returns : goal.returns
 returns c =
     let e = c.requires.exact in
     let made = c.learn.ensures in
-    record { fact = settled_as _ _ _ _ (c.count_line.ensures (model (goal.at.returns c).Start) c.args.sizes.attributes ∙ all_of _ _ _ e.truly_long) (c.count_line-2.ensures (model (goal.at.returns c).Start) c.args.sizes.attributes ∙ all_of _ _ _ e.predicted_long) made.0; visit_counted = made.1 }
+    record { fact = settled_as _ _ _ _ (c.count_line.ensures (model (goal.at.returns c).Start) c.args.sizes.attributes ∙ all_of _ _ _ e.truly_long) (c.count_line-2.ensures (model (goal.at.returns c).Start) c.args.sizes.attributes ∙ all_of _ _ _ e.predicted_long) made.fact; visit_counted = made.visit_counted }

@@ -32,19 +32,20 @@ state c = state_of c.args.s c.args.weights.now c.args.beside.now
 -- the instance's words, from the first up to the end
 some : (c : After-at-end) → c.at-first.result < c.at-end.result
 some c =
-    some_words (data_of c) _ _ _ c.at-first.ensures c.at-end.ensures c.requires.corpus c.requires.among
+    some_words (let a = c.args in training_data_of a.sizes a.lines.now a.begins.now a.ids.now a.values.now a.references.now a.shares.now) _ _ _ c.at-first.ensures c.at-end.ensures c.requires.corpus c.requires.among
 
 few : (c : After-at-end) → c.at-end.result - c.at-first.result ≤ 128
 few c =
-    few_words (data_of c) _ _ _ c.at-first.ensures c.at-end.ensures c.requires.corpus c.requires.among
+    few_words (let a = c.args in training_data_of a.sizes a.lines.now a.begins.now a.ids.now a.values.now a.references.now a.shares.now) _ _ _ c.at-first.ensures c.at-end.ensures c.requires.corpus c.requires.among
 
 all : (c : After-at-end) → c.at-end.result ≤ length c.args.references.now
 all c =
-    le_trans (all_words (data_of c) _ _ _ c.at-first.ensures c.at-end.ensures c.requires.corpus c.requires.among) c.requires.corpus.referenced
+    le_trans (all_words (let a = c.args in training_data_of a.sizes a.lines.now a.begins.now a.ids.now a.values.now a.references.now a.shares.now) _ _ _ c.at-first.ensures c.at-end.ensures c.requires.corpus c.requires.among) c.requires.corpus.referenced
 
 -- the front that the prediction is lent is as long as the instance
 front : (c : After-predict-p) → let n = c.at-end.result - c.at-first.result in length (take n (replicate {A = ℕ} 128 0)) ≡ n
-front c = length-take-le _ _ (few c)
+front c =
+    length-take-le _ _ (few_words (let a = c.args in training_data_of a.sizes a.lines.now a.begins.now a.ids.now a.values.now a.references.now a.shares.now) _ _ _ c.at-first.ensures c.at-end.ensures c.requires.corpus c.requires.among)
 
 pub overflow_sub-words : goal.overflow_sub-words
 overflow_sub-words c = omega (arith, some (goal.at.overflow_sub-words c).After-at-end)
@@ -82,11 +83,11 @@ returns-in-Ended c =
 
 pub slice_bounds-path-end-2 : goal.slice_bounds-path-end-2
 slice_bounds-path-end-2 c =
-    simp length-append (omega (arith, c.predict-p.kept, front (goal.at.slice_bounds-path-end-2 c).After-predict-p))
+    simp length-append (omega (arith, c.predict-p.auto, front (goal.at.slice_bounds-path-end-2 c).After-predict-p))
 
 pub slice_bounds-correct-end : goal.slice_bounds-correct-end
 slice_bounds-correct-end c =
-    sym (length-take-le _ _ (simp length-append (omega (arith, c.predict-p.kept, front (goal.at.slice_bounds-correct-end c).After-predict-p))))
+    sym (length-take-le _ _ (simp length-append (omega (arith, c.predict-p.auto, front (goal.at.slice_bounds-correct-end c).After-predict-p))))
 
 pub offset_bounds-shares-i : goal.offset_bounds-shares-i
 offset_bounds-shares-i c =
@@ -102,7 +103,7 @@ correct-requires c =
       model = c.requires.model;
       line = line_sound (data_of (goal.at.correct-requires c).Start) _ _ _ c.at-first.ensures c.at-end.ensures c.requires.corpus c.requires.among;
       exact = c.requires.exact;
-      path_long = length-take-le _ _ (simp length-append (omega (arith, c.predict-p.kept, front (goal.at.correct-requires c).After-predict-p)));
+      path_long = length-take-le _ _ (simp length-append (omega (arith, c.predict-p.auto, front (goal.at.correct-requires c).After-predict-p)));
       few = c.predict-p.ensures.few;
       visits = c.requires.visits;
       updates = c.requires.updates;
@@ -110,4 +111,4 @@ correct-requires c =
 
 pub returns : goal.returns
 returns c =
-    let made = c.correct.ensures in record { fact = other_front (data_of (goal.at.returns c).Start) _ _ _ c.at-first.ensures c.at-end.ensures _ (model (goal.at.returns c).Start) (state (goal.at.returns c).Start) c.predict-p.ensures (sym (c.look-found.ensures _) ∙ c.in_default.is) (omega (arith, c.predict-p.kept, front (goal.at.returns c).After-predict-p)) _ made.0; visit_counted = made.1 }
+    let made = c.correct.ensures in record { fact = other_front (data_of (goal.at.returns c).Start) _ _ _ c.at-first.ensures c.at-end.ensures _ (model (goal.at.returns c).Start) (state (goal.at.returns c).Start) c.predict-p.ensures (sym (c.look-found.ensures _) ∙ c.in_default.is) (omega (arith, c.predict-p.auto, front (goal.at.returns c).After-predict-p)) _ made.fact; visit_counted = made.visit_counted }
