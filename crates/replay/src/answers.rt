@@ -2,20 +2,28 @@
 ghost use Rattle.std.specs.Prelude.{◌<◌, ◌≤◌};
 
 use refusals::Checked;
+use std::io::{self, Write};
 
-pub(crate) fn answer(operation: u64, a: u64, b: u64, c: u64, table: [u64; 12]) {
+pub(crate) fn answer<W: Write>(
+    out: &mut W,
+    operation: u64,
+    a: u64,
+    b: u64,
+    c: u64,
+    table: [u64; 12],
+) -> io::Result<()> {
     match operation {
-        1 => finite(a),
-        2 => min(a, b),
-        3 => root(a),
-        4 => draw(a, b),
-        5 => order(a, b, c),
-        6 => starts(a, b, table),
-        7 => kinds(a, table),
-        8 => ids(a, b, table),
-        9 => sources(a, b, table),
-        10 => numbers(a, table),
-        _ => crate::text::word(b"unknown\n"),
+        1 => finite(out, a),
+        2 => min(out, a, b),
+        3 => root(out, a),
+        4 => draw(out, a, b),
+        5 => order(out, a, b, c),
+        6 => starts(out, a, b, table),
+        7 => kinds(out, a, table),
+        8 => ids(out, a, b, table),
+        9 => sources(out, a, b, table),
+        10 => numbers(out, a, table),
+        _ => crate::text::word(out, b"unknown\n"),
     }
 }
 
@@ -48,32 +56,32 @@ fn bits(x: f64) -> u64 {
     }
 }
 
-fn finite(a: u64) {
+fn finite<W: Write>(out: &mut W, a: u64) -> io::Result<()> {
     if binary64::is_finite(float(a)) {
-        crate::text::word(b"finite 1\n");
+        crate::text::word(out, b"finite 1\n")
     } else {
-        crate::text::word(b"finite 0\n");
+        crate::text::word(out, b"finite 0\n")
     }
 }
 
-fn min(a: u64, b: u64) {
-    crate::text::word(b"min ");
-    crate::text::hex(bits(binary64::min(float(a), float(b))));
-    crate::text::end();
+fn min<W: Write>(out: &mut W, a: u64, b: u64) -> io::Result<()> {
+    crate::text::word(out, b"min ")?;
+    crate::text::hex(out, bits(binary64::min(float(a), float(b))))?;
+    crate::text::end(out)
 }
 
-fn root(a: u64) {
-    crate::text::word(b"root ");
+fn root<W: Write>(out: &mut W, a: u64) -> io::Result<()> {
+    crate::text::word(out, b"root ")?;
     if a <= 128 {
-        crate::text::hex(bits(roots::root(a as u32)));
+        crate::text::hex(out, bits(roots::root(a as u32)))?;
     }
-    crate::text::end();
+    crate::text::end(out)
 }
 
-fn draw(a: u64, b: u64) {
-    crate::text::word(b"draw ");
-    crate::text::hex(last_of(a, b % 65536));
-    crate::text::end();
+fn draw<W: Write>(out: &mut W, a: u64, b: u64) -> io::Result<()> {
+    crate::text::word(out, b"draw ")?;
+    crate::text::hex(out, last_of(a, b % 65536))?;
+    crate::text::end(out)
 }
 
 // The number of the last of so many draws.
@@ -96,15 +104,15 @@ struct Dealt {
     order: [u32; 12],
 }
 
-fn order(a: u64, b: u64, c: u64) {
+fn order<W: Write>(out: &mut W, a: u64, b: u64, c: u64) -> io::Result<()> {
     let n = ((b % 65536 + 11) % 12) as usize + 1;
     let dealt = deal(a, n, c % 65536);
-    crate::text::word(b"order");
+    crate::text::word(out, b"order")?;
     let order = dealt.order;
-    places(order, n);
-    crate::text::word(b" state ");
-    crate::text::hex(dealt.state);
-    crate::text::end();
+    places(out, order, n)?;
+    crate::text::word(out, b" state ")?;
+    crate::text::hex(out, dealt.state)?;
+    crate::text::end(out)
 }
 
 // The order of n numbers after so many epochs, and the generator's state.
@@ -124,31 +132,32 @@ fn deal(seed: u64, n: usize, epochs: u64) -> Dealt
     }
 }
 
-fn places(order: [u32; 12], n: usize) {
+fn places<W: Write>(out: &mut W, order: [u32; 12], n: usize) -> io::Result<()> {
     let mut i = 0usize;
     while i < n {
-        crate::text::place(place_of(order, i));
+        crate::text::place(out, place_of(order, i))?;
         i += 1;
     }
+    Ok(())
 }
 
 fn place_of(order: [u32; 12], i: usize) -> u64 {
     if i < 12 { order[i] as u64 } else { 0 }
 }
 
-fn checked(answer: Checked) {
+fn checked<W: Write>(out: &mut W, answer: Checked) -> io::Result<()> {
     match answer {
-        Checked::Accepted => crate::text::word(b"accepted\n"),
-        Checked::Refused(why) => refused(why.number, why.place),
+        Checked::Accepted => crate::text::word(out, b"accepted\n"),
+        Checked::Refused(why) => refused(out, why.number, why.place),
     }
 }
 
-fn refused(number: u32, place: u64) {
-    crate::text::word(b"refused ");
-    crate::text::decimal(number as u64);
-    crate::text::word(b" ");
-    crate::text::decimal(place);
-    crate::text::end();
+fn refused<W: Write>(out: &mut W, number: u32, place: u64) -> io::Result<()> {
+    crate::text::word(out, b"refused ")?;
+    crate::text::decimal(out, number as u64)?;
+    crate::text::word(out, b" ")?;
+    crate::text::decimal(out, place)?;
+    crate::text::end(out)
 }
 
 // Thirty-two bits of each of a table's words, above those that the divisor cuts off.
@@ -166,19 +175,20 @@ fn quotient(word: u64, divisor: u64) -> u64 {
     if divisor == 0 { word } else { word / divisor }
 }
 
-fn starts(a: u64, b: u64, table: [u64; 12]) {
+fn starts<W: Write>(out: &mut W, a: u64, b: u64, table: [u64; 12]) -> io::Result<()> {
     let starts = fields(table, 1);
-    checked(table_checks::check_starts(
+    let answer = table_checks::check_starts(
         Checked::Accepted,
         &starts,
         (a % 12) as usize,
         (b % 4294967296) as u32,
-    ));
+    );
+    checked(out, answer)
 }
 
-fn kinds(a: u64, table: [u64; 12]) {
+fn kinds<W: Write>(out: &mut W, a: u64, table: [u64; 12]) -> io::Result<()> {
     let kinds = low(table);
-    checked(table_checks::check_kinds(Checked::Accepted, &kinds, (a % 13) as usize));
+    checked(out, table_checks::check_kinds(Checked::Accepted, &kinds, (a % 13) as usize))
 }
 
 // The low byte of a table's words.
@@ -192,34 +202,36 @@ fn low(table: [u64; 12]) -> [u8; 12] {
     low
 }
 
-fn ids(a: u64, b: u64, table: [u64; 12]) {
+fn ids<W: Write>(out: &mut W, a: u64, b: u64, table: [u64; 12]) -> io::Result<()> {
     let ids = fields(table, 1);
-    checked(table_checks::check_ids(
+    let answer = table_checks::check_ids(
         Checked::Accepted,
         &ids,
         (a % 13) as usize,
         (b % 4294967296) as u32,
-    ));
+    );
+    checked(out, answer)
 }
 
-fn sources(a: u64, b: u64, table: [u64; 12]) {
+fn sources<W: Write>(out: &mut W, a: u64, b: u64, table: [u64; 12]) -> io::Result<()> {
     let kinds = low(table);
     let sources = fields(table, 256);
-    checked(table_checks::check_sources(
+    let answer = table_checks::check_sources(
         Checked::Accepted,
         &kinds,
         &sources,
         (a % 13) as usize,
         (b % 4294967296) as u32,
-    ));
+    );
+    checked(out, answer)
 }
 
-fn numbers(a: u64, table: [u64; 12]) {
+fn numbers<W: Write>(out: &mut W, a: u64, table: [u64; 12]) -> io::Result<()> {
     let mut numbers = [0.0f64; 12];
     let mut i = 0usize;
     while i < 12 {
         numbers[i] = float(table[i]);
         i += 1;
     }
-    checked(table_checks::check_numbers(Checked::Accepted, &numbers, (a % 13) as usize));
+    checked(out, table_checks::check_numbers(Checked::Accepted, &numbers, (a % 13) as usize))
 }

@@ -8,7 +8,7 @@ mod text;
 
 ghost use Rattle.std.specs.Prelude.{◌<◌};
 
-use libc::STDIN_FILENO;
+use std::io::{self, ErrorKind, Read, Write};
 
 // The word at a place of a record.
 fn word_at(record: &[u8; 128], place: usize) -> u64 {
@@ -50,25 +50,29 @@ fn table_of(record: &[u8; 128]) -> [u64; 12] {
 }
 
 // One record, or the end of the input.
-fn replay_one() -> bool {
+fn replay_one<R: Read, W: Write>(input: &mut R, out: &mut W) -> io::Result<bool> {
     let mut record = [0u8; 128];
-    let n = io::read_full(STDIN_FILENO, &mut record);
-    if n < 128 {
-        return false;
+    match input.read_exact(&mut record) {
+        Ok(()) => {}
+        Err(e) if e.kind() == ErrorKind::UnexpectedEof => return Ok(false),
+        Err(e) => return Err(e),
     }
     let operation = word_at(&record, 0);
     let a = word_at(&record, 1);
     let b = word_at(&record, 2);
     let c = word_at(&record, 3);
     let table = table_of(&record);
-    answers::answer(operation, a, b, c, table);
-    true
+    answers::answer(out, operation, a, b, c, table)?;
+    Ok(true)
 }
 
 // A proved loop has to end, and nothing says that the input does.
-fn main() {
+fn main(rt: HostRuntime) -> io::Result<()> {
+    let mut input = rt.reader();
+    let mut out = io::writer(&rt);
     let mut turns = 100000u32;
-    while turns > 0 && replay_one() {
+    while turns > 0 && replay_one(&mut input, &mut out)? {
         turns -= 1;
     }
+    Ok(())
 }

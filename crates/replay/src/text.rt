@@ -1,22 +1,22 @@
 // What is written: words, numbers, lines.
-use libc::STDOUT_FILENO;
+use std::io::{self, Write};
 
-pub(crate) fn word(text: &[u8]) {
-    io::write_all(STDOUT_FILENO, text);
+pub(crate) fn word<W: Write>(out: &mut W, text: &[u8]) -> io::Result<()> {
+    out.write_all(text)
 }
 
-pub(crate) fn decimal(n: u64) {
-    io::print_decimal(STDOUT_FILENO, n);
+pub(crate) fn decimal<W: Write>(out: &mut W, n: u64) -> io::Result<()> {
+    write!(out, "{n}")
 }
 
 // A number after a space.
-pub(crate) fn place(n: u64) {
-    word(b" ");
-    decimal(n);
+pub(crate) fn place<W: Write>(out: &mut W, n: u64) -> io::Result<()> {
+    word(out, b" ")?;
+    decimal(out, n)
 }
 
 // Sixteen capital digits.
-pub(crate) fn hex(n: u64) {
+pub(crate) fn hex<W: Write>(out: &mut W, n: u64) -> io::Result<()> {
     let mut digits = [0u8; 16];
     let mut left = n;
     let mut i = 16usize;
@@ -25,7 +25,7 @@ pub(crate) fn hex(n: u64) {
         digits[i] = digit(left % 16);
         left = left / 16;
     }
-    io::write_all(STDOUT_FILENO, &digits);
+    out.write_all(&digits)
 }
 
 fn digit(n: u64) -> u8 {
@@ -36,6 +36,6 @@ fn digit(n: u64) -> u8 {
     }
 }
 
-pub(crate) fn end() {
-    io::write_all(STDOUT_FILENO, b"\n");
+pub(crate) fn end<W: Write>(out: &mut W) -> io::Result<()> {
+    out.write_all(b"\n")
 }

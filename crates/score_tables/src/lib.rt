@@ -13,7 +13,7 @@ pub const MOST_LABELS: u32 = 32;
 
 pub const MOST_WORDS: u32 = 128;
 
-// How many entries so many rows of a width have: L.L transitions, T.L states.
+// How many entries so many rows of a width have: L·L transitions, T·L states.
 pub fn entries(rows: u32, width: u32) -> usize
     ensures { result ≡ rows * width }
 {

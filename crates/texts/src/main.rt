@@ -6,18 +6,22 @@ mod print;
 
 use lines::Totals;
 use read_text::{TextReading, TextSizes};
+use std::alloc::{AllocError, Global};
+use std::io::{Read, Write};
+use std::rt::Files;
+use std::{fs, io};
 use write_check::Names;
 use write_text::Written;
 
 // A refusal, of a text or of its tables.
-fn refused(number: u32, place: u64) {
-    print::word(b"REFUSED ");
-    print::decimal(number as u64);
-    print::word(b" ");
-    print::decimal(place);
+fn refused<W: Write>(out: &mut W, number: u32, place: u64) -> io::Result<()> {
+    print::word(out, b"REFUSED ")?;
+    print::decimal(out, number as u64)?;
+    print::word(out, b" ")?;
+    print::decimal(out, place)
 }
 
-fn print_sizes(sizes: TextSizes) {
+fn print_sizes<W: Write>(out: &mut W, sizes: TextSizes) -> io::Result<()> {
     let all = [
         sizes.labels,
         sizes.names,
@@ -28,12 +32,13 @@ fn print_sizes(sizes: TextSizes) {
         sizes.name_bytes,
         sizes.scale_bytes,
     ];
-    print::word(b"TEXT");
-    print::numbers(&all, 8);
+    print::word(out, b"TEXT")?;
+    print::numbers(out, &all, 8)
 }
 
 // The tables that the trainers take.
-fn print_corpus(
+fn print_corpus<W: Write>(
+    out: &mut W,
     sizes: TextSizes,
     line_starts: &[u32],
     word_starts: &[u32],
@@ -41,17 +46,18 @@ fn print_corpus(
     values: &[f64],
     references: &[u32],
     instance_weights: &[f64],
-) {
-    print::numbers(line_starts, sizes.instances as usize + 1);
-    print::numbers(word_starts, sizes.words as usize + 1);
-    print::numbers(ids, sizes.attributes as usize);
-    print::floats(values, sizes.attributes as usize);
-    print::numbers(references, sizes.words as usize);
-    print::floats(instance_weights, sizes.instances as usize);
+) -> io::Result<()> {
+    print::numbers(out, line_starts, sizes.instances as usize + 1)?;
+    print::numbers(out, word_starts, sizes.words as usize + 1)?;
+    print::numbers(out, ids, sizes.attributes as usize)?;
+    print::floats(out, values, sizes.attributes as usize)?;
+    print::numbers(out, references, sizes.words as usize)?;
+    print::floats(out, instance_weights, sizes.instances as usize)
 }
 
 // The names and the kept texts.
-fn print_strings(
+fn print_strings<W: Write>(
+    out: &mut W,
     sizes: TextSizes,
     label_name_starts: &[u32],
     label_names: &[u8],
@@ -59,17 +65,18 @@ fn print_strings(
     attribute_names: &[u8],
     scale_starts: &[u32],
     scales: &[u8],
-) {
-    print::numbers(label_name_starts, sizes.labels as usize + 1);
-    print::bytes(label_names, sizes.label_bytes as usize);
-    print::numbers(attribute_name_starts, sizes.names as usize + 1);
-    print::bytes(attribute_names, sizes.name_bytes as usize);
-    print::numbers(scale_starts, sizes.attributes as usize + 1);
-    print::bytes(scales, sizes.scale_bytes as usize);
+) -> io::Result<()> {
+    print::numbers(out, label_name_starts, sizes.labels as usize + 1)?;
+    print::bytes(out, label_names, sizes.label_bytes as usize)?;
+    print::numbers(out, attribute_name_starts, sizes.names as usize + 1)?;
+    print::bytes(out, attribute_names, sizes.name_bytes as usize)?;
+    print::numbers(out, scale_starts, sizes.attributes as usize + 1)?;
+    print::bytes(out, scales, sizes.scale_bytes as usize)
 }
 
 // What the writer makes of tables that were read.
-fn print_written(
+fn print_written<W: Write>(
+    out: &mut W,
     sizes: TextSizes,
     line_starts: &[u32],
     word_starts: &[u32],
@@ -81,7 +88,7 @@ fn print_written(
     attribute_names: &[u8],
     scale_starts: &[u32],
     scales: &[u8],
-) {
+) -> io::Result<()> {
     let totals = Totals {
         instances: sizes.instances,
         words: sizes.words,
@@ -111,13 +118,14 @@ fn print_written(
         &mut text,
     );
     match answer {
-        Written::Length(length) => print::bytes(&text, length),
-        Written::Refused(why) => refused(why.number, why.place),
+        Written::Length(length) => print::bytes(out, &text, length),
+        Written::Refused(why) => refused(out, why.number, why.place),
     }
 }
 
 // What was read, or the refusal.
-fn print_reading(
+fn print_reading<W: Write>(
+    out: &mut W,
     reading: TextReading,
     line_starts: &[u32],
     word_starts: &[u32],
@@ -131,12 +139,13 @@ fn print_reading(
     attribute_names: &[u8],
     scale_starts: &[u32],
     scales: &[u8],
-) {
+) -> io::Result<()> {
     match reading {
-        TextReading::Refused(why) => refused(why.number, why.place),
+        TextReading::Refused(why) => refused(out, why.number, why.place),
         TextReading::Read(sizes) => {
-            print_sizes(sizes);
+            print_sizes(out, sizes)?;
             print_corpus(
+                out,
                 sizes,
                 line_starts,
                 word_starts,
@@ -144,8 +153,9 @@ fn print_reading(
                 values,
                 references,
                 instance_weights,
-            );
+            )?;
             print_strings(
+                out,
                 sizes,
                 label_name_starts,
                 label_names,
@@ -153,8 +163,9 @@ fn print_reading(
                 attribute_names,
                 scale_starts,
                 scales,
-            );
+            )?;
             print_written(
+                out,
                 sizes,
                 line_starts,
                 word_starts,
@@ -166,13 +177,13 @@ fn print_reading(
                 attribute_names,
                 scale_starts,
                 scales,
-            );
+            )
         }
     }
 }
 
 // The tables have room for a text of 2,048 bytes, whatever is in it.
-fn answer(text: &[u8]) {
+fn answer<W: Write>(out: &mut W, text: &[u8]) -> io::Result<()> {
     let mut line_starts = [0u32; 1025];
     let mut word_starts = [0u32; 1025];
     let mut ids = [0u32; 1024];
@@ -201,6 +212,7 @@ fn answer(text: &[u8]) {
         &mut scales,
     );
     print_reading(
+        out,
         reading,
         &line_starts,
         &word_starts,
@@ -214,39 +226,38 @@ fn answer(text: &[u8]) {
         &attribute_names,
         &scale_starts,
         &scales,
-    );
-    print::word(b"\n");
+    )?;
+    print::word(out, b"\n")
 }
 
 fn digit(n: usize) -> u8 {
     48 + (n % 10) as u8
 }
 
-// The text of this number; whether there is such a file.
-fn answer_number(i: usize) -> bool {
-    let name = [
-        digit(i / 100),
-        digit(i / 10),
-        digit(i),
-        b'.',
-        b't',
-        b'x',
-        b't',
-    ];
-    let fd = os::open_read(&name);
-    if fd < 0 {
-        return false;
-    }
-    let mut text = [0u8; 2048];
-    let n = io::read_full(fd, &mut text);
-    libc::close(fd);
-    answer(&text[..n]);
-    true
+// The name of the text of this number.
+fn name(alloc: Global, i: usize) -> Result<String, AllocError> {
+    let hundreds = char::from(digit(i / 100));
+    let tens = char::from(digit(i / 10));
+    let ones = char::from(digit(i));
+    format!(in alloc; "{hundreds}{tens}{ones}.txt")
 }
 
-fn main() {
+// The text of this number; whether there is such a file.
+fn answer_number(rt: &(impl Files + Print + AllocGlobal), i: usize) -> io::Result<bool> {
+    let name = name(rt.alloc(), i)?;
+    let Ok(file) = fs::open(rt, &name) else {
+        return Ok(false);
+    };
+    let mut text = Vec::new(rt.alloc());
+    file.take(2048).read_to_end(&mut text)?;
+    answer(&mut io::writer(rt), &text)?;
+    Ok(true)
+}
+
+fn main(rt: HostRuntime) -> io::Result<()> {
     let mut i = 0usize;
-    while i < 1000 && answer_number(i) {
+    while i < 1000 && answer_number(&rt, i)? {
         i += 1;
     }
+    Ok(())
 }

@@ -1,36 +1,38 @@
 // What is printed: numbers parted by commas, binary64 as sixteen hexadecimal digits each, parted likewise, bytes as two each. A
 // blank stands before a table, and nothing at all is `-`.
-use libc::STDOUT_FILENO;
+use std::io::{self, Write};
 
-pub(crate) fn word(text: &[u8]) {
-    io::write_all(STDOUT_FILENO, text);
+pub(crate) fn word<W: Write>(out: &mut W, text: &[u8]) -> io::Result<()> {
+    out.write_all(text)
 }
 
-pub(crate) fn decimal(n: u64) {
-    io::print_decimal(STDOUT_FILENO, n);
+pub(crate) fn decimal<W: Write>(out: &mut W, n: u64) -> io::Result<()> {
+    write!(out, "{n}")
 }
 
 // What stands before a table without entries, and before an entry.
-fn none(n: usize) {
+fn none<W: Write>(out: &mut W, n: usize) -> io::Result<()> {
     if n == 0 {
-        word(b" -");
+        word(out, b" -")?;
     }
+    Ok(())
 }
 
-fn before(i: usize) {
+fn before<W: Write>(out: &mut W, i: usize) -> io::Result<()> {
     if i == 0 {
-        word(b" ");
+        word(out, b" ")
     } else {
-        word(b",");
+        word(out, b",")
     }
 }
 
-pub(crate) fn numbers(table: &[u32], n: usize) {
-    none(n);
+pub(crate) fn numbers<W: Write>(out: &mut W, table: &[u32], n: usize) -> io::Result<()> {
+    none(out, n)?;
     for i in 0..n {
-        before(i);
-        decimal(number_at(table, i));
+        before(out, i)?;
+        decimal(out, number_at(table, i))?;
     }
+    Ok(())
 }
 
 fn number_at(table: &[u32], i: usize) -> u64 {
@@ -41,12 +43,14 @@ fn wide(x: u32) -> u64 {
     x as u64
 }
 
-pub(crate) fn floats(table: &[f64], n: usize) {
-    none(n);
+pub(crate) fn floats<W: Write>(out: &mut W, table: &[f64], n: usize) -> io::Result<()> {
+    none(out, n)?;
     for i in 0..n {
-        before(i);
-        io::print_hex(STDOUT_FILENO, bits_at(table, i), 16);
+        before(out, i)?;
+        let pattern = bits_at(table, i);
+        write!(out, "{pattern:016x}")?;
     }
+    Ok(())
 }
 
 fn bits_at(table: &[f64], i: usize) -> u64 {
@@ -62,14 +66,16 @@ fn bits(x: f64) -> u64 {
     }
 }
 
-pub(crate) fn bytes(table: &[u8], n: usize) {
-    none(n);
+pub(crate) fn bytes<W: Write>(out: &mut W, table: &[u8], n: usize) -> io::Result<()> {
+    none(out, n)?;
     if 0 < n {
-        word(b" ");
+        word(out, b" ")?;
     }
     for i in 0..n {
-        io::print_hex(STDOUT_FILENO, byte_at(table, i), 2);
+        let value = byte_at(table, i);
+        write!(out, "{value:02x}")?;
     }
+    Ok(())
 }
 
 fn byte_at(table: &[u8], i: usize) -> u64 {

@@ -78,10 +78,12 @@ at_most number (inr (inr (inr (inl e)))) = omega arith
 at_most number (inr (inr (inr (inr (inl e))))) = omega arith
 at_most number (inr (inr (inr (inr (inr (inl e)))))) = omega arith
 at_most number (inr (inr (inr (inr (inr (inr (inl e))))))) = omega arith
+at_most number (inr (inr (inr (inr (inr (inr (inr e))))))) = elim e [ ]
 
 pub above : (number : ℕ) → OneOf (8 ∷ 9 ∷ []) number → 7 < number
 above number (inl e) = omega arith
 above number (inr (inl e)) = omega arith
+above number (inr (inr e)) = elim e [ ]
 
 -- one of some is one of more
 in_more : (some more : List ℕ) (number : ℕ) → OneOf some number → OneOf (some ++ more) number

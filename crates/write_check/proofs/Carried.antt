@@ -1,17 +1,17 @@
 -- The tests of names and kept texts say what the layout says. Assumes nothing.
-use mathlib.Core.Path.{◌≡◌, refl, sym, ap, subst, ◌∙◌}
-use mathlib.Core.Bool.{Bool, true, false, cond, not, ◌&&◌, ◌||◌, true≢false, false≢true}
-use mathlib.Core.List.{List, [], ◌∷◌, ◌++◌, append-nil}
-use mathlib.Core.Logic.{◌↔◌, ◌⊎◌, inl, inr}
-use Prim.Native.Nat.{ℕ, zero, suc, ◌+◌, ◌≤◌, ◌<◌}
+use mathlib.Core.Path.{◌≡◌, refl, sym, ap, ◌∙◌}
+use mathlib.Core.Bool.{Bool, true, false, ◌&&◌, ◌||◌, true≢false, false≢true}
+use mathlib.Core.List.{[], ◌∷◌, ◌++◌, append-nil}
+use mathlib.Core.Logic.{◌↔◌}
+use Prim.Native.Nat.{ℕ, suc, ◌+◌, ◌≤◌}
 use native.Mathlib.Omega.{arith}
-use borrow.Author.Tests.{eqb-true, eqb-false, ltb-false, leb-true, eq-eqb, ne_eqb, le-ltb, le-leb, lt-ltb}
+use borrow.Author.Tests.{eqb-true, eqb-false, ltb-false, leb-true, ne_eqb, le-ltb, le-leb}
 use lib.Dec.{eqb, ltb, leb}
 use lib.ListN.{length}
 use Rattle.refusals.specs.Tables.{outside}
 use Rattle.refusals.proofs.Laws.{neither}
-use Rattle.layout.specs.Layout.{Bytes, Clean, Name, Digits, minus_text, Part, none, point, part_text, fraction, Scale, KeptText}
-use Rattle.write_check.specs.Carry.{unclean, nothing, no_name, no_scale_from, behind_minus, no_scale, not_kept, NamesMean, KeptMeans}
+use Rattle.layout.specs.Layout.{Bytes, Clean, Digits, minus_text, Part, none, point, part_text, fraction, Scale}
+use Rattle.write_check.specs.Carry.{unclean, no_scale_from, behind_minus, no_scale, NamesMean, KeptMeans}
 use Rattle.write_check.proofs.ByteTests.{scale_point, scale_digit, scale_other, scale_end, minus_here, minus_not, minus_none}
 
 -- either way of a test

@@ -1,8 +1,8 @@
 -- What the rows give: sizes that fit, tables that are sound, and strings, words and sequences that stand in them. Assumes nothing.
-use mathlib.Core.Path.{◌≡◌, refl, sym, ◌∙◌, ap}
+use mathlib.Core.Path.{◌≡◌, sym, ◌∙◌, ap}
 use mathlib.Core.Bool.{Bool, ◌||◌}
 use mathlib.Core.List.{List, [], ◌∷◌, ◌++◌}
-use Prim.Native.Nat.{ℕ, ◌+◌, ◌-◌, ◌≤◌, ◌<◌}
+use Prim.Native.Nat.{ℕ, ◌+◌, ◌≤◌, ◌<◌}
 use native.Mathlib.Omega.{arith}
 use lib.ListN.{length, get_or}
 use Rattle.refusals.specs.declared.Refusal.{Refusal}
@@ -14,15 +14,13 @@ use Rattle.refusals.proofs.Laws.{settled, all_accepted}
 use Rattle.refusals.proofs.Meant.{starts_kept, ids_below, within}
 use Rattle.score_tables.specs.Rows.{one}
 use Rattle.score_tables.proofs.Meant.{one_means}
-use Rattle.score_tables.proofs.Order.{parted}
-use Rattle.refusal_rows.specs.Limits.{any_broken, two, AllWithin}
+use Rattle.refusal_rows.specs.Limits.{any_broken, two}
 use Rattle.refusal_rows.specs.Tests.{lines_fit, checks}
 use Rattle.refusal_rows.proofs.Means.{two_means, broken_parts, test_means, fitting}
 use Rattle.text_tables.specs.Tables.{Strings}
-use Rattle.text_tables.specs.Written.{written_text}
 use Rattle.text_writing.specs.Ready.{StringStands, ListStands, AttributeStands, WordStands, SequenceStands}
 use Rattle.text_writing.specs.Sums.{LabelStands, Measurable}
-use Rattle.write_check.specs.Rows.{Unchecked, written_counts, word_rooms, string_rooms, written_rooms, written_starts, written_lengths, written_ids, text_room, read_rows, text_rows, write_checked, write_sized_of, write_read}
+use Rattle.write_check.specs.Rows.{Unchecked, written_counts, word_rooms, string_rooms, written_rooms, written_starts, written_lengths, written_ids, read_rows, text_rows, write_checked, write_sized_of, write_read}
 use Rattle.write_check.specs.Sound.{WriteFits, SoundUnwritten}
 
 -- a list of lists whose starts rise, and a string of one

@@ -1,5 +1,5 @@
 -- What the writer may rely on once the tables are read and found sound. Assumes nothing.
-use Rattle.std.specs.Prelude.{ℕ, ◌+◌, ◌≤◌, ◌<◌, length, get_or}
+use Rattle.std.specs.Prelude.{ℕ, ◌<◌, get_or}
 use Rattle.refusals.specs.Meaning.{Starts}
 use Rattle.score_tables.specs.Sound.{LabelsIn, WordsIn}
 use Rattle.refusal_rows.specs.Limits.{AllWithin}

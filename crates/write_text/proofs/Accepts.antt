@@ -1,7 +1,7 @@
 -- The writer accepts the tables of every text that the reader accepts. Assumes nothing.
 use mathlib.Core.Path.{◌≡◌, refl, sym, ap, subst, ◌∙◌}
-use mathlib.Core.List.{List, [], ◌∷◌, ◌++◌, map, flatten}
-use Prim.Native.Nat.{ℕ, zero, suc, ◌+◌, ◌-◌, ◌≤◌, ◌<◌}
+use mathlib.Core.List.{List, ◌++◌, map, flatten}
+use Prim.Native.Nat.{ℕ, ◌+◌, ◌≤◌, ◌<◌}
 use native.Mathlib.Omega.{arith}
 use lib.ListN.{length, get_or, take, drop, length-map, length-drop, length-append, get_or-append}
 use lib.Seq.{take-append-le, drop-append-le}
@@ -12,17 +12,17 @@ use Rattle.refusals.proofs.Meant.{starts_kept}
 use Rattle.score_tables.specs.Sound.{WordsIn}
 use Rattle.refusal_rows.specs.Tests.{Good, starts_rise, lines_fit, ids_below, line_length}
 use Rattle.refusal_rows.proofs.Means.{test_means}
-use Rattle.layout.specs.Layout.{Bytes, TextAttribute, Word, Line, Name, KeptText, SoundText, text_of, sequences}
+use Rattle.layout.specs.Layout.{Bytes, TextAttribute, Word, Name, KeptText, text_of, sequences}
 use Rattle.text_tables.specs.Distinct.{distinct}
 use Rattle.text_tables.specs.Tables.{Strings, starts_from, flat, all_words, all_attributes, labels_of, names_of, scales_of, tables}
-use Rattle.text_tables.specs.Written.{Unwritten, unwritten, string_at, sequences_in, all_lines, written_text, in_all}
+use Rattle.text_tables.specs.Written.{Unwritten, unwritten, string_at, all_lines, written_text, in_all}
 use Rattle.text_tables.specs.RoundTrip.{Amounts, amounts_of, Writable}
-use Rattle.text_tables.specs.Tails.{Tails, strings_with, lent_with, StringsWithin, TablesWithin}
+use Rattle.text_tables.specs.Tails.{strings_with, lent_with, StringsWithin, TablesWithin}
 use Rattle.text_tables.proofs.Lists.{length_flatten}
 use Rattle.text_tables.proofs.Parts.{starts_rise_lem}
 use Rattle.text_tables.proofs.Carried.{read_is_writable}
 use Rattle.text_tables.proofs.Tails.{tails_unread, tables_reached}
-use Rattle.write_text.specs.Accepts.{read_given, ReadWithin, AcceptsTheRead}
+use Rattle.write_text.specs.Accepts.{read_given, AcceptsTheRead}
 use Rattle.write_text.proofs.Meant.{writing_means}
 
 -- ---- tables with more behind them

@@ -1,23 +1,22 @@
 -- What is written is well-formed and has the sequences of the tables. Assumes nothing.
-use mathlib.Core.Path.{◌≡◌, refl, sym, ap, ◌∙◌}
+use mathlib.Core.Path.{◌≡◌, sym, ap, ◌∙◌}
 use mathlib.Core.List.{List, ◌++◌}
-use Prim.Native.Nat.{ℕ, ◌+◌, ◌<◌}
 use native.Mathlib.Omega.{arith}
-use lib.ListN.{length, get_or, take, drop}
+use lib.ListN.{length, take, drop}
 use lib.Seq.{take-append_seam}
 use Rattle.refusals.specs.declared.Checked.{Checked}
 use Rattle.refusals.specs.declared.Checked.TheVariants.{Accepted}
 use Rattle.refusals.specs.Said.{accepted, or_refused}
 use Rattle.refusals.proofs.Said.{accepted_said, same_given}
-use Rattle.layout.specs.Layout.{Bytes, Line, WellFormed, sequences, NoneEmpty}
+use Rattle.layout.specs.Layout.{Bytes, Line, sequences, NoneEmpty}
 use Rattle.layout.proofs.Read.{one_one}
 use Rattle.text_tables.specs.Laid.{laid}
 use Rattle.text_tables.specs.Written.{sequences_in, written_lines, written_text}
 use Rattle.text_tables.specs.RoundTrip.{Amounts, Writable}
 use Rattle.text_tables.proofs.RoundTrip.{same_sequences, each_has_words}
 use Rattle.text_tables.proofs.Carried.{written_sound, writes_well_formed}
-use Rattle.write_check.specs.Rows.{Unchecked, write_checked}
-use Rattle.write_text.specs.Promise.{checked_of, answer_to, or_untouched, text_after, Outcome, said, Promised}
+use Rattle.write_check.specs.Rows.{Unchecked}
+use Rattle.write_text.specs.Promise.{checked_of, answer_to, or_untouched, text_after}
 use Rattle.write_text.specs.Carries.{WellWritten, WritesTheSame}
 use Rattle.write_text.proofs.Kept.{sound}
 use Rattle.write_text.proofs.Meant.{writing_means}

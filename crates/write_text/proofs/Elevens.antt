@@ -1,17 +1,15 @@
 -- 11 in order: the labels, the attributes, the scales, each at its first place that the layout cannot carry. Assumes nothing.
-use mathlib.Core.Path.{◌≡◌, refl, sym, ◌∙◌}
+use mathlib.Core.Path.{◌≡◌, refl}
 use mathlib.Core.Bool.{Bool, true, false, true≢false, false≢true}
 use mathlib.Core.List.{List, [], ◌∷◌}
 use mathlib.Core.Logic.{◌↔◌, inl, inr}
-use Prim.Native.Nat.{ℕ, ◌<◌}
+use Prim.Native.Nat.{ℕ}
 use Rattle.refusals.specs.declared.Checked.TheVariants.{Accepted}
 use Rattle.refusals.specs.Meaning.{Exactly, AllAccepted, FirstRefused}
 use Rattle.refusals.proofs.Meant.{exactly}
 use Rattle.score_tables.proofs.Order.{Never, not_table, why}
 use Rattle.refusal_rows.proofs.Groups.{Group}
-use Rattle.text_tables.specs.Tables.{Strings}
 use Rattle.text_tables.specs.Written.{string_at}
-use Rattle.layout.specs.Layout.{Name, KeptText}
 use Rattle.write_check.specs.Carry.{no_name, not_kept, Carry, named, kept, carried, carries, rows_in, Uncarried, EachCarried, AllCarried, FirstUncarried}
 use Rattle.write_check.proofs.Carried.{names_mean, kept_means}
 

@@ -1,10 +1,11 @@
 -- What the rows of refusals give the call: accepted tables are sound and the text has room, and either way the promise is kept. Assumes nothing.
-use mathlib.Core.Path.{◌≡◌, sym, ap, ◌∙◌}
-use mathlib.Core.List.{List, ◌++◌}
+use mathlib.Core.Path.{◌≡◌, sym, ◌∙◌}
+use mathlib.Core.List.{◌++◌}
 use Prim.Native.Nat.{ℕ, ◌<◌, ◌≤◌}
 use native.Mathlib.Omega.{arith}
 use lib.ListN.{length}
 use Rattle.refusals.specs.declared.Refusal.{Refusal}
+use Rattle.refusals.specs.declared.Checked.{Checked}
 use Rattle.refusals.specs.declared.Checked.TheVariants.{Accepted, Refused}
 use Rattle.refusals.specs.Meaning.{AllAccepted}
 use Rattle.refusals.proofs.Laws.{all_accepted}
@@ -22,6 +23,10 @@ use Rattle.write_check.specs.Sound.{SoundUnwritten}
 use Rattle.write_check.proofs.Laws.{sound_rows, sequence_stands}
 use Rattle.write_text.specs.declared.Written.{Written}
 use Rattle.write_text.specs.Promise.{checked_of, answer_to, text_after, Promised}
+
+-- the call's check accepts
+pub accepted_by : (given : Unchecked) (before : Bytes) {r : Checked} → r ≡ checked_of given before → r ≡ Accepted → checked_of given before ≡ Accepted
+accepted_by given before e h = sym e ∙ h
 
 module _ (given : Unchecked) (before : Bytes) (accepted : checked_of given before ≡ Accepted) where
   rows : AllAccepted (read_rows given) × AllAccepted (text_rows given (length before))

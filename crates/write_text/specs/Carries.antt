@@ -1,6 +1,6 @@
 -- What a written text is: "of any tables that the writer accepts, what it writes is well-formed and has the same sequences of names and scale texts".
 -- The proofs are in proofs/Carries.
-use Rattle.std.specs.Prelude.{◌≡◌, ℕ, length, take}
+use Rattle.std.specs.Prelude.{◌≡◌, ℕ, take}
 use Rattle.refusals.specs.Said.{accepted}
 use Rattle.layout.specs.Layout.{Bytes, WellFormed, sequences}
 use Rattle.text_tables.specs.Written.{sequences_in, written_text}

@@ -1,5 +1,5 @@
 -- When the writer gives each number, and with which place, in plain terms; of the check, and of whatever satisfies the promise. The proofs are in proofs/Meant.
-use Rattle.std.specs.Prelude.{◌≡◌, List, [], ◌∷◌, ◌↔◌, ◌⊎◌, ℕ, ◌≤◌, length}
+use Rattle.std.specs.Prelude.{◌≡◌, [], ◌∷◌, ◌↔◌, ◌⊎◌, ℕ, length}
 use Rattle.refusals.specs.declared.Checked.TheVariants.{Accepted}
 use Rattle.refusals.specs.Refusals.{refused_at, numbered}
 use Rattle.refusals.specs.Said.{accepted, refused}

@@ -6,7 +6,7 @@ use lib.Ieee.{of_bits, of_int}
 use Rattle.lines.specs.Passes.{raised}
 use Rattle.training.specs.Rules.{narrowed}
 use Rattle.fronts.proofs.Finite.{finite_stored}
-use Rattle.training_tables.proofs.Moves.{moved_none, moved_next, moved_end}
+use Rattle.training_tables.proofs.Moves.{moved_none, moved_next}
 use Rattle.arow.proofs.narrow.Goals as goal
 
 pub loop-i-init : goal.loop-i-init
@@ -20,6 +20,3 @@ loop-i-preserved c = (
   search rules,
   moved_next _ _ _ _ _ c.loop-i.invariant.3 (rw c.over.ensures) c.are_finite-all.ensures (finite_stored _ _ _ (search rules)) (finite_stored _ _ _ (search rules)),
 )
-
-pub returns : goal.returns
-returns c = moved_end _ _ _ _ c.loop-i.invariant.0 c.loop-i-test.false c.loop-i.invariant.3

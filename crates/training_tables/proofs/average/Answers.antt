@@ -1,10 +1,10 @@
 -- `training_tables::average` meets its contract: the loop is a pass of `averaged_at`, and the flag the finite test of what it stored. Assumes nothing.
-use mathlib.Core.Path.{refl, ◌∙◌}
+use mathlib.Core.Path.{refl}
 use native.Mathlib.Omega.{arith}
 use borrow.Author.Rules.{rules}
 use Rattle.training.specs.Rules.{averaged_at}
-use Rattle.lines.proofs.Laws.{through_none, through_next, through_end}
-use Rattle.fronts.proofs.Finite.{finite_none, finite_stored, flag_next, finite_end}
+use Rattle.lines.proofs.Laws.{through_none, through_next}
+use Rattle.fronts.proofs.Finite.{finite_none, finite_stored, flag_next}
 use Rattle.training_tables.proofs.average.Goals as goal
 
 pub loop-i-init : goal.loop-i-init

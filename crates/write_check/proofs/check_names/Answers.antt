@@ -1,25 +1,13 @@
 -- `write_check::check_names` meets its contract. Assumes nothing.
 use mathlib.Core.Path.{sym, ◌∙◌}
-use Prim.Native.Nat.{ℕ, ◌-◌}
 use native.Mathlib.Omega.{arith}
-use borrow.Author.Rules.{rules}
-use Rattle.refusals.proofs.Laws.{Passed, begin, step, answered}
-use Rattle.text_tables.specs.Written.{string_at}
-use Rattle.text_writing.specs.Ready.{strings}
-use Rattle.write_check.specs.Carry.{no_name}
-use Rattle.write_check.proofs.check_names.Reads as reads
-use Rattle.write_check.proofs.check_names.Lts as lts
-use Rattle.write_check.proofs.lacks_name.Reads as lacks_name_reads
-use Rattle.refusals.proofs.refuse_if.Reads as refuse_if_reads
-use Rattle.refusals.proofs.to_check.Reads as to_check_reads
+use Rattle.refusals.proofs.Laws.{begin, step, answered}
+use mathlib.Core.Logic.{inl, inr}
+use Rattle.write_check.proofs.check_names.Goals.{else-loop-i-test, then-loop-i-test+then-bad}
 use Rattle.write_check.proofs.check_names.Goals as goal
 
 pub loop-i-init : goal.loop-i-init
 loop-i-init c = begin
-
-pub lacks_name-bad-requires : goal.lacks_name-bad-requires
-lacks_name-bad-requires c =
-    c.requires _ (omega (arith, c.loop-i-test.true, c.to_check-end.ensures.upper_bound))
 
 pub loop-i-preserved : goal.loop-i-preserved
 loop-i-preserved c =

@@ -1,17 +1,9 @@
 -- `write_check::check_names` meets its contract. Assumes nothing.
-use mathlib.Core.Path.{sym, ◌∙◌}
 use Prim.Native.Nat.{ℕ, ◌-◌}
-use native.Mathlib.Omega.{arith}
-use borrow.Author.Rules.{rules}
-use Rattle.refusals.proofs.Laws.{Passed, begin, step, answered}
+use Rattle.refusals.proofs.Laws.{Passed}
 use Rattle.text_tables.specs.Written.{string_at}
 use Rattle.text_writing.specs.Ready.{strings}
 use Rattle.write_check.specs.Carry.{no_name}
-use Rattle.write_check.proofs.check_names.Reads as reads
-use Rattle.write_check.proofs.check_names.Lts as lts
-use Rattle.write_check.proofs.lacks_name.Reads as lacks_name_reads
-use Rattle.refusals.proofs.refuse_if.Reads as refuse_if_reads
-use Rattle.refusals.proofs.to_check.Reads as to_check_reads
 use Rattle.write_check.proofs.check_names.Given as goal
 
 abbrev pub invariant-loop-i : goal.invariant-loop-i

@@ -1,12 +1,6 @@
 -- `write_check::check_written` meets its contract. Assumes nothing.
 use mathlib.Core.Path.{sym, ◌∙◌}
 use Rattle.write_check.proofs.Laws.{size_stopped, read_stopped, lists_read, all_read, write_fits, write_sound}
-use borrow.Author.Rules.{rules}
-use Rattle.write_check.proofs.check_written.Reads as reads
-use Rattle.write_check.proofs.check_written.Lts as lts
-use Rattle.write_check.proofs.check_lists.Reads as check_lists_reads
-use Rattle.write_check.proofs.check_text.Reads as check_text_reads
-use Rattle.write_check.proofs.written_sizes.Reads as written_sizes_reads
 use Rattle.write_check.proofs.check_written.Goals as goal
 
 pub returns-in-Refused : goal.returns-in-Refused

@@ -2,9 +2,6 @@
 use native.Mathlib.Omega.{arith}
 use borrow.Author.Tests.{eq-eqb, ne_eqb}
 use Rattle.write_check.proofs.ByteTests.{begins_here, begins_first, begins_none}
-use borrow.Author.Rules.{rules}
-use Rattle.write_check.proofs.digits_from.Reads as reads
-use Rattle.write_check.proofs.digits_from.Lts as lts
 use Rattle.write_check.proofs.digits_from.Goals as goal
 
 pub returns-then-bytes-from-eq45 : goal.returns-then-bytes-from-eq45

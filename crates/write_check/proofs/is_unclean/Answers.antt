@@ -1,19 +1,7 @@
 -- `write_check::is_unclean` meets its contract. Assumes nothing.
-use mathlib.Core.Path.{◌≡◌, refl}
-use Prim.Native.Nat.{◌-◌, ◌≤◌}
 use native.Mathlib.Omega.{arith}
-use borrow.Author.Rules.{rules}
-use lib.ListN.{length}
-use lib.Seq.{slice}
-use Rattle.write_check.specs.Carry.{unclean}
 use Rattle.write_check.proofs.ByteTests.{unclean_here, unclean_on, unclean_over}
-use Rattle.write_check.proofs.is_unclean.Reads as reads
-use Rattle.write_check.proofs.is_unclean.Lts as lts
 use Rattle.write_check.proofs.is_unclean.Goals as goal
-
-pub loop-i-init : goal.loop-i-init
-loop-i-init c =
-    (c.requires.0, c.requires.1, refl)
 
 pub returns-then-b : goal.returns-then-b
 returns-then-b c =

@@ -1,14 +1,9 @@
 -- `write_check::is_unclean` meets its contract. Assumes nothing.
-use mathlib.Core.Path.{◌≡◌, refl}
+use mathlib.Core.Path.{◌≡◌}
 use Prim.Native.Nat.{◌-◌, ◌≤◌}
-use native.Mathlib.Omega.{arith}
-use borrow.Author.Rules.{rules}
 use lib.ListN.{length}
 use lib.Seq.{slice}
 use Rattle.write_check.specs.Carry.{unclean}
-use Rattle.write_check.proofs.ByteTests.{unclean_here, unclean_on, unclean_over}
-use Rattle.write_check.proofs.is_unclean.Reads as reads
-use Rattle.write_check.proofs.is_unclean.Lts as lts
 use Rattle.write_check.proofs.is_unclean.Given as goal
 
 abbrev pub invariant-loop-i : goal.invariant-loop-i

@@ -7,7 +7,7 @@ use borrow.Author.Rules.{rules}
 use Rattle.replay.proofs.answers.numbers.Given as goal
 
 abbrev pub invariant-loop-i : goal.invariant-loop-i
-invariant-loop-i l = (l.i ≤ 12) × (length l.numbers ≡ 12) × (length l.table ≡ 12)
+invariant-loop-i g l = (l.i ≤ 12) × (length l.numbers ≡ 12) × (length l.table ≡ 12)
 
 abbrev pub decreases-loop-i : goal.decreases-loop-i
-decreases-loop-i l = 12 - l.i
+decreases-loop-i g l = 12 - l.i

@@ -7,7 +7,7 @@ use borrow.Author.Rules.{rules}
 use Rattle.replay.proofs.answers.places.Given as goal
 
 abbrev pub invariant-loop-i : goal.invariant-loop-i
-invariant-loop-i l = l.i ≤ l.n
+invariant-loop-i g l = l.i ≤ l.n
 
 abbrev pub decreases-loop-i : goal.decreases-loop-i
-decreases-loop-i l = l.n - l.i
+decreases-loop-i g l = l.n - l.i

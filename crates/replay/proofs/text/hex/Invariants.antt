@@ -7,7 +7,7 @@ use borrow.Author.Rules.{rules}
 use Rattle.replay.proofs.text.hex.Given as goal
 
 abbrev pub invariant-loop-i : goal.invariant-loop-i
-invariant-loop-i l = (l.i ≤ 16) × (length l.digits ≡ 16)
+invariant-loop-i g l = (l.i ≤ 16) × (length l.digits ≡ 16)
 
 abbrev pub decreases-loop-i : goal.decreases-loop-i
-decreases-loop-i l = l.i
+decreases-loop-i g l = l.i
