@@ -50,4 +50,4 @@ archive:
 	@$(root)scripts/archive
 
 fmt:
-	@cd $(root) && rt fmt
+	@cd $(root) && for crate in crates/*/; do (cd "$$crate" && rt fmt) || exit 1; done

@@ -1,13 +1,13 @@
 -- What was read is written, and what was written is read back, by the calls as C has them. Assumes nothing.
 use mathlib.Core.Path.{◌≡◌, refl, sym, ap, subst, ◌∙◌}
 use mathlib.Core.List.{List, [], ◌∷◌, flatten}
-use Prim.Native.Nat.{ℕ, ◌+◌, ◌≤◌}
+use Prim.Native.Nat.{ℕ, ◌≤◌}
 use native.Mathlib.Omega.{arith}
 use lib.ListN.{length, take, drop}
 use lib.Seq.{take_at}
 use Rattle.refusals.specs.declared.Checked.{Checked}
 use Rattle.refusals.specs.declared.Checked.TheVariants.{Accepted}
-use Rattle.refusals.specs.Said.{Said, accepted}
+use Rattle.refusals.specs.Said.{accepted}
 use Rattle.refusal_rows.specs.Tests.{AllGood}
 use Rattle.refusal_rows.proofs.Means.{fitting}
 use Rattle.layout.specs.Layout.{Bytes, Word, Line, SoundText, text_of, WellFormed, sequences, NoneEmpty}
@@ -35,11 +35,10 @@ use Rattle.read_text.specs.Again.{lent_back}
 use Rattle.read_text.proofs.Unique.{told}
 use Rattle.read_text.proofs.Meant.{promise_means}
 use Rattle.read_text.proofs.Again.{behind, reads_the_same}
-use Rattle.text_exports.specs.declared.ReadText.{ReadText}
 use Rattle.text_exports.specs.declared.WrittenText.{WrittenText}
 use Rattle.text_exports.specs.Numbers.{read_numbers, written_numbers}
 use Rattle.text_exports.specs.Promise.{ReadOutcome, Reads, WriteOutcome, Writes}
-use Rattle.text_exports.specs.RoundTrip.{sizes_told, given_back, ReadsBack, RoundTrip}
+use Rattle.text_exports.specs.RoundTrip.{sizes_told, given_back, RoundTrip}
 use Rattle.text_exports.proofs.Meant.{accepted_sizes}
 
 -- ---- what reading accepts is within what the writer accepts

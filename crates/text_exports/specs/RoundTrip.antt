@@ -1,5 +1,5 @@
 -- "what it writes of tables that the reader filled reads back to the same tables", of the calls as C has them. The proof is in proofs/RoundTrip.
-use Rattle.std.specs.Prelude.{◌≡◌, ℕ, ◌+◌, ◌≤◌, length, take}
+use Rattle.std.specs.Prelude.{◌≡◌, ◌+◌, ◌≤◌, length, take}
 use Rattle.layout.specs.Layout.{Bytes}
 use Rattle.write_check.specs.Rows.{Unchecked}
 use Rattle.read_text.specs.declared.TextSizes.{TextSizes}

@@ -6,19 +6,19 @@ use Rattle.training_exports.proofs.bodkinbloom_arow.Goals as goal
 
 pub shape_of-weights : goal.shape_of-weights
 shape_of-weights c =
-    omega (arith, c.train-trained.kept)
+    omega (arith, c.train-trained.auto)
 
 pub shape_of-covariance : goal.shape_of-covariance
 shape_of-covariance c =
-    omega (arith, c.train-trained.kept)
+    omega (arith, c.train-trained.auto)
 
 pub shape_of-true_counts : goal.shape_of-true_counts
 shape_of-true_counts c =
-    omega (arith, c.train-trained.kept)
+    omega (arith, c.train-trained.auto)
 
 pub shape_of-predicted_counts : goal.shape_of-predicted_counts
 shape_of-predicted_counts c =
-    omega (arith, c.train-trained.kept)
+    omega (arith, c.train-trained.auto)
 
 pub returns : goal.returns
 returns c =

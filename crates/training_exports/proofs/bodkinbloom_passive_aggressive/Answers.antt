@@ -6,23 +6,23 @@ use Rattle.training_exports.proofs.bodkinbloom_passive_aggressive.Goals as goal
 
 pub shape_of-weights : goal.shape_of-weights
 shape_of-weights c =
-    omega (arith, c.train-answer.kept)
+    omega (arith, c.train-answer.auto)
 
 pub shape_of-running_sums : goal.shape_of-running_sums
 shape_of-running_sums c =
-    omega (arith, c.train-answer.kept)
+    omega (arith, c.train-answer.auto)
 
 pub shape_of-true_counts : goal.shape_of-true_counts
 shape_of-true_counts c =
-    omega (arith, c.train-answer.kept)
+    omega (arith, c.train-answer.auto)
 
 pub shape_of-predicted_counts : goal.shape_of-predicted_counts
 shape_of-predicted_counts c =
-    omega (arith, c.train-answer.kept)
+    omega (arith, c.train-answer.auto)
 
 pub shape_of-order : goal.shape_of-order
 shape_of-order c =
-    omega (arith, c.train-answer.kept)
+    omega (arith, c.train-answer.auto)
 
 pub returns : goal.returns
 returns c =
