@@ -188,7 +188,10 @@ fn starts<W: Write>(out: &mut W, a: u64, b: u64, table: [u64; 12]) -> io::Result
 
 fn kinds<W: Write>(out: &mut W, a: u64, table: [u64; 12]) -> io::Result<()> {
     let kinds = low(table);
-    checked(out, table_checks::check_kinds(Checked::Accepted, &kinds, (a % 13) as usize))
+    checked(
+        out,
+        table_checks::check_kinds(Checked::Accepted, &kinds, (a % 13) as usize),
+    )
 }
 
 // The low byte of a table's words.
@@ -233,5 +236,8 @@ fn numbers<W: Write>(out: &mut W, a: u64, table: [u64; 12]) -> io::Result<()> {
         numbers[i] = float(table[i]);
         i += 1;
     }
-    checked(out, table_checks::check_numbers(Checked::Accepted, &numbers, (a % 13) as usize))
+    checked(
+        out,
+        table_checks::check_numbers(Checked::Accepted, &numbers, (a % 13) as usize),
+    )
 }

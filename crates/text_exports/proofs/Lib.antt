@@ -1,4 +1,3 @@
-mod Kept
 mod OnlyOne
 mod Meant
 mod RoundTrip

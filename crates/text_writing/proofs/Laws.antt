@@ -15,7 +15,7 @@ use Rattle.pieces.proofs.Parts.{slice_lent}
 use Rattle.text_tables.specs.Tables.{Strings}
 use Rattle.text_tables.specs.Written.{Unwritten, string_at, places_from, places_in, attribute_from, attribute_text, label_from, written_text}
 use Rattle.text_tables.proofs.Places.{word_by_places, sequence_by_places, text_by_places}
-use Rattle.text_writing.specs.Ready.{word_tables, StringStands, WordStands, attribute_bytes, word_bytes, sequence_bytes, each_from}
+use Rattle.text_writing.specs.Ready.{StringStands, attribute_bytes, word_bytes, sequence_bytes, each_from}
 
 -- ---- strings
 
@@ -33,10 +33,6 @@ part_stands h e f = (omega (arith, e, f, h.list.rises), omega (arith, f, h.ends)
 -- the same part under another name
 pub room_as : {x y l : Bytes} {at : ℕ} → x ≡ y → RoomFor y l at → RoomFor x l at
 room_as {x} {y} {l} {at} e h = record { room = rw e h.room }
-
--- of a place that is known under another name
-pub stands_as : {s : Strings} {i j : ℕ} → i ≡ j → StringStands s j → StringStands s i
-stands_as {s} {i} {j} e h = rw e h
 
 pub name_as : (s : Strings) {i j : ℕ} → i ≡ j → escaped (string_at s i) ≡ escaped (string_at s j)
 name_as s e = ap (λ (i : ℕ). escaped (string_at s i)) e
@@ -134,13 +130,6 @@ sequence_next t i n h =
     let words : Bytes = each_from (word_bytes t) (start t.line_starts i) (size t.line_starts i) in
     each_first (sequence_bytes t) i n h ∙ ap (λ (x : Bytes). x ++ rest) (sequence_parts t i) ∙ append_assoc words (10 ∷ []) rest
 
-pub each_all : (f : ℕ → Bytes) (n : ℕ) → each_from f 0 n ≡ each_from f 0 (n - 0)
-each_all f n = let e : n ≡ n - 0 = omega arith in ap (each_from f 0) e
-
 pub text_parts : (t : Unwritten) → written_text t ≡ each_from (sequence_bytes t) 0 t.instances
 unfolding each_from
 text_parts t = text_by_places t
-
--- words stand in their own tables, whatever sequences they are in
-pub words_alone : {t : Unwritten} {w : ℕ} → WordStands t w → WordStands (word_tables t.word_starts_of t.ids t.references t.labels t.names t.scales) w
-words_alone h = record { inside = h.inside; label = h.label; list = h.list; attributes = h.attributes }

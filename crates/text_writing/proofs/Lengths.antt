@@ -2,7 +2,7 @@
 use mathlib.Core.Path.{◌≡◌, sym, ap, ◌∙◌}
 use mathlib.Core.Bool.{true, false}
 use Prim.Native.Nat.{ℕ, ◌+◌, ◌*◌, ◌-◌, ◌≤◌, ◌<◌}
-use native.Mathlib.Nat.{zero-add, le_antisymm, add-mul, one-mul, zero-mul}
+use native.Mathlib.Nat.{zero-add, add-mul, one-mul, zero-mul}
 use native.Mathlib.Omega.{arith}
 use lib.ListN.{length, get_or}
 use lib.Seq.{slice, length-slice}
@@ -75,11 +75,6 @@ summed_more {g} {each} {n} {i} {total} {one} h l e f =
     let d = add-mul i 1 each in
     let o = one-mul each in
     record { inside = omega (arith, l); same = omega (arith, m, t, e); few = omega (arith, h.few, f, d, o) }
-
-pub summed_over : {g : ℕ → ℕ} {each n i total : ℕ} → Summed g each n i total → n ≤ i → (total ≡ sum_to g n) × (total ≤ n * each)
-summed_over {g} {each} {n} {i} {total} h l =
-    let e = le_antisymm h.inside l in
-    (h.same ∙ ap (sum_to g) e, rw e at h.few)
 
 -- the bytes of a name that is known under another place
 pub same_name : (s : Strings) {i j : ℕ} → i ≡ j → length (escaped (string_at s i)) ≡ length (escaped (string_at s j))

@@ -1,8 +1,7 @@
 -- A loop that takes the two tables through a step at each feature and tests what it stores. Assumes nothing.
 use mathlib.Core.Path.{◌≡◌}
 use mathlib.Core.Bool.{Bool, true, ◌&&◌}
-use Prim.Native.Nat.{ℕ, ◌+◌, ◌≤◌}
-use native.Mathlib.Nat.{le_antisymm}
+use Prim.Native.Nat.{ℕ, ◌+◌}
 use Rattle.fronts.specs.Finite.{all_finite_of}
 use Rattle.training.specs.Rules.{Learned}
 use Rattle.training_tables.specs.Tables.{Moved}
@@ -22,6 +21,3 @@ module _ (step : ℕ → Learned → Learned) (s : Learned) where
     learned = through_next step i s m.learned e;
     finite = flag_next_both (all_finite_of t.weights i) (all_finite_of t.beside i) p q m.finite d f g;
   }
-
-  pub moved_end : (i n : ℕ) {t : Learned} {all : Bool} → i ≤ n → n ≤ i → Moved i step s t all → Moved n step s t all
-  moved_end i n h k m = rw (le_antisymm h k) at m

@@ -15,7 +15,7 @@ use Rattle.text_tables.specs.Written.{string_at}
 use Rattle.text_writing.specs.Ready.{StringStands}
 use Rattle.byte_buffers.proofs.Onto.{part_next, part_over}
 use Rattle.text_writing.proofs.Laws.{part_is, part_stands}
-use Rattle.write_check.specs.Carry.{unclean, nothing, no_name, no_scale_from, behind_minus, no_scale, not_kept, Digitwise}
+use Rattle.write_check.specs.Carry.{unclean, nothing, no_name, no_scale_from, behind_minus, no_scale, not_kept}
 
 -- ---- tabs and line feeds
 unclean_next : (b : ℕ) (t : Bytes) → unclean (b ∷ t) ≡ (eqb b 9 || eqb b 10 || unclean t)
@@ -95,9 +95,6 @@ module _ {bytes : Bytes} {to i points digits : ℕ} {all : Bool} (g : Sorting by
 
   pub sorting_over : to ≤ i → (outside 1 15 digits || ltb 1 points) ≡ all
   sorting_over h = sym (scale_end points digits) ∙ ap (no_scale_from points digits) (sym (part_over bytes i to g.inside h)) ∙ g.same
-
-pub sorting_starts : {bytes : Bytes} {from to first : ℕ} → Digitwise bytes from to first → to ≤ length bytes → Sorting bytes to first 0 0 (no_scale (slice from to bytes))
-sorting_starts d k = record { inside = d.inside; whole = k; few_points = omega arith; few_digits = omega arith; same = ap (no_scale_from 0 0) d.same }
 
 -- where the digits begin
 pub begins_here : (bytes : Bytes) (from to : ℕ) → from < to → to ≤ length bytes → eqb (get_or bytes from 0) 45 ≡ true → slice (from + 1) to bytes ≡ behind_minus (slice from to bytes)

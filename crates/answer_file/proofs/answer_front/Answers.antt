@@ -1,7 +1,4 @@
 -- `answer_file::answer_front` meets its contract. Assumes nothing.
-use borrow.Author.Rules.{rules}
-use mathlib.Core.Path.{sym}
-use lib.Seq.{length-take-le}
 use Rattle.answer_file.proofs.EveryFile.{of_every}
 use Rattle.answer_file.proofs.answer_front.Goals as goal
 

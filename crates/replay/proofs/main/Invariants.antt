@@ -1,9 +1,5 @@
 -- `replay::main` is safe and ends. Assumes nothing.
-use Prim.Native.Nat.{◌≤◌, ◌<◌, ◌-◌, ◌^◌}
-use mathlib.Core.Path.{◌≡◌, refl}
-use native.Mathlib.Omega.{arith}
-use lib.ListN.{length, length-set}
-use borrow.Author.Rules.{rules}
+use Prim.Native.Nat.{◌≤◌}
 use Rattle.replay.proofs.main.Given as goal
 
 abbrev pub invariant-loop-turns : goal.invariant-loop-turns

@@ -1,6 +1,5 @@
 -- `sheets::main` meets its contract. Assumes nothing.
 use Prim.Native.Nat.{◌-◌}
-use borrow.Author.Rules.{rules}
 use Rattle.sheets.proofs.main.Given as goal
 
 abbrev pub invariant-loop-i : goal.invariant-loop-i

@@ -1,6 +1,5 @@
 -- `texts::main` meets its contract. Assumes nothing.
 use Prim.Native.Nat.{◌-◌}
-use borrow.Author.Rules.{rules}
 use Rattle.texts.proofs.main.Given as goal
 
 abbrev pub invariant-loop-i : goal.invariant-loop-i

@@ -1,11 +1,6 @@
 -- `replay::answers::float` is safe and ends. Assumes nothing.
-use Prim.Native.Nat.{◌≤◌, ◌<◌, ◌-◌, ◌^◌}
-use mathlib.Core.Path.{◌≡◌, refl}
-use native.Mathlib.Omega.{arith}
 use borrow.Author.Tests.{ne_eqb}
 use Rattle.binary64.proofs.Finite.{no_nan}
-use lib.ListN.{length, length-set}
-use borrow.Author.Rules.{rules}
 use Rattle.replay.proofs.answers.float.Goals as goal
 
 pub float_from_bits-result : goal.float_from_bits-result

@@ -1,9 +1,5 @@
 -- `replay::answers::last_of` is safe and ends. Assumes nothing.
-use Prim.Native.Nat.{◌≤◌, ◌<◌, ◌-◌, ◌^◌}
-use mathlib.Core.Path.{◌≡◌, refl}
-use native.Mathlib.Omega.{arith}
-use lib.ListN.{length, length-set}
-use borrow.Author.Rules.{rules}
+use Prim.Native.Nat.{◌≤◌}
 use Rattle.replay.proofs.answers.last_of.Given as goal
 
 abbrev pub invariant-loop-left : goal.invariant-loop-left

@@ -1,9 +1,5 @@
 -- `replay::answers::places` is safe and ends. Assumes nothing.
-use Prim.Native.Nat.{◌≤◌, ◌<◌, ◌-◌, ◌^◌}
-use mathlib.Core.Path.{◌≡◌, refl}
-use native.Mathlib.Omega.{arith}
-use lib.ListN.{length, length-set}
-use borrow.Author.Rules.{rules}
+use Prim.Native.Nat.{◌≤◌, ◌-◌}
 use Rattle.replay.proofs.answers.places.Given as goal
 
 abbrev pub invariant-loop-i : goal.invariant-loop-i

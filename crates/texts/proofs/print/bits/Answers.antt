@@ -1,6 +1,5 @@
 -- `texts::print::bits` is safe: what is equal to itself is no NaN. Assumes nothing.
 use mathlib.Core.Path.{sym, subst, ◌∙◌}
-use borrow.Author.Rules.{rules}
 use lib.Dec.{T}
 use Rattle.binary64.proofs.Order.{eq_self}
 use Rattle.texts.proofs.print.bits.Goals as goal
