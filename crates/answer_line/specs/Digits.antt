@@ -1,8 +1,5 @@
 -- Numbers as text: digits in ASCII, the highest first, and the number that digits stand for. Assumes nothing.
-use Prim.Native.Nat.{ℕ, zero, suc, _+_, _-_, _*_, _/_, _%_}
-use mathlib.Core.Bool.{cond}
-use mathlib.Core.List.{List, [], _∷_, _++_}
-use lib.Dec.{ltb}
+use Rattle.std.specs.Prelude.{ℕ, zero, suc, ◌+◌, ◌-◌, ◌*◌, ◌/◌, ◌%◌, cond, List, [], ◌∷◌, ◌++◌, ltb}
 
 -- a digit below 16 in ASCII: `0` to `9`, then "capital hex digits", `A` to `F`
 unfoldable pub digit : ℕ → ℕ
@@ -14,17 +11,17 @@ digits base zero n = []
 digits base (suc k) n = digits base k (n / base) ++ (digit (n % base) ∷ [])
 
 -- how many decimal digits n has, counted up to `most`: one, and one more for each division by ten that leaves something
-unfoldable pub placesWithin : ℕ → ℕ → ℕ
-placesWithin zero n = 0
-placesWithin (suc most) n = cond (ltb n 10) 1 (placesWithin most (n / 10) + 1)
+unfoldable pub places_within : ℕ → ℕ → ℕ
+places_within zero n = 0
+places_within (suc most) n = cond (ltb n 10) 1 (places_within most (n / 10) + 1)
 
 -- no number of 64 bits has more than 20
-unfoldable pub decimalPlaces : ℕ → ℕ
-decimalPlaces n = placesWithin 20 n
+unfoldable pub decimal_places : ℕ → ℕ
+decimal_places n = places_within 20 n
 
 -- a number of 64 bits in decimal, with no zeros in front
 unfoldable pub decimal : ℕ → List ℕ
-decimal n = digits 10 (decimalPlaces n) n
+decimal n = digits 10 (decimal_places n) n
 
 -- ---- reading back
 
@@ -33,10 +30,10 @@ unfoldable pub worth : ℕ → ℕ
 worth character = cond (ltb character 65) (character - 48) (character - 55)
 
 -- the number that further digits make of the one so far
-unfoldable pub readOn : ℕ → ℕ → List ℕ → ℕ
-readOn base value [] = value
-readOn base value (character ∷ rest) = readOn base (value * base + worth character) rest
+unfoldable pub read_on : ℕ → ℕ → List ℕ → ℕ
+read_on base value [] = value
+read_on base value (character ∷ rest) = read_on base (value * base + worth character) rest
 
 -- the number that digits stand for
-abbrev pub readDigits : ℕ → List ℕ → ℕ
-readDigits base text = readOn base 0 text
+abbrev pub read_digits : ℕ → List ℕ → ℕ
+read_digits base text = read_on base 0 text

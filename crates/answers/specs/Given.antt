@@ -1,10 +1,9 @@
 -- How C reads an answer: a number other than 0, with its table and place, is a refusal. Assumes nothing.
-use mathlib.Core.Path.{_≡_}
-use Prim.Native.Nat.{ℕ, _<_}
+use Rattle.std.specs.Prelude.{◌≡◌, ℕ, ◌<◌}
 
 -- the answer's number, table and place are these, and it is a refusal
 pub record Gives (number table place : ℕ) (this which there : ℕ) : Type 0 where
   pub refusal : 0 < this
-  pub number-is : number ≡ this
-  pub table-is : table ≡ which
-  pub place-is : place ≡ there
+  pub number_is : number ≡ this
+  pub table_is : table ≡ which
+  pub place_is : place ≡ there

@@ -1,11 +1,13 @@
 // An answer that only says whether something is refused.
-ghost use mathlib.Core.Path.{_≡_};
-ghost use Rattle·refusals.specs.Said.{saidOf};
-ghost use Rattle·answers·specs.specs.Numbers.{numbers};
+ghost use Rattle.std.specs.Prelude.{◌≡◌};
+ghost use Rattle.refusals.specs.Said.{said_of};
+ghost use Rattle.answers.specs.Numbers.{numbers};
+
 use refusals::Checked;
 
 // A refusal of document 01, with the table for 5 and 6; the number 0 says that nothing was refused.
 #[repr(C)]
+#[derive(Drop)]
 pub struct Refused {
     pub number: u32,
     pub table: u32,
@@ -13,7 +15,7 @@ pub struct Refused {
 }
 
 pub fn numbers_of_check(answer: Checked) -> Refused
-    ensures { λ r. ⌜ r ≡ numbers (saidOf answer) ⌝ }
+    ensures { result ≡ numbers (said_of answer) }
 {
     match answer {
         Checked::Accepted => Refused {

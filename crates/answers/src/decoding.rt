@@ -1,15 +1,16 @@
 // The answers of a decoded line and of a scored path.
-ghost use mathlib.Core.Path.{_≡_};
-ghost use Rattle·viterbi.specs.Promise.{said};
-ghost use Rattle·sequence_score.specs.Promise.{said as scoreSaid};
-ghost use Rattle·answers·specs.specs.Numbers.{decodedNumbers, scoredNumbers};
+ghost use Rattle.std.specs.Prelude.{◌≡◌};
+ghost use Rattle.viterbi.specs.Promise.{said};
+ghost use Rattle.sequence_score.specs.Promise.{said as score_said};
+ghost use Rattle.answers.specs.Numbers.{decoded_numbers, scored_numbers};
+
 use sequence_score::PathScore;
 use viterbi::Decoding;
-use viterbi_end::Found;
-use viterbi_end::Lead;
+use viterbi_end::{Found, Lead};
 
 // The answer of a decoded line: `has_lead` is 0 where there is no lead.
 #[repr(C)]
+#[derive(Drop)]
 pub struct Decoded {
     pub number: u32,
     pub table: u32,
@@ -21,6 +22,7 @@ pub struct Decoded {
 
 // The answer of a scored path.
 #[repr(C)]
+#[derive(Drop)]
 pub struct Scored {
     pub number: u32,
     pub table: u32,
@@ -29,7 +31,7 @@ pub struct Scored {
 }
 
 fn numbers_of_found(found: Found) -> Decoded
-    ensures { λ r. ⌜ r ≡ decodedNumbers (said (Decoding.Decoded found)) ⌝ }
+    ensures { result ≡ decoded_numbers (said (Decoding.Decoded found)) }
 {
     let lead = found.lead;
     match lead {
@@ -53,7 +55,7 @@ fn numbers_of_found(found: Found) -> Decoded
 }
 
 pub fn numbers_of_decoding(answer: Decoding) -> Decoded
-    ensures { λ r. ⌜ r ≡ decodedNumbers (said answer) ⌝ }
+    ensures { result ≡ decoded_numbers (said answer) }
 {
     match answer {
         Decoding::Decoded(found) => numbers_of_found(found),
@@ -69,7 +71,7 @@ pub fn numbers_of_decoding(answer: Decoding) -> Decoded
 }
 
 pub fn numbers_of_score(answer: PathScore) -> Scored
-    ensures { λ r. ⌜ r ≡ scoredNumbers (scoreSaid answer) ⌝ }
+    ensures { result ≡ scored_numbers (score_said answer) }
 {
     match answer {
         PathScore::Scored(score) => Scored {

@@ -1,11 +1,13 @@
 // The answer of a training.
-ghost use mathlib.Core.Path.{_≡_};
-ghost use Rattle·training.specs.Said.{said};
-ghost use Rattle·answers·specs.specs.Numbers.{trainedNumbers};
+ghost use Rattle.std.specs.Prelude.{◌≡◌};
+ghost use Rattle.training.specs.Said.{said};
+ghost use Rattle.answers.specs.Numbers.{trained_numbers};
+
 use training::Training;
 
 // The refusal's number, table and place, or epochs run, visits and updates; what has no value is 0.
 #[repr(C)]
+#[derive(Drop)]
 pub struct Trained {
     pub number: u32,
     pub table: u32,
@@ -16,7 +18,7 @@ pub struct Trained {
 }
 
 pub fn numbers_of_training(answer: Training) -> Trained
-    ensures { λ r. ⌜ r ≡ trainedNumbers (said answer) ⌝ }
+    ensures { result ≡ trained_numbers (said answer) }
 {
     match answer {
         Training::Accepted(trained) => Trained {

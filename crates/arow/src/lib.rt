@@ -1,18 +1,16 @@
 // AROW's update: weights and covariance after a visit whose labels differ, and what it adds to the epoch's loss.
-ghost use mathlib.Core.Path.{_≡_};
-ghost use lib.ListN.{length};
-ghost use Rattle·training.specs.Rules.{narrowed, _⊘_, spread, arow, _⊕_, _⊖_};
-ghost use Rattle·training_tables.specs.Tables.{Held, Moved, Both, Updated};
-ghost use Prim.Native.Nat.{_≤_, ℕ};
-ghost use Rattle·lines.specs.Passes.{through};
-ghost use lib.Ieee.{Float};
-ghost use Rattle·binary64.specs.Numbers.{whole};
+ghost use Rattle.std.specs.Prelude.{◌≡◌, length, ◌≤◌, ℕ, Float};
+ghost use Rattle.training.specs.Rules.{narrowed, ◌⊘◌, spread, arow, ◌⊕◌, ◌⊖◌};
+ghost use Rattle.training_tables.specs.Tables.{Held, Moved, Both, Updated};
+ghost use Rattle.lines.specs.Passes.{through};
+ghost use Rattle.binary64.specs.Numbers.{whole};
+
 use training_tables::Outcome;
 
 // A square over gamma. A division by 1 changes nothing, and the loop below takes no longer than its divisions do: the compiler
 // makes two loops of it, one for each way. 1 is the gamma that the Rust text starts from.
 pub fn over(square: f64, gamma: f64) -> f64
-    ensures { λ r. ⌜ r ≡ square ⊘ gamma ⌝ }
+    ensures { result ≡ square ⊘ gamma }
 {
     if gamma == 1.0 { square } else { square / gamma }
 }
@@ -26,8 +24,8 @@ pub fn spread_of(
     predicted: &[f64],
     covariance: &[f64],
 ) -> f64
-    requires { ⌜ Both features (length (now truly)) (length (now predicted)) × (features ≤ length (now covariance)) ⌝ }
-    ensures { λ r. ⌜ r ≡ through (spread (now (truly .entry)) (now (predicted .entry)) weight (now (covariance .entry))) 0 features gamma ⌝ }
+    requires { Both features (length truly.now) (length predicted.now) × (features ≤ length covariance.now) }
+    ensures { result ≡ through (spread truly.now predicted.now weight covariance.now) 0 features gamma }
 {
     let mut frac = gamma;
     let mut i = 0usize;
@@ -51,8 +49,8 @@ pub fn narrow(
     weights: &mut [f64],
     covariance: &mut [f64],
 ) -> bool
-    requires { ⌜ Held features (length (now truly)) (length (now predicted)) (length (now weights)) (length (now covariance)) ⌝ }
-    ensures { λ r. ⌜ Moved features (narrowed (now (truly .entry)) (now (predicted .entry)) weight gamma alpha) (record { weights = now (weights .entry); beside = now (covariance .entry) }) (record { weights = now (weights .exit); beside = now (covariance .exit) }) r ⌝ }
+    requires { Held features (length truly.now) (length predicted.now) (length weights.old) (length covariance.old) }
+    ensures { Moved features (narrowed truly.now predicted.now weight gamma alpha) (record { weights = weights.entry.now; beside = covariance.old }) (record { weights = weights.exit.now; beside = covariance.new }) result }
 {
     let mut all = true;
     let mut i = 0usize;
@@ -71,7 +69,7 @@ pub fn narrow(
 
 // How far the predicted path's score is above the true one's, and the number of wrong labels.
 pub fn cost_of(wrong: u32, reached: f64, wanted: f64) -> f64
-    ensures { λ r. ⌜ r ≡ (reached ⊖ wanted) ⊕ whole wrong ⌝ }
+    ensures { result ≡ (reached ⊖ wanted) ⊕ whole wrong }
 {
     reached - wanted + wrong as f64
 }
@@ -89,24 +87,17 @@ pub fn update(
     weights: &mut [f64],
     covariance: &mut [f64],
 ) -> Outcome
-    requires { ⌜ Held features (length (now truly)) (length (now predicted)) (length (now weights)) (length (now covariance)) ⌝ }
-    ensures { λ r. ⌜ ((variance : Float) (words : ℕ) (counter : Float) →
+    requires { Held features (length truly.now) (length predicted.now) (length weights.old) (length covariance.old) }
+    ensures { (variance : Float) (words : ℕ) (counter : Float) →
         Updated (arow variance gamma) features
-        (record { words = words; wrong = wrong; truly = now (truly .entry); predicted = now (predicted .entry); trueScore = wanted; predictedScore = reached; weight = weight; counter = counter })
-        (record { weights = now (weights .entry); beside = now (covariance .entry) })
-        (record { weights = now (weights .exit); beside = now (covariance .exit) }) r) ⌝ }
+        (record { words = words; wrong = wrong; truly = truly.now; predicted = predicted.now; true_score = wanted; predicted_score = reached; weight = weight; counter = counter })
+        (record { weights = weights.entry.now; beside = covariance.old })
+        (record { weights = weights.exit.now; beside = covariance.new }) result }
 {
     let cost = cost_of(wrong, reached, wanted);
     let alpha = cost / spread_of(features, weight, gamma, truly, predicted, covariance);
     let all = narrow(
-        features,
-        weight,
-        gamma,
-        alpha,
-        truly,
-        predicted,
-        weights,
-        covariance,
+        features, weight, gamma, alpha, truly, predicted, weights, covariance,
     );
     Outcome {
         loss: cost * weight,

@@ -1,65 +1,65 @@
 -- The end of a training: what a run comes to, by the tests that the code makes. Assumes nothing.
-use mathlib.Core.Path.{_≡_, refl, sym, ap, _∙_}
+use mathlib.Core.Path.{◌≡◌, refl, sym, ap, ◌∙◌}
 use mathlib.Core.Bool.{Bool, true, false, true≢false}
-use mathlib.Core.List.{List, [], _∷_}
-use Prim.Native.Nat.{ℕ, _+_}
-use denote.Enum.Declared.{tagOf}
+use mathlib.Core.List.{List, [], ◌∷◌}
+use Prim.Native.Nat.{ℕ, ◌+◌}
+use denote.Enum.Declared.{tag_of}
 use types.Run.{OneOf, miss}
 use lib.ListN.{replicate}
 use lib.Ieee.{Float}
-use Rattle·binary64.specs.Numbers.{nought, whole}
-use Rattle·lines.specs.Tables.{Model}
-use Rattle·refusals.specs.declared.Refusal.{Refusal}
-use Rattle·refusals.specs.Refusals.{numbered}
-use Rattle·training.specs.declared.Progress.{Progress}
-use Rattle·training.specs.declared.Visit.{Visit}
-use Rattle·training.specs.declared.Visit.the-variants.{Unchanged, Updated, Refused}
-use Rattle·training.specs.declared.Training.the-variants.{Accepted, Refused as NotTrained}
-use Rattle·training.proofs.Visit.{the-type}
-use Rattle·lines.specs.Data.{Data}
-use Rattle·fronts.specs.Finite.{allFinite}
-use Rattle·training.specs.Rules.{Rule, averagedBy}
-use Rattle·training.specs.Epochs.{Settings, Run, Result, isRefused, refusedWith, averaged, finished}
-use Rattle·begin_and_end·specs.specs.declared.Ran.{Ran}
-use Rattle·begin_and_end·specs.specs.Ending.{Finished, AveragedAs}
+use Rattle.binary64.specs.Numbers.{nought, whole}
+use Rattle.lines.specs.Tables.{Model}
+use Rattle.refusals.specs.declared.Refusal.{Refusal}
+use Rattle.refusals.specs.Refusals.{numbered}
+use Rattle.training.specs.declared.Progress.{Progress}
+use Rattle.training.specs.declared.Visit.{Visit}
+use Rattle.training.specs.declared.Visit.TheVariants.{Unchanged, Updated, Refused}
+use Rattle.training.specs.declared.Training.TheVariants.{Accepted, Refused as NotTrained}
+use Rattle.training.specs.contracts.Visit.{the_type}
+use Rattle.lines.specs.Data.{Data}
+use Rattle.fronts.specs.Finite.{all_finite_of}
+use Rattle.training.specs.Rules.{Rule, averaged_by}
+use Rattle.training.specs.Epochs.{Settings, Run, Result, is_refused, refused_with, averaged, finished}
+use Rattle.begin_and_end.specs.declared.Ran.{Ran}
+use Rattle.begin_and_end.specs.Ending.{Finished, AveragedAs}
 
 -- ---- the end
 -- a visit that is one of the two other variants was not refused
-pub not-refused : (v : Visit) → OneOf (0 ∷ 1 ∷ []) (tagOf the-type v) → isRefused v ≡ false
-not-refused Unchanged k = refl
-not-refused Updated k = refl
-not-refused (Refused why) k = absurd (miss (0 ∷ 1 ∷ []) 2 tt k)
+pub not_refused : (v : Visit) → OneOf (0 ∷ 1 ∷ []) (tag_of the_type v) → is_refused v ≡ false
+not_refused Unchanged k = refl
+not_refused Updated k = refl
+not_refused (Refused why) k = absurd (miss (0 ∷ 1 ∷ []) 2 tt k)
 
 module _ (rule : Rule) (set : Settings) (m : Model) (d : Data) where
-  averaged-end : (v : Visit) (r : Run) → isRefused v ≡ false → finished rule set m d v r ≡ averaged rule set m d r
+  averaged_end : (v : Visit) (r : Run) → is_refused v ≡ false → finished rule set m d v r ≡ averaged rule set m d r
   unfolding finished
-  averaged-end Unchanged r e = refl
-  averaged-end Updated r e = refl
-  averaged-end (Refused why) r e = absurd (true≢false e)
+  averaged_end Unchanged r e = refl
+  averaged_end Updated r e = refl
+  averaged_end (Refused why) r e = absurd (true≢false e)
 
-  module _ {features : ℕ} (e : m .features .count ≡ features) {ran : Ran} {weights beside : List Float} {r : Run} (f : Finished ran weights beside r) where
-    same-end : {b : Bool} → isRefused (ran .progress .visit) ≡ b → isRefused (r .state .progress .visit) ≡ b
-    same-end h = ap (λ (s : Progress). isRefused (s .visit)) (sym (f .progress)) ∙ h
+  module _ {features : ℕ} (e : m.features.count ≡ features) {ran : Ran} {weights beside : List Float} {r : Run} (f : Finished ran weights beside r) where
+    same_end : {b : Bool} → is_refused ran.progress.visit ≡ b → is_refused r.state.progress.visit ≡ b
+    same_end h = ap (λ (s : Progress). is_refused s.visit) (sym f.progress) ∙ h
 
     -- a visit was refused
-    pub visit-refused : {why : Refusal} {z : List Float} → ran .progress .visit ≡ Refused why → z ≡ replicate features nought → _≡_ {A = Result} (record { answer = NotTrained why; weights = z }) (finished rule set m d (r .state .progress .visit) r)
-    unfolding finished refusedWith
-    visit-refused {why} h q =
-        let v : r .state .progress .visit ≡ Refused why = ap (λ (s : Progress). s .visit) (sym (f .progress)) ∙ h in
+    pub visit_refused : {why : Refusal} {z : List Float} → ran.progress.visit ≡ Refused why → z ≡ replicate features nought → ◌≡◌ {A = Result} (record { answer = NotTrained why; weights = z }) (finished rule set m d r.state.progress.visit r)
+    unfolding finished refused_with
+    visit_refused {why} h q =
+        let v : r.state.progress.visit ≡ Refused why = ap (λ (s : Progress). s.visit) (sym f.progress) ∙ h in
         rw (v, q, e)
 
-    module _ (h : isRefused (ran .progress .visit) ≡ false) {w : List Float} {all : Bool} (a : AveragedAs rule features (whole (ran .progress .visits + 1)) (record { weights = weights; beside = beside }) w all) where
-      averaged-are : averagedBy rule (m .features .count) (whole (r .state .progress .visits + 1)) (r .state .learned) ≡ w
-      averaged-are = rw (e, ← f .progress, ← f .learned (same-end h)) (sym (a .weights))
+    module _ (h : is_refused ran.progress.visit ≡ false) {w : List Float} {all : Bool} (a : AveragedAs rule features (whole (ran.progress.visits + 1)) (record { weights = weights; beside = beside }) w all) where
+      averaged_are : averaged_by rule m.features.count (whole (r.state.progress.visits + 1)) r.state.learned ≡ w
+      averaged_are = rw (e, ← f.progress, ← f.learned (same_end h)) (sym a.weights)
 
-      finite-are : {b : Bool} → all ≡ b → allFinite (averagedBy rule (m .features .count) (whole (r .state .progress .visits + 1)) (r .state .learned)) (m .features .count) ≡ b
-      finite-are t = rw (averaged-are, e) (sym (a .finite) ∙ t)
+      finite_are : {b : Bool} → all ≡ b → all_finite_of (averaged_by rule m.features.count (whole (r.state.progress.visits + 1)) r.state.learned) m.features.count ≡ b
+      finite_are t = rw (averaged_are, e) (sym a.finite ∙ t)
 
-      pub accepted : all ≡ true → _≡_ {A = Result} (record { answer = Accepted (record { epochs = ran .epochs; visits = ran .progress .visits; updates = ran .progress .updates }); weights = w }) (finished rule set m d (r .state .progress .visit) r)
+      pub accepted : all ≡ true → ◌≡◌ {A = Result} (record { answer = Accepted (record { epochs = ran.epochs; visits = ran.progress.visits; updates = ran.progress.updates }); weights = w }) (finished rule set m d r.state.progress.visit r)
       unfolding averaged
-      accepted t = rw (averaged-end (r .state .progress .visit) r (same-end h), finite-are t, averaged-are, f .epochs (same-end h), f .progress)
+      accepted t = rw (averaged_end r.state.progress.visit r (same_end h), finite_are t, averaged_are, f.epochs (same_end h), f.progress)
 
       -- 9 for the averaging
-      pub averaging-refused : all ≡ false → {why : Refusal} {z : List Float} → why ≡ numbered 9 (ran .progress .visits) → z ≡ replicate features nought → _≡_ {A = Result} (record { answer = NotTrained why; weights = z }) (finished rule set m d (r .state .progress .visit) r)
-      unfolding averaged refusedWith
-      averaging-refused t p q = rw (p, averaged-end (r .state .progress .visit) r (same-end h), finite-are t, q, f .progress, e)
+      pub averaging_refused : all ≡ false → {why : Refusal} {z : List Float} → why ≡ numbered 9 ran.progress.visits → z ≡ replicate features nought → ◌≡◌ {A = Result} (record { answer = NotTrained why; weights = z }) (finished rule set m d r.state.progress.visit r)
+      unfolding averaged refused_with
+      averaging_refused t p q = rw (p, averaged_end r.state.progress.visit r (same_end h), finite_are t, q, f.progress, e)

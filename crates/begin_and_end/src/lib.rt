@@ -1,27 +1,22 @@
 // How a training begins and ends: the tables at the start, the order of an epoch, the final averaging, the answer, and the
 // zeroing of what is not the result.
-ghost use mathlib.Core.Path.{_≡_};
-ghost use mathlib.Core.Bool.{cond};
-ghost use Prim.Native.Nat.{ℕ, _≤_, _<_};
-ghost use lib.ListN.{length};
-ghost use lib.Ieee.{Float};
-ghost use Rattle·shuffle.specs.Shuffle.{Deal, shuffled};
-ghost use Rattle·lines.specs.Passes.{through};
-ghost use Rattle·lines.specs.Tables.{Model};
-ghost use Rattle·lines.specs.Data.{Data};
-ghost use Rattle·refusals.specs.Bounds.{theInstances, most};
-ghost use Rattle·training.specs.Counter.{mostVisits};
-ghost use Rattle·training.specs.Rules.{Learned, besideAtFirst, averagedAt, averagedBy};
-ghost use Rattle·training.specs.Epochs.{Settings, Run, Result, finished};
-ghost use Rattle·parameters.specs.Trainers.{ruleOf};
-ghost use Rattle·begin_and_end·specs.specs.Ending.{Begun, Swept, AveragedAs, Finished};
+ghost use Rattle.std.specs.Prelude.{◌≡◌, cond, ℕ, ◌≤◌, ◌<◌, length, Float};
+ghost use Rattle.shuffle.specs.Shuffle.{Deal, shuffled};
+ghost use Rattle.lines.specs.Passes.{through};
+ghost use Rattle.lines.specs.Tables.{Model};
+ghost use Rattle.lines.specs.Data.{Data};
+ghost use Rattle.refusals.specs.Bounds.{the_instances, most};
+ghost use Rattle.training.specs.Counter.{most_visits};
+ghost use Rattle.training.specs.Rules.{Learned, beside_at_first, averaged_at, averaged_by};
+ghost use Rattle.training.specs.Epochs.{Settings, Run, Result, finished};
+ghost use Rattle.parameters.specs.Trainers.{rule_of};
+ghost use Rattle.begin_and_end.specs.Ending.{Begun, Swept, AveragedAs, Finished};
+
 use parameters::Trainer;
-use training::Progress;
-use training::Trained;
-use training::Training;
-use training::Visit;
+use training::{Progress, Trained, Training, Visit};
 
 // What a run of epochs comes to: the last progress, and how many epochs were run.
+#[derive(Drop)]
 pub struct Ran {
     pub progress: Progress,
     pub epochs: u64,
@@ -29,7 +24,7 @@ pub struct Ran {
 
 // The table beside the weights starts at 0, the covariance at the variance.
 fn first_beside(trainer: Trainer) -> f64
-    ensures { λ r. ⌜ r ≡ besideAtFirst (ruleOf trainer) ⌝ }
+    ensures { result ≡ beside_at_first (rule_of trainer) }
 {
     match trainer {
         Trainer::Perceptron => 0.0,
@@ -47,8 +42,8 @@ pub fn begin(
     weights: &mut [f64],
     beside: &mut [f64],
 )
-    requires { ⌜ (instances ≤ most theInstances) × (length (now order) ≡ instances) × (length (now weights) ≡ features) × (length (now beside) ≡ features) ⌝ }
-    ensures { λ _. ⌜ Begun (ruleOf trainer) features instances (now (order .exit)) (now (weights .exit)) (now (beside .exit)) ⌝ }
+    requires { (instances ≤ most the_instances) × (length order.old ≡ instances) × (length weights.old ≡ features) × (length beside.old ≡ features) }
+    ensures { Begun (rule_of trainer) features instances order.new weights.new beside.new }
 {
     training_tables::count_up(order, instances as u32);
     fronts::fill(weights, features, 0.0);
@@ -57,15 +52,15 @@ pub fn begin(
 
 // An epoch begins: the order of the epoch before is shuffled. The answer is the generator's state to go on with.
 pub fn deal(state: u64, n: usize, order: &mut [u32]) -> u64
-    requires { ⌜ (0 < n) × (n ≤ most theInstances) × (n ≤ length (now order)) ⌝ }
-    ensures { λ r. ⌜ _≡_ {A = Deal} (record { state = r; order = now (order .exit) }) (shuffled n (record { state = state; order = now (order .entry) })) ⌝ }
+    requires { (0 < n) × (n ≤ most the_instances) × (n ≤ length order.old) }
+    ensures { ◌≡◌ {A = Deal} (record { state = result; order = order.new }) (shuffled n (record { state = state; order = order.old })) }
 {
     shuffle::shuffle(state, n, order)
 }
 
 // Whether the trained weights are averaged.
 fn is_averaging(trainer: Trainer) -> bool
-    ensures { λ r. ⌜ ((features : ℕ) (counter : Float) (s : Learned) → averagedBy (ruleOf trainer) features counter s ≡ cond r (through (averagedAt counter (s .beside)) 0 features (s .weights)) (s .weights)) ⌝ }
+    ensures { (features : ℕ) (counter : Float) (s : Learned) → averaged_by (rule_of trainer) features counter s ≡ cond result (through (averaged_at counter s.beside) 0 features s.weights) s.weights }
 {
     match trainer {
         Trainer::Perceptron => true,
@@ -87,8 +82,8 @@ fn average(
     beside: &[f64],
     weights: &mut [f64],
 ) -> bool
-    requires { ⌜ (length (now weights) ≡ features) × (length (now beside) ≡ features) ⌝ }
-    ensures { λ r. ⌜ AveragedAs (ruleOf trainer) features counter (record { weights = now (weights .entry); beside = now (beside .entry) }) (now (weights .exit)) r ⌝ }
+    requires { (length weights.old ≡ features) × (length beside.now ≡ features) }
+    ensures { AveragedAs (rule_of trainer) features counter (record { weights = weights.entry.now; beside = beside.now }) weights.exit.now result }
 {
     if is_averaging(trainer) {
         return training_tables::average(features, counter, beside, weights);
@@ -104,13 +99,12 @@ pub fn conclude(
     beside: &[f64],
     weights: &mut [f64],
 ) -> Training
-    requires { ⌜ (length (now weights) ≡ features) × (length (now beside) ≡ features) × (ran .progress .visits ≤ mostVisits) ⌝ }
-    ensures { λ r.
-        let made : Result = record { answer = r; weights = now (weights .exit) } in
-        ⌜ ((set : Settings) (m : Model) (d : Data) (meant : Run) →
-        m .features .count ≡ features →
-        Finished ran (now (weights .entry)) (now (beside .entry)) meant →
-        made ≡ finished (ruleOf trainer) set m d (meant .state .progress .visit) meant) ⌝ }
+    requires { (length weights.old ≡ features) × (length beside.now ≡ features) × (ran.progress.visits ≤ most_visits) }
+    ensures { let made : Result = record { answer = result; weights = weights.new } in
+        ((set : Settings) (m : Model) (d : Data) (meant : Run) →
+        m.features.count ≡ features →
+        Finished ran weights.old beside.now meant →
+        made ≡ finished (rule_of trainer) set m d meant.state.progress.visit meant) }
 {
     let progress = ran.progress;
     let visit = progress.visit;
@@ -140,8 +134,8 @@ pub fn sweep(
     truly: &mut [f64],
     predicted: &mut [f64],
 )
-    requires { ⌜ (length (now order) ≡ instances) × (length (now beside) ≡ features) × (length (now truly) ≡ features) × (length (now predicted) ≡ features) ⌝ }
-    ensures { λ _. ⌜ Swept features instances (now (order .exit)) (now (beside .exit)) (now (truly .exit)) (now (predicted .exit)) ⌝ }
+    requires { (length order.old ≡ instances) × (length beside.old ≡ features) × (length truly.old ≡ features) × (length predicted.old ≡ features) }
+    ensures { Swept features instances order.new beside.new truly.new predicted.new }
 {
     fronts::clear(order, instances);
     fronts::fill(beside, features, 0.0);

@@ -1,48 +1,48 @@
 -- The definitions as loops meet them: for each a law for the start and one for a turn more, with the code's `+ 1`, and what a row of best sums gives. Assumes nothing.
-use mathlib.Core.Path.{_≡_, refl, sym, ap, _∙_}
+use mathlib.Core.Path.{◌≡◌, refl, sym, ap, ◌∙◌}
 use mathlib.Core.Bool.{Bool, true, false, cond}
-use mathlib.Core.List.{List, [], _∷_, _++_}
-use Prim.Native.Nat.{ℕ, zero, suc, _+_, _-_, _*_, _≤_, _<_}
+use mathlib.Core.List.{List, [], ◌∷◌, ◌++◌}
+use Prim.Native.Nat.{ℕ, zero, suc, ◌+◌, ◌-◌, ◌*◌, ◌≤◌, ◌<◌}
 use native.Mathlib.Numerals.{add-one}
 use native.Mathlib.Omega.{arith}
-use lib.Arith.{digits-lt}
+use lib.Arith.{digits_lt}
 use lib.Dec.{T}
-use lib.ListN.{getD}
-use lib.Seq.{append-snoc}
+use lib.ListN.{get_or}
+use lib.Seq.{append_snoc}
 use lib.IntN.{pos}
 use lib.Ieee.{Float, nan, fin, binary64, add, le}
 use lib.Ieee.Scale.{finite}
-use Rattle·best_path·specs.specs.Scores.{Scores, tabled, AllFinite, labelAt, extended}
-use Rattle·best_path·specs.specs.Decoded.{lastLargest, highest, best, back, pathTo, lastLabel, decodedPath, decodedSum}
-use Rattle·best_path·specs.specs.Lead.{other, rival}
-use Rattle·best_path·specs.specs.PathScore.{pathScore}
-pub use Rattle·best_path·proofs.proofs.Largest.{largest-within, largest-same}
-pub use Rattle·best_path·proofs.proofs.Paths.{path-length, path-end, path-labels, back-within, last-label-within, decoded-length, decoded-allowed, decoded-end, sum-of-path}
-pub use Rattle·best_path·proofs.proofs.Rival.{other-below, other-above, other-within}
-use Rattle·best_path·proofs.proofs.Paths.{decoded-follows}
+use Rattle.best_path.specs.Scores.{Scores, tabled, AllFinite, label_at, extended}
+use Rattle.best_path.specs.Decoded.{last_largest, highest, best, back, path_to, last_label, decoded_path, decoded_sum}
+use Rattle.best_path.specs.Lead.{other, rival}
+use Rattle.best_path.specs.PathScore.{path_score}
+pub use Rattle.best_path.proofs.Largest.{largest_within, largest_same}
+pub use Rattle.best_path.proofs.Paths.{path_length, path_end, path_labels, back_within, last_label_within, decoded_length, decoded_allowed, decoded_end, sum_of_path}
+pub use Rattle.best_path.proofs.Rival.{other_below, other_above, other_within}
+use Rattle.best_path.proofs.Paths.{decoded_follows}
 
 -- ---- tables
-pub tabled-finite : (labels words : ℕ) (transitions states : List Float) → ((i : ℕ) → i < labels * labels → T (finite (getD transitions i nan))) → ((i : ℕ) → i < words * labels → T (finite (getD states i nan))) → AllFinite (tabled labels transitions states) words
-tabled-finite labels words transitions states p q = record {
-  states = λ word label h k. q (word * labels + label) (digits-lt h k);
-  transitions = λ previous label h k. p (previous * labels + label) (digits-lt h k);
+pub tabled_finite : (labels words : ℕ) (transitions states : List Float) → ((i : ℕ) → i < labels * labels → T (finite (get_or transitions i nan))) → ((i : ℕ) → i < words * labels → T (finite (get_or states i nan))) → AllFinite (tabled labels transitions states) words
+tabled_finite labels words transitions states p q = record {
+  states = λ word label h k. q (word * labels + label) (digits_lt h k);
+  transitions = λ previous label h k. p (previous * labels + label) (digits_lt h k);
 }
 
 -- ---- the last of the largest, as a running maximum
 module _ (g : ℕ → Float) where
-  pub largest-first : lastLargest g 0 ≡ 0
-  unfolding lastLargest
-  largest-first = refl
+  pub largest_first : last_largest g 0 ≡ 0
+  unfolding last_largest
+  largest_first = refl
 
-  pub largest-more : (n : ℕ) → lastLargest g (n + 1) ≡ cond (le (g (lastLargest g n)) (g (n + 1))) (n + 1) (lastLargest g n)
-  unfolding lastLargest
-  largest-more n = rw (add-one n)
+  pub largest_more : (n : ℕ) → last_largest g (n + 1) ≡ cond (le (g (last_largest g n)) (g (n + 1))) (n + 1) (last_largest g n)
+  unfolding last_largest
+  largest_more n = rw (add-one n)
 
   -- its value takes the same choice
-  pub value-more : (n : ℕ) → g (lastLargest g (n + 1)) ≡ cond (le (g (lastLargest g n)) (g (n + 1))) (g (n + 1)) (g (lastLargest g n))
-  value-more n = ap g (largest-more n) ∙ chosen (le (g (lastLargest g n)) (g (n + 1)))
+  pub value_more : (n : ℕ) → g (last_largest g (n + 1)) ≡ cond (le (g (last_largest g n)) (g (n + 1))) (g (n + 1)) (g (last_largest g n))
+  value_more n = ap g (largest_more n) ∙ chosen (le (g (last_largest g n)) (g (n + 1)))
     where
-      chosen : (b : Bool) → g (cond b (n + 1) (lastLargest g n)) ≡ cond b (g (n + 1)) (g (lastLargest g n))
+      chosen : (b : Bool) → g (cond b (n + 1) (last_largest g n)) ≡ cond b (g (n + 1)) (g (last_largest g n))
       chosen true = refl
       chosen false = refl
 
@@ -54,11 +54,11 @@ module _ (g : ℕ → Float) where
     this : (count - 1) + 1 ≡ count
     this = omega arith
 
-    pub largest-turn : lastLargest g (count + 1 - 1) ≡ cond (le (g (lastLargest g (count - 1))) (g count)) count (lastLargest g (count - 1))
-    largest-turn = rw again (largest-more (count - 1) ∙ ap (λ (n : ℕ). cond (le (g (lastLargest g (count - 1))) (g n)) n (lastLargest g (count - 1))) this)
+    pub largest_turn : last_largest g (count + 1 - 1) ≡ cond (le (g (last_largest g (count - 1))) (g count)) count (last_largest g (count - 1))
+    largest_turn = rw again (largest_more (count - 1) ∙ ap (λ (n : ℕ). cond (le (g (last_largest g (count - 1))) (g n)) n (last_largest g (count - 1))) this)
 
-    pub value-turn : g (lastLargest g (count + 1 - 1)) ≡ cond (le (g (lastLargest g (count - 1))) (g count)) (g count) (g (lastLargest g (count - 1)))
-    value-turn = rw again (value-more (count - 1) ∙ ap (λ (n : ℕ). cond (le (g (lastLargest g (count - 1))) (g n)) (g n) (g (lastLargest g (count - 1)))) this)
+    pub value_turn : g (last_largest g (count + 1 - 1)) ≡ cond (le (g (last_largest g (count - 1))) (g count)) (g count) (g (last_largest g (count - 1)))
+    value_turn = rw again (value_more (count - 1) ∙ ap (λ (n : ℕ). cond (le (g (last_largest g (count - 1))) (g n)) (g n) (g (last_largest g (count - 1)))) this)
 
 -- ---- best sums and steps back
 -- the candidate `previous` for a label of the word after `word`, where a row has the best sums up to `word`
@@ -66,75 +66,75 @@ abbrev pub candidate : Scores → (ℕ → Float) → ℕ → ℕ → ℕ → Fl
 candidate s row word label previous = extended s (row previous) previous (word + 1) label
 
 module _ (s : Scores) where
-  pub best-first : (label : ℕ) → best s 0 label ≡ s .state 0 label
+  pub best_first : (label : ℕ) → best s 0 label ≡ s.state 0 label
   unfolding best
-  best-first label = refl
+  best_first label = refl
 
-  pub back-is : (word label : ℕ) → back s word label ≡ lastLargest (candidate s (best s word) word label) (highest s)
+  pub back_is : (word label : ℕ) → back s word label ≡ last_largest (candidate s (best s word) word label) (highest s)
   unfolding back
-  back-is word label = ap (λ (next : ℕ). lastLargest (λ k. extended s (best s word k) k next label) (highest s)) (sym (add-one word))
+  back_is word label = ap (λ (next : ℕ). last_largest (λ k. extended s (best s word k) k next label) (highest s)) (sym (add-one word))
 
-  pub best-more : (word label : ℕ) → best s (word + 1) label ≡ candidate s (best s word) word label (back s word label)
+  pub best_more : (word label : ℕ) → best s (word + 1) label ≡ candidate s (best s word) word label (back s word label)
   unfolding best back
-  best-more word label = rw (add-one word)
+  best_more word label = rw (add-one word)
 
   -- a row that has the best sums up to `word` gives the steps back and the best sums of the next word
-  module _ (row : ℕ → Float) (word : ℕ) (same : (label : ℕ) → label < s .labels → row label ≡ best s word label) (some : 0 < s .labels) where
-    pub row-back : (label : ℕ) → lastLargest (candidate s row word label) (highest s) ≡ back s word label
-    row-back label =
-        largest-same (candidate s row word label) (candidate s (best s word) word label) (highest s) (λ k h. ap (λ (v : Float). extended s v k (word + 1) label) (same k (omega arith)))
-        ∙ sym (back-is word label)
+  module _ (row : ℕ → Float) (word : ℕ) (same : (label : ℕ) → label < s.labels → row label ≡ best s word label) (some : 0 < s.labels) where
+    pub row_back : (label : ℕ) → last_largest (candidate s row word label) (highest s) ≡ back s word label
+    row_back label =
+        largest_same (candidate s row word label) (candidate s (best s word) word label) (highest s) (λ k h. ap (λ (v : Float). extended s v k (word + 1) label) (same k (omega arith)))
+        ∙ sym (back_is word label)
 
-    pub row-best : (label : ℕ) → candidate s row word label (lastLargest (candidate s row word label) (highest s)) ≡ best s (word + 1) label
-    row-best label =
-        ap (candidate s row word label) (row-back label)
-        ∙ ap (λ (v : Float). extended s v (back s word label) (word + 1) label) (same (back s word label) (back-within s some word label))
-        ∙ sym (best-more word label)
+    pub row_best : (label : ℕ) → candidate s row word label (last_largest (candidate s row word label) (highest s)) ≡ best s (word + 1) label
+    row_best label =
+        ap (candidate s row word label) (row_back label)
+        ∙ ap (λ (v : Float). extended s v (back s word label) (word + 1) label) (same (back s word label) (back_within s some word label))
+        ∙ sym (best_more word label)
 
   -- ---- paths
-  pub path-first : (label : ℕ) → pathTo s 0 label ≡ label ∷ []
-  unfolding pathTo
-  path-first label = refl
+  pub path_first : (label : ℕ) → path_to s 0 label ≡ label ∷ []
+  unfolding path_to
+  path_first label = refl
 
-  pub path-more : (word label : ℕ) → pathTo s (word + 1) label ≡ pathTo s word (back s word label) ++ (label ∷ [])
-  unfolding pathTo
-  path-more word label = rw (add-one word)
+  pub path_more : (word label : ℕ) → path_to s (word + 1) label ≡ path_to s word (back s word label) ++ (label ∷ [])
+  unfolding path_to
+  path_more word label = rw (add-one word)
 
   -- a path written from its end: the label goes to the front of what is written
-  pub path-back : (word label : ℕ) (rest : List ℕ) → pathTo s (word + 1) label ++ rest ≡ pathTo s word (back s word label) ++ (label ∷ rest)
-  path-back word label rest = rw (path-more word label, append-snoc)
+  pub path_back : (word label : ℕ) (rest : List ℕ) → path_to s (word + 1) label ++ rest ≡ path_to s word (back s word label) ++ (label ∷ rest)
+  path_back word label rest = rw (path_more word label, append_snoc)
 
-  pub decoded-step : (words word : ℕ) → word + 1 < words → labelAt (decodedPath s words) word ≡ back s word (labelAt (decodedPath s words) (word + 1))
-  decoded-step words word h = rw (add-one word) (decoded-follows s words word (omega arith))
+  pub decoded_step : (words word : ℕ) → word + 1 < words → label_at (decoded_path s words) word ≡ back s word (label_at (decoded_path s words) (word + 1))
+  decoded_step words word h = rw (add-one word) (decoded_follows s words word (omega arith))
 
   -- ---- the score of a path
   module _ (path : List ℕ) where
-    pub score-none : pathScore s path 0 ≡ fin false 0 (pos 0)
-    unfolding pathScore
-    score-none = refl
+    pub score_none : path_score s path 0 ≡ fin false 0 (pos 0)
+    unfolding path_score
+    score_none = refl
 
-    pub score-first : pathScore s path 1 ≡ add binary64 (fin false 0 (pos 0)) (s .state 0 (labelAt path 0))
-    unfolding pathScore
-    score-first = refl
+    pub score_first : path_score s path 1 ≡ add binary64 (fin false 0 (pos 0)) (s.state 0 (label_at path 0))
+    unfolding path_score
+    score_first = refl
 
-    pub score-more : (word : ℕ) → 0 < word → pathScore s path (word + 1) ≡ add binary64 (add binary64 (pathScore s path word) (s .state word (labelAt path word))) (s .transition (labelAt path (word - 1)) (labelAt path word))
-    unfolding pathScore
-    score-more zero h = absurd (omega arith)
-    score-more (suc word) h = let before : suc word - 1 ≡ word = omega arith in rw (add-one (suc word), before)
+    pub score_more : (word : ℕ) → 0 < word → path_score s path (word + 1) ≡ add binary64 (add binary64 (path_score s path word) (s.state word (label_at path word))) (s.transition (label_at path (word - 1)) (label_at path word))
+    unfolding path_score
+    score_more zero h = absurd (omega arith)
+    score_more (suc word) h = let before : suc word - 1 ≡ word = omega arith in rw (add-one (suc word), before)
 
   -- ---- the answer, from a row that has the final scores
-  module _ (words : ℕ) (row : ℕ → Float) (same : (label : ℕ) → label < s .labels → row label ≡ best s (words - 1) label) where
-    pub row-last : 0 < s .labels → lastLargest row (highest s) ≡ lastLabel s words
-    unfolding lastLabel
-    row-last some = largest-same row (best s (words - 1)) (highest s) (λ k h. same k (omega arith))
+  module _ (words : ℕ) (row : ℕ → Float) (same : (label : ℕ) → label < s.labels → row label ≡ best s (words - 1) label) where
+    pub row_last : 0 < s.labels → last_largest row (highest s) ≡ last_label s words
+    unfolding last_label
+    row_last some = largest_same row (best s (words - 1)) (highest s) (λ k h. same k (omega arith))
 
-    pub row-sum : 0 < s .labels → row (lastLabel s words) ≡ decodedSum s words
-    unfolding decodedSum
-    row-sum some = same (lastLabel s words) (last-label-within s some words)
+    pub row_sum : 0 < s.labels → row (last_label s words) ≡ decoded_sum s words
+    unfolding decoded_sum
+    row_sum some = same (last_label s words) (last_label_within s some words)
 
-    pub row-rival : 1 < s .labels → let l = lastLabel s words in row (other l (lastLargest (λ k. row (other l k)) (s .labels - 2))) ≡ rival s words
+    pub row_rival : 1 < s.labels → let l = last_label s words in row (other l (last_largest (λ k. row (other l k)) (s.labels - 2))) ≡ rival s words
     unfolding rival
-    row-rival more =
-        let l = lastLabel s words in
-        let seen : (k : ℕ) → k ≤ s .labels - 2 → row (other l k) ≡ best s (words - 1) (other l k) = λ k h. same (other l k) (other-within l (s .labels) k more h) in
-        seen _ (largest-within (λ k. row (other l k)) (s .labels - 2)) ∙ ap (λ (k : ℕ). best s (words - 1) (other l k)) (largest-same (λ k. row (other l k)) (λ k. best s (words - 1) (other l k)) (s .labels - 2) seen)
+    row_rival more =
+        let l = last_label s words in
+        let seen : (k : ℕ) → k ≤ s.labels - 2 → row (other l k) ≡ best s (words - 1) (other l k) = λ k h. same (other l k) (other_within l s.labels k more h) in
+        seen _ (largest_within (λ k. row (other l k)) (s.labels - 2)) ∙ ap (λ (k : ℕ). best s (words - 1) (other l k)) (largest_same (λ k. row (other l k)) (λ k. best s (words - 1) (other l k)) (s.labels - 2) seen)

@@ -1,8 +1,7 @@
 -- Numbers that document 01 names. Assumes nothing.
-use Prim.Native.Nat.{ℕ}
-use lib.IntN.{pos}
-use mathlib.Core.Bool.{false}
-use lib.Ieee.{Float, fin, binary64, ofInt}
+use Rattle.std.specs.Prelude.{ℕ, pos, false, Float}
+use Rattle.std.specs.Float.{fin, binary64}
+use Rattle.std.specs.Float.Ieee.{of_int}
 
 -- +0
 abbrev pub nought : Float
@@ -10,4 +9,4 @@ nought = fin false 0 (pos 0)
 
 -- a whole number as a binary64
 abbrev pub whole : ℕ → Float
-whole n = ofInt binary64 (pos n)
+whole n = of_int binary64 (pos n)

@@ -1,7 +1,7 @@
 -- The smaller of two numbers, as the passive-aggressive step takes it. Assumes nothing.
-use mathlib.Core.Bool.{cond, _||_}
-use lib.Ieee.{Float, lt, isNan}
+use Rattle.std.specs.Prelude.{cond, ◌||◌, Float}
+use Rattle.std.specs.Float.Ieee.{lt, is_nan}
 
 -- "c where x is a NaN or c < x, else x to the bit"
 abbrev pub smaller : Float → Float → Float
-smaller c x = cond (isNan x || lt c x) c x
+smaller c x = cond (is_nan x || lt c x) c x

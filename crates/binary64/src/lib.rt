@@ -1,27 +1,26 @@
 // Binary64: the finite tests and the smaller of two. The order of its values and what a rounded sum does to it stand in
 // specs/ and proofs/, for the decoder to cite.
-ghost use mathlib.Core.Bool.{_&&_};
-ghost use mathlib.Core.Path.{_≡_};
-ghost use lib.Ieee.Scale.{finite};
-ghost use Rattle·binary64·specs.specs.Smaller.{smaller};
+ghost use Rattle.std.specs.Prelude.{◌&&◌, ◌≡◌};
+ghost use Rattle.std.specs.Float.Ieee.Scale.{finite};
+ghost use Rattle.binary64.specs.Smaller.{smaller};
 
 // Neither a NaN nor an infinity.
 pub fn is_finite(x: f64) -> bool
-    ensures { λ r. ⌜ r ≡ finite x ⌝ }
+    ensures { result ≡ finite x }
 {
     if x < 1.0 / 0.0 { -1.0 / 0.0 < x } else { false }
 }
 
 // Both are finite. A number minus itself is a zero, and equal to another zero, only where it is: one comparison for two.
 pub fn are_finite(x: f64, y: f64) -> bool
-    ensures { λ r. ⌜ r ≡ finite x && finite y ⌝ }
+    ensures { result ≡ finite x && finite y }
 {
     x - x == y - y
 }
 
 // c where x is a NaN or above c, else x: the Rust's `x.min(c)` for a c that is finite and above 0.
 pub fn min(c: f64, x: f64) -> f64
-    ensures { λ r. ⌜ r ≡ smaller c x ⌝ }
+    ensures { result ≡ smaller c x }
 {
     if c < x { c } else { if x == x { x } else { c } }
 }

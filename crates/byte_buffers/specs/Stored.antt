@@ -1,8 +1,5 @@
 -- Bytes in a lent buffer: stored from a place on, with everything else as it was. Assumes nothing.
-use Prim.Native.Nat.{ℕ, _+_, _≤_}
-use mathlib.Core.Path.{_≡_}
-use mathlib.Core.List.{List, [], _∷_, _++_}
-use lib.ListN.{length, drop, set}
+use Rattle.std.specs.Prelude.{ℕ, ◌+◌, ◌≤◌, ◌≡◌, List, [], ◌∷◌, ◌++◌, length, drop, set}
 
 -- the bytes of a part, stored one after another from a place on
 unfoldable pub stored : List ℕ → ℕ → List ℕ → List ℕ

@@ -1,14 +1,12 @@
 // Bytes written to a lent buffer, part by part: each function writes from a place on, leaves the rest as it was, and answers the
 // place after what it wrote. The answer line and the training text are written so.
-ghost use mathlib.Core.List.{[], _∷_};
-ghost use Prim.Native.Nat.{_≤_};
-ghost use lib.ListN.{length};
-ghost use lib.Seq.{slice};
-ghost use Rattle·byte_buffers·specs.specs.Stored.{RoomFor, Put};
+ghost use Rattle.std.specs.Prelude.{[], ◌∷◌, ◌≤◌, length};
+ghost use Rattle.std.proofs.Math.Seq.{slice};
+ghost use Rattle.byte_buffers.specs.Stored.{RoomFor, Put};
 
 pub fn put_byte(buffer: &mut [u8], at: usize, byte: u8) -> usize
-    requires { ⌜ RoomFor (byte ∷ []) (now buffer) at ⌝ }
-    ensures { λ r. ⌜ Put (byte ∷ []) (now (buffer .entry)) at r (now (buffer .exit)) ⌝ }
+    requires { RoomFor (byte ∷ []) buffer.old at }
+    ensures { Put (byte ∷ []) buffer.old at result buffer.new }
 {
     buffer[at] = byte;
     at + 1
@@ -16,9 +14,9 @@ pub fn put_byte(buffer: &mut [u8], at: usize, byte: u8) -> usize
 
 // The bytes from one place of theirs up to another.
 pub fn put_bytes(buffer: &mut [u8], at: usize, bytes: &[u8], from: usize, to: usize) -> usize
-    requires { ⌜ (from ≤ to) × (to ≤ length (now bytes)) ⌝ }
-    requires { ⌜ RoomFor (slice from to (now bytes)) (now buffer) at ⌝ }
-    ensures { λ r. ⌜ Put (slice from to (now (bytes .entry))) (now (buffer .entry)) at r (now (buffer .exit)) ⌝ }
+    requires from_le_to { (from ≤ to) × (to ≤ length bytes.now) }
+    requires room_for { RoomFor (slice from to bytes.now) buffer.old at }
+    ensures { Put (slice from to bytes.now) buffer.old at result buffer.new }
 {
     let mut i = from;
     let mut k = at;

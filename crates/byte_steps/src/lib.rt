@@ -1,15 +1,12 @@
 // The automaton of the layout in code: the class of a byte, and the step from mode to mode.
-ghost use mathlib.Core.Path.{_≡_};
-ghost use mathlib.Core.Bool.{cond};
-ghost use Prim.Native.Nat.{_+_};
-ghost use lib.Dec.{ltb};
-ghost use Rattle·layout.specs.Scan.{classOf, nextMode, endsScale, accepting, alive};
-use layout::Class;
-use layout::Mode;
+ghost use Rattle.std.specs.Prelude.{◌≡◌, cond, ◌+◌, ltb};
+ghost use Rattle.layout.specs.Scan.{class_of, next_mode_of, ends_scale, accepting, alive};
+
+use layout::{Class, Mode};
 
 // What a byte is to the layout.
 pub fn class_of(b: u8) -> Class
-    ensures { λ r. ⌜ r ≡ classOf b ⌝ }
+    ensures { result ≡ class_of b }
 {
     if b == 9 {
         return Class::Tab;
@@ -37,7 +34,7 @@ pub fn class_of(b: u8) -> Class
 
 // The first byte of a line.
 fn at_begin(c: Class) -> Mode
-    ensures { λ r. ⌜ r ≡ nextMode Mode.Begin c ⌝ }
+    ensures { result ≡ next_mode_of Mode.Begin c }
 {
     match c {
         Class::Tab => Mode::Bad,
@@ -53,14 +50,14 @@ fn at_begin(c: Class) -> Mode
 
 // A bare colon ends an attribute's name; no label has one.
 fn at_colon(attribute: bool) -> Mode
-    ensures { λ r. ⌜ r ≡ cond attribute Mode.Value Mode.Bad ⌝ }
+    ensures { result ≡ cond attribute Mode.Value Mode.Bad }
 {
     if attribute { Mode::Value } else { Mode::Bad }
 }
 
 // Inside a name, an attribute's or a label.
 fn in_name(attribute: bool, c: Class) -> Mode
-    ensures { λ r. ⌜ r ≡ nextMode (Mode.Inside attribute) c ⌝ }
+    ensures { result ≡ next_mode_of (Mode.Inside attribute) c }
 {
     match c {
         Class::Tab => Mode::Field,
@@ -76,7 +73,7 @@ fn in_name(attribute: bool, c: Class) -> Mode
 
 // Behind a backslash.
 fn behind_slash(attribute: bool, c: Class) -> Mode
-    ensures { λ r. ⌜ r ≡ nextMode (Mode.Slashed attribute) c ⌝ }
+    ensures { result ≡ next_mode_of (Mode.Slashed attribute) c }
 {
     match c {
         Class::Tab => Mode::Bad,
@@ -92,7 +89,7 @@ fn behind_slash(attribute: bool, c: Class) -> Mode
 
 // Behind a tab.
 fn at_field(c: Class) -> Mode
-    ensures { λ r. ⌜ r ≡ nextMode Mode.Field c ⌝ }
+    ensures { result ≡ next_mode_of Mode.Field c }
 {
     match c {
         Class::Tab => Mode::Bad,
@@ -108,7 +105,7 @@ fn at_field(c: Class) -> Mode
 
 // Behind the colon.
 fn at_value(c: Class) -> Mode
-    ensures { λ r. ⌜ r ≡ nextMode Mode.Value c ⌝ }
+    ensures { result ≡ next_mode_of Mode.Value c }
 {
     match c {
         Class::Tab => Mode::Bad,
@@ -124,13 +121,13 @@ fn at_value(c: Class) -> Mode
 
 // What follows a scale of so many digits.
 fn ended(digits: u32, next: Mode) -> Mode
-    ensures { λ r. ⌜ r ≡ endsScale digits next ⌝ }
+    ensures { result ≡ ends_scale digits next }
 {
     if digits == 0 { Mode::Bad } else { next }
 }
 
 fn one_more(digits: u32, point: bool) -> Mode
-    ensures { λ r. ⌜ r ≡ cond (ltb digits 15) (Mode.Digits (digits + 1) point) Mode.Bad ⌝ }
+    ensures { result ≡ cond (ltb digits 15) (Mode.Digits (digits + 1) point) Mode.Bad }
 {
     if digits < 15 {
         Mode::Digits(digits + 1, point)
@@ -141,7 +138,7 @@ fn one_more(digits: u32, point: bool) -> Mode
 
 // In the digits of a scale.
 fn in_digits(digits: u32, point: bool, c: Class) -> Mode
-    ensures { λ r. ⌜ r ≡ nextMode (Mode.Digits digits point) c ⌝ }
+    ensures { result ≡ next_mode_of (Mode.Digits digits point) c }
 {
     match c {
         Class::Tab => ended(digits, Mode::Field),
@@ -163,7 +160,7 @@ fn in_digits(digits: u32, point: bool, c: Class) -> Mode
 
 // One byte more.
 pub fn next_mode(mode: Mode, c: Class) -> Mode
-    ensures { λ r. ⌜ r ≡ nextMode mode c ⌝ }
+    ensures { result ≡ next_mode_of mode c }
 {
     match mode {
         Mode::Begin => at_begin(c),
@@ -178,7 +175,7 @@ pub fn next_mode(mode: Mode, c: Class) -> Mode
 
 // A text may end here.
 pub fn may_end(mode: Mode) -> bool
-    ensures { λ r. ⌜ r ≡ accepting mode ⌝ }
+    ensures { result ≡ accepting mode }
 {
     match mode {
         Mode::Begin => true,
@@ -193,7 +190,7 @@ pub fn may_end(mode: Mode) -> bool
 
 // Something completes what was read.
 pub fn is_alive(mode: Mode) -> bool
-    ensures { λ r. ⌜ r ≡ alive mode ⌝ }
+    ensures { result ≡ alive mode }
 {
     match mode {
         Mode::Begin => true,

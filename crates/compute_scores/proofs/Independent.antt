@@ -1,34 +1,34 @@
 -- Inputs that agree where scoring looks get the same scores. Assumes nothing.
-use mathlib.Core.Path.{_≡_, sym, _∙_}
+use mathlib.Core.Path.{◌≡◌, sym, ◌∙◌}
 use lib.ListN.{take}
-use lib.Seq.{take-at}
-use Rattle·refusals.specs.declared.Checked.the-variants.{Accepted}
-use Rattle·refusals.proofs.Laws.{both}
-use Rattle·lines.proofs.Fronts.{length-states, length-transitions}
-use Rattle·refusals.specs.Said.{accepted, saidOf}
-use Rattle·refusals.proofs.Said.{done-said}
-use Rattle·same_scores.proofs.Same.{only-named-matters}
-use Rattle·compute_scores·specs.specs.Promise.{Given, Buffers, Outcome, stateEntries, transitionEntries, statesOfLine, transitionsOfLine, checkedOf, scoresFinishedOf, answerTo, statesAfter, transitionsAfter, Promised}
-use Rattle·compute_scores·specs.specs.Independent.{scoringInputOf, SameScores}
+use lib.Seq.{take_at}
+use Rattle.refusals.specs.declared.Checked.TheVariants.{Accepted}
+use Rattle.refusals.proofs.Laws.{both}
+use Rattle.lines.proofs.Fronts.{length_states, length_transitions}
+use Rattle.refusals.specs.Said.{accepted, said_of}
+use Rattle.refusals.proofs.Said.{done_said}
+use Rattle.same_scores.proofs.Same.{only_named_matters}
+use Rattle.compute_scores.specs.Promise.{Given, Buffers, Outcome, state_entries, transition_entries, states_of_line, transitions_of_line, checked_of, scores_finished_of, answer_to, states_after, transitions_after, Promised}
+use Rattle.compute_scores.specs.Independent.{scoring_input_of, SameScores}
 
 -- the fronts of a line that is scored hold its scores
-module _ (given : Given) (before : Buffers) (outcome : Outcome) (kept : Promised given before outcome) (scored : saidOf (outcome .answer) ≡ accepted tt) where
-  passed : (checkedOf given before ≡ Accepted) × (scoresFinishedOf given ≡ Accepted)
-  unfolding answerTo
-  passed = both (checkedOf given before) (scoresFinishedOf given) (done-said _ .0 (sym (kept .answers) ∙ scored))
+module _ (given : Given) (before : Buffers) (outcome : Outcome) (kept : Promised given before outcome) (scored : said_of outcome.answer ≡ accepted tt) where
+  passed : (checked_of given before ≡ Accepted) × (scores_finished_of given ≡ Accepted)
+  unfolding answer_to
+  passed = both (checked_of given before) (scores_finished_of given) ((done_said _).0 (sym kept.answers ∙ scored))
 
-  front-states : take (stateEntries given) (outcome .states) ≡ statesOfLine given
-  unfolding statesAfter
-  front-states = rw (kept .states, passed .0, passed .1) (take-at (statesOfLine given) _ (stateEntries given) (length-states (given .model) (given .weights) (given .line) 0 (given .words)))
+  front_states : take (state_entries given) outcome.states ≡ states_of_line given
+  unfolding states_after
+  front_states = rw (kept.states, passed.0, passed.1) (take_at (states_of_line given) _ (state_entries given) (length_states given.model given.weights given.line 0 given.words))
 
-  front-transitions : take (transitionEntries given) (outcome .transitions) ≡ transitionsOfLine given
-  unfolding transitionsAfter
-  front-transitions = rw (kept .transitions, passed .0, passed .1) (take-at (transitionsOfLine given) _ (transitionEntries given) (length-transitions (given .model) (given .weights)))
+  front_transitions : take (transition_entries given) outcome.transitions ≡ transitions_of_line given
+  unfolding transitions_after
+  front_transitions = rw (kept.transitions, passed.0, passed.1) (take_at (transitions_of_line given) _ (transition_entries given) (length_transitions given.model given.weights))
 
-pub same-scores : SameScores
-same-scores a b agree before other x y p q xs ys =
-    let s = only-named-matters (scoringInputOf a) (scoringInputOf b) agree in
+pub same_scores_lem : SameScores
+same_scores_lem a b agree before other x y p q xs ys =
+    let s = only_named_matters (scoring_input_of a) (scoring_input_of b) agree in
     record {
-      transitions = front-transitions a before x p xs ∙ s .same-transitions ∙ sym (front-transitions b other y q ys);
-      states = front-states a before x p xs ∙ s .same-states ∙ sym (front-states b other y q ys);
+      transitions = front_transitions a before x p xs ∙ s.same_transitions ∙ sym (front_transitions b other y q ys);
+      states = front_states a before x p xs ∙ s.same_states ∙ sym (front_states b other y q ys);
     }

@@ -1,32 +1,32 @@
 -- What scoring a line answers means what `ScoringMeans` says. Assumes nothing.
-use mathlib.Core.Path.{sym, _∙_}
-use Rattle·refusals.specs.declared.Checked.{Checked}
-use Rattle·refusals.specs.Refusals.{numberedIn, orNext}
-use Rattle·refusal_rows.proofs.Renumbered.{renumbered-same, renumbered-next}
-use Rattle·line_check.specs.Before.{scoringBefore}
-use Rattle·line_check.proofs.Meant.{scoring-means, scoring-renumbered}
-use Rattle·line_check.specs.Rows.{scoringCounts, scoringRooms}
-use Rattle·refusals.proofs.Said.{refused-said, done-said}
-use Rattle·finished.proofs.Meant.{scores-mean}
-use Rattle·finished.proofs.Answers.{answered}
-use Rattle·compute_scores·specs.specs.Promise.{statesOfLine, transitionsOfLine, scoringOf, checkedOf, scoresFinishedOf, answerTo}
-use Rattle·compute_scores·specs.specs.Meaning.{startsOf, idsOf, numbersOf, EightIn, ScoresFinite, ScoringMeans, ScoresRenumbered}
+use mathlib.Core.Path.{sym, ◌∙◌}
+use Rattle.refusals.specs.declared.Checked.{Checked}
+use Rattle.refusals.specs.Refusals.{numbered_in_of, or_next_of}
+use Rattle.refusal_rows.proofs.Renumbered.{renumbered_same, renumbered_next}
+use Rattle.line_check.specs.Before.{scoring_before}
+use Rattle.line_check.proofs.Meant.{scoring_means, scoring_renumbered}
+use Rattle.line_check.specs.Rows.{scoring_counts, scoring_rooms}
+use Rattle.refusals.proofs.Said.{refused_said, done_said}
+use Rattle.finished.proofs.Meant.{scores_mean}
+use Rattle.finished.proofs.Answers.{answered}
+use Rattle.compute_scores.specs.Promise.{states_of_line, transitions_of_line, scoring_of, checked_of, scores_finished_of, answer_to}
+use Rattle.compute_scores.specs.Meaning.{starts_of, ids_of, numbers_of, EightIn, ScoresFinite, ScoringMeans, ScoresRenumbered}
 
-pub scores-meant : ScoringMeans
-unfolding answerTo
-scores-meant given before outcome kept =
-    let all : Checked = orNext (checkedOf given before) (scoresFinishedOf given) in
-    answered (checkedOf given before) (scoresFinishedOf given)
-    (given .model .labels) (given .words) (scoringCounts (scoringOf given before)) (scoringRooms (scoringOf given before)) (startsOf given) (idsOf given) (numbersOf given) (EightIn given) (ScoresFinite given)
-    (scoring-means (scoringOf given before))
-    (scores-mean (given .model .labels) (given .words) (statesOfLine given) (transitionsOfLine given))
+pub scores_meant : ScoringMeans
+unfolding answer_to
+scores_meant given before outcome kept =
+    let all : Checked = or_next_of (checked_of given before) (scores_finished_of given) in
+    answered (checked_of given before) (scores_finished_of given)
+    given.model.labels given.words (scoring_counts (scoring_of given before)) (scoring_rooms (scoring_of given before)) (starts_of given) (ids_of given) (numbers_of given) (EightIn given) (ScoresFinite given)
+    (scoring_means (scoring_of given before))
+    (scores_mean given.model.labels given.words (states_of_line given) (transitions_of_line given))
     _ _
-    (λ number table place h. refused-said tt all (numberedIn number table place) .0 (sym (kept .answers) ∙ h))
-    (λ number table place _ h. kept .answers ∙ refused-said tt all (numberedIn number table place) .1 h)
-    (λ h. done-said all .0 (sym (kept .answers) ∙ h), λ h. kept .answers ∙ done-said all .1 h)
+    (λ number table place h. (refused_said tt all (numbered_in_of number table place)).0 (sym kept.answers ∙ h))
+    (λ number table place _ h. kept.answers ∙ (refused_said tt all (numbered_in_of number table place)).1 h)
+    (λ h. (done_said all).0 (sym kept.answers ∙ h), λ h. kept.answers ∙ (done_said all).1 h)
 
-pub scores-renumbered : ScoresRenumbered
-scores-renumbered given before =
-    renumbered-next (scoringBefore (scoringOf given before)) (checkedOf given before) (scoresFinishedOf given) (scoresFinishedOf given)
-    (scoring-renumbered (scoringOf given before))
-    (renumbered-same (scoresFinishedOf given))
+pub scores_renumbered : ScoresRenumbered
+scores_renumbered given before =
+    renumbered_next (scoring_before (scoring_of given before)) (checked_of given before) (scores_finished_of given) (scores_finished_of given)
+    (scoring_renumbered (scoring_of given before))
+    (renumbered_same (scores_finished_of given))

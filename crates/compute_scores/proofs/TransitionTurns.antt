@@ -1,28 +1,28 @@
 -- The end of the loop over label lists is the end of scoring transitions. Assumes nothing.
-use mathlib.Core.Path.{_≡_, ap, _∙_}
-use mathlib.Core.List.{List, _++_}
-use Prim.Native.Nat.{ℕ, _*_, _≤_, min}
+use mathlib.Core.Path.{◌≡◌, ap, ◌∙◌}
+use mathlib.Core.List.{List, ◌++◌}
+use Prim.Native.Nat.{ℕ, ◌*◌, ◌≤◌, min}
 use lib.ListN.{drop, replicate}
 use lib.Ieee.{Float}
-use Rattle·lines.specs.Passes.{through, throughList}
-use Rattle·binary64.specs.Numbers.{nought}
-use Rattle·lines.specs.Tables.{Model}
-use Rattle·lines.specs.Scored.{transitionEntry, transitionsOf}
-use Rattle·lines.specs.Sound.{SoundLists, SoundTransitions}
-use Rattle·lines.proofs.Laws.{through-end}
-use Rattle·lines.proofs.Fronts.{transitions-front}
-use Rattle·lines.specs.Lent.{bare, withTransitions}
+use Rattle.lines.specs.Passes.{through, through_list}
+use Rattle.binary64.specs.Numbers.{nought}
+use Rattle.lines.specs.Tables.{Model}
+use Rattle.lines.specs.Scored.{transition_entry_of, transitions_of}
+use Rattle.lines.specs.Sound.{SoundLists, SoundTransitions}
+use Rattle.lines.proofs.Laws.{through_end}
+use Rattle.lines.proofs.Fronts.{transitions_front}
+use Rattle.lines.specs.Lent.{bare, with_transitions}
 
 -- the loop has ended: it saw of the model what it was lent, and that is all that transition scores look at
-pub labels-end : (m : Model) (weights : List Float) (shared label : ℕ) (before : List Float) {cleared u : List Float} →
-    SoundTransitions (m .labels) (m .features .count) (m .features .kinds) (m .features .destinations) (m .features .sources) weights → SoundLists (m .labelLists .count) (m .labelLists .starts) (m .labelLists .entries) (m .features .count) →
-    shared ≡ min (m .labels) (m .labelLists .count) → label ≤ shared → shared ≤ label → cleared ≡ replicate (m .labels * m .labels) nought ++ drop (m .labels * m .labels) before →
-    u ≡ through (throughList (transitionEntry (withTransitions bare (m .labels) (m .features .count) (m .features .kinds) (m .features .destinations) (m .features .sources) (m .labelLists .count) (m .labelLists .starts) (m .labelLists .entries)) weights) (m .labelLists .starts)) 0 label cleared →
-    u ≡ transitionsOf m weights ++ drop (m .labels * m .labels) before
-unfolding transitionEntry
-labels-end m weights shared label before {cleared} f l n h k e r =
+pub labels_end : (m : Model) (weights : List Float) (shared label : ℕ) (before : List Float) {cleared u : List Float} →
+    SoundTransitions m.labels m.features.count m.features.kinds m.features.destinations m.features.sources weights → SoundLists m.label_lists_of.count m.label_lists_of.starts m.label_lists_of.entries m.features.count →
+    shared ≡ min m.labels m.label_lists_of.count → label ≤ shared → shared ≤ label → cleared ≡ replicate (m.labels * m.labels) nought ++ drop (m.labels * m.labels) before →
+    u ≡ through (through_list (transition_entry_of (with_transitions bare m.labels m.features.count m.features.kinds m.features.destinations m.features.sources m.label_lists_of.count m.label_lists_of.starts m.label_lists_of.entries) weights) m.label_lists_of.starts) 0 label cleared →
+    u ≡ transitions_of m weights ++ drop (m.labels * m.labels) before
+unfolding transition_entry_of
+labels_end m weights shared label before {cleared} f l n h k e r =
     r
-    ∙ through-end (throughList (transitionEntry m weights) (m .labelLists .starts)) label shared cleared h k
-    ∙ ap (λ (z : ℕ). through (throughList (transitionEntry m weights) (m .labelLists .starts)) 0 z cleared) n
-    ∙ ap (through (throughList (transitionEntry m weights) (m .labelLists .starts)) 0 (min (m .labels) (m .labelLists .count))) e
-    ∙ transitions-front m f l (drop (m .labels * m .labels) before)
+    ∙ through_end (through_list (transition_entry_of m weights) m.label_lists_of.starts) label shared cleared h k
+    ∙ ap (λ (z : ℕ). through (through_list (transition_entry_of m weights) m.label_lists_of.starts) 0 z cleared) n
+    ∙ ap (through (through_list (transition_entry_of m weights) m.label_lists_of.starts) 0 (min m.labels m.label_lists_of.count)) e
+    ∙ transitions_front m f l (drop (m.labels * m.labels) before)

@@ -1,44 +1,42 @@
 -- What scoring a line answers, in plain terms: of whatever satisfies the promise, each number exactly when document 01 gives it, and scored exactly when none is given. The proof is in proofs/Meant.
-use mathlib.Core.Path.{_≡_}
-use mathlib.Core.List.{List, _++_}
-use Prim.Native.Nat.{ℕ}
-use Rattle·refusals.specs.Refusals.{numberedIn, orNext}
-use Rattle·fronts.specs.Finite.{FiniteTo}
-use Rattle·refusal_rows.specs.Tests.{Test}
-use Rattle·refusal_rows.specs.Before.{Renumbered}
-use Rattle·refusals.specs.Said.{accepted, refused, saidOf}
-use Rattle·feature_gen.specs.Rows.{idTests, weightTests}
-use Rattle·line_check.specs.Rows.{scoringCounts, scoringRooms, lineStarts, valueTests}
-use Rattle·line_check.specs.Before.{scoringBefore}
-use Rattle·finished.specs.Meaning.{EightAt}
-use Rattle·finished.specs.Answers.{Answers}
-use Rattle·compute_scores·specs.specs.Promise.{Given, Buffers, Outcome, stateEntries, transitionEntries, statesOfLine, transitionsOfLine, scoringOf, checkedOf, scoresFinishedOf, Promised}
+use Rattle.std.specs.Prelude.{◌≡◌, List, ◌++◌, ℕ}
+use Rattle.refusals.specs.Refusals.{numbered_in_of, or_next_of}
+use Rattle.fronts.specs.Finite.{FiniteTo}
+use Rattle.refusal_rows.specs.Tests.{Test}
+use Rattle.refusal_rows.specs.Before.{Renumbered}
+use Rattle.refusals.specs.Said.{accepted, refused, said_of}
+use Rattle.feature_gen.specs.Rows.{id_tests, weight_tests}
+use Rattle.line_check.specs.Rows.{scoring_counts, scoring_rooms, line_starts, value_tests}
+use Rattle.line_check.specs.Before.{scoring_before}
+use Rattle.finished.specs.Meaning.{EightAt}
+use Rattle.finished.specs.Answers.{Answers}
+use Rattle.compute_scores.specs.Promise.{Given, Buffers, Outcome, state_entries, transition_entries, states_of_line, transitions_of_line, scoring_of, checked_of, scores_finished_of, Promised}
 
 -- the tables that 3, 5 and 6 look at, in order
-abbrev pub startsOf : Given → List Test
-startsOf given = lineStarts (given .model) (given .words) (given .line .starts) (given .line .size)
+abbrev pub starts_of : Given → List Test
+starts_of given = line_starts given.model given.words given.line.starts given.line.size
 
-abbrev pub idsOf : Given → List Test
-idsOf given = idTests (given .model)
+abbrev pub ids_of : Given → List Test
+ids_of given = id_tests given.model
 
-abbrev pub numbersOf : Given → List Test
-numbersOf given = weightTests (given .model) (given .weights) ++ valueTests (given .line)
+abbrev pub numbers_of : Given → List Test
+numbers_of given = weight_tests given.model given.weights ++ value_tests given.line
 
 -- where 8 looks
 abbrev pub EightIn : Given → ℕ → Type 0
-EightIn given = EightAt (given .model .labels) (given .words) (statesOfLine given) (transitionsOfLine given)
+EightIn given = EightAt given.model.labels given.words (states_of_line given) (transitions_of_line given)
 
 abbrev pub ScoresFinite : Given → Type 0
-ScoresFinite given = FiniteTo (statesOfLine given) (stateEntries given) × FiniteTo (transitionsOfLine given) (transitionEntries given)
+ScoresFinite given = FiniteTo (states_of_line given) (state_entries given) × FiniteTo (transitions_of_line given) (transition_entries given)
 
 abbrev pub ScoringMeans : Type 0
 ScoringMeans =
     (given : Given) (before : Buffers) (outcome : Outcome) → Promised given before outcome →
-    Answers (given .model .labels) (given .words) (scoringCounts (scoringOf given before)) (scoringRooms (scoringOf given before)) (startsOf given) (idsOf given) (numbersOf given)
-    (λ number table place. saidOf (outcome .answer) ≡ refused (numberedIn number table place)) (saidOf (outcome .answer) ≡ accepted tt)
+    Answers given.model.labels given.words (scoring_counts (scoring_of given before)) (scoring_rooms (scoring_of given before)) (starts_of given) (ids_of given) (numbers_of given)
+    (λ number table place. said_of outcome.answer ≡ refused (numbered_in_of number table place)) (said_of outcome.answer ≡ accepted tt)
     (EightIn given) (ScoresFinite given)
 
 -- "Nothing else moves": beside what the rows refused before "Say which table is short", with 8 as it was
 abbrev pub ScoresRenumbered : Type 0
 ScoresRenumbered = (given : Given) (before : Buffers) →
-    Renumbered (orNext (scoringBefore (scoringOf given before)) (scoresFinishedOf given)) (orNext (checkedOf given before) (scoresFinishedOf given))
+    Renumbered (or_next_of (scoring_before (scoring_of given before)) (scores_finished_of given)) (or_next_of (checked_of given before) (scores_finished_of given))

@@ -1,18 +1,14 @@
 -- What scoring a line promises: document 01's answer to what the call is given, and what the lent buffers hold afterwards. Assumes nothing.
-use mathlib.Core.Path.{_≡_}
-use mathlib.Core.List.{List}
-use Prim.Native.Nat.{ℕ, _*_}
-use lib.ListN.{length}
-use lib.Ieee.{Float}
-use Rattle·refusals.specs.declared.Checked.{Checked}
-use Rattle·refusals.specs.Refusals.{orNext}
-use Rattle·binary64.specs.Numbers.{nought}
-use Rattle·lines.specs.Tables.{Model, Words}
-use Rattle·lines.specs.Scored.{statesOf, transitionsOf}
-use Rattle·refusals.specs.Said.{Said, saidOf}
-use Rattle·line_check.specs.Rows.{Scoring, scoringChecked}
-use Rattle·finished.specs.Rows.{scoresFinished}
-use Rattle·finished.specs.After.{contents}
+use Rattle.std.specs.Prelude.{◌≡◌, List, ℕ, ◌*◌, length, Float}
+use Rattle.refusals.specs.declared.Checked.{Checked}
+use Rattle.refusals.specs.Refusals.{or_next_of}
+use Rattle.binary64.specs.Numbers.{nought}
+use Rattle.lines.specs.Tables.{Model, Words}
+use Rattle.lines.specs.Scored.{states_of, transitions_of}
+use Rattle.refusals.specs.Said.{Said, said_of}
+use Rattle.line_check.specs.Rows.{Scoring, scoring_checked}
+use Rattle.finished.specs.Rows.{scores_finished}
+use Rattle.finished.specs.After.{contents}
 
 -- what the call is given: a model with its weights, T, and the line's attributes by words
 pub record Given : Type 0 where
@@ -32,54 +28,54 @@ pub record Outcome : Type 0 where
   pub transitions : List Float
   pub states : List Float
 
--- how many entries are needed: T·L states, L·L transitions
-abbrev pub stateEntries : Given → ℕ
-stateEntries given = given .words * given .model .labels
+-- how many entries are needed: T-as-L states, L-as-L transitions
+abbrev pub state_entries : Given → ℕ
+state_entries given = given.words * given.model.labels
 
-abbrev pub transitionEntries : Given → ℕ
-transitionEntries given = given .model .labels * given .model .labels
+abbrev pub transition_entries : Given → ℕ
+transition_entries given = given.model.labels * given.model.labels
 
 -- the line's scores
-abbrev pub statesOfLine : Given → List Float
-statesOfLine given = statesOf (given .model) (given .weights) (given .line) 0 (given .words)
+abbrev pub states_of_line : Given → List Float
+states_of_line given = states_of given.model given.weights given.line 0 given.words
 
-abbrev pub transitionsOfLine : Given → List Float
-transitionsOfLine given = transitionsOf (given .model) (given .weights)
+abbrev pub transitions_of_line : Given → List Float
+transitions_of_line given = transitions_of given.model given.weights
 
 -- 1, 4, 2, 3, 5, 6
-abbrev pub scoringOf : Given → Buffers → Scoring
-scoringOf given before = record {
-  model = given .model;
-  weights = given .weights;
-  words = given .words;
-  line = given .line;
-  transitions = length (before .transitions);
-  states = length (before .states);
+abbrev pub scoring_of : Given → Buffers → Scoring
+scoring_of given before = record {
+  model = given.model;
+  weights = given.weights;
+  words = given.words;
+  line = given.line;
+  transitions = length before.transitions;
+  states = length before.states;
 }
 
-abbrev pub checkedOf : Given → Buffers → Checked
-checkedOf given before = scoringChecked (scoringOf given before)
+abbrev pub checked_of : Given → Buffers → Checked
+checked_of given before = scoring_checked (scoring_of given before)
 
 -- 8
-abbrev pub scoresFinishedOf : Given → Checked
-scoresFinishedOf given = scoresFinished (given .model .labels) (given .words) (statesOfLine given) (transitionsOfLine given)
+abbrev pub scores_finished_of : Given → Checked
+scores_finished_of given = scores_finished given.model.labels given.words (states_of_line given) (transitions_of_line given)
 
 -- what document 01 says: "The lowest number wins", so 8 comes last
-unfoldable pub answerTo : Given → Buffers → Said Unit
-answerTo given before = saidOf (orNext (checkedOf given before) (scoresFinishedOf given))
+unfoldable pub answer_to : Given → Buffers → Said Unit
+answer_to given before = said_of (or_next_of (checked_of given before) (scores_finished_of given))
 
-unfoldable pub statesAfter : Given → Buffers → List Float
-statesAfter given before = contents (checkedOf given before) (scoresFinishedOf given) nought (stateEntries given) (before .states) (statesOfLine given)
+unfoldable pub states_after : Given → Buffers → List Float
+states_after given before = contents (checked_of given before) (scores_finished_of given) nought (state_entries given) before.states (states_of_line given)
 
-unfoldable pub transitionsAfter : Given → Buffers → List Float
-transitionsAfter given before =
-    contents (checkedOf given before) (scoresFinishedOf given) nought (transitionEntries given) (before .transitions) (transitionsOfLine given)
+unfoldable pub transitions_after : Given → Buffers → List Float
+transitions_after given before =
+    contents (checked_of given before) (scores_finished_of given) nought (transition_entries given) before.transitions (transitions_of_line given)
 
 -- the promise
 pub record Promised (given : Given) (before : Buffers) (outcome : Outcome) : Type 0 where
-  pub answers : saidOf (outcome .answer) ≡ answerTo given before
-  pub transitions : outcome .transitions ≡ transitionsAfter given before
-  pub states : outcome .states ≡ statesAfter given before
+  pub answers : said_of outcome.answer ≡ answer_to given before
+  pub transitions : outcome.transitions ≡ transitions_after given before
+  pub states : outcome.states ≡ states_after given before
 
 -- no two different outcomes satisfy one promise; proved in proofs/Unique
 abbrev pub OnlyOne : Type 0

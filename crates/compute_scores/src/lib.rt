@@ -1,29 +1,26 @@
 // The state and transition scores of a line: `compute_scores` of crf_context.rs, over flat tables and into lent buffers. For each
 // attribute of a word the State entries of its list are added up in the word's row, and the Transition entries of the label lists by
 // source and destination; training uses these loops too. The call tests all it is given, with refusals 1 to 6 beforehand and 8 afterwards.
-ghost use mathlib.Core.Path.{_≡_};
-ghost use mathlib.Core.List.{_++_, []};
-ghost use Prim.Native.Nat.{_*_, _≤_, _<_, _+_, ℕ, _-_};
-ghost use lib.ListN.{length, drop, getD};
-ghost use Rattle·lines.specs.Spans.{throughSpan, SoundSpan};
-ghost use Rattle·lines.specs.Sound.{SoundStates, SoundLists, SoundWords, SoundTransitions};
-ghost use Rattle·lines.specs.Scored.{stateEntry, scoredAt, statesOf, transitionEntry, transitionsOf};
-ghost use Rattle·lines.specs.Entry.{lineOf, lineWas};
-ghost use Rattle·lines.specs.Lent.{bare};
-ghost use Rattle·lines.specs.Passes.{through};
-ghost use Rattle·lines.specs.Tables.{Model};
-ghost use Rattle·compute_scores·specs.specs.StateEntry.{statesWas};
-ghost use Rattle·compute_scores·specs.specs.TransitionEntry.{transitionsWas};
-ghost use Rattle·feature_gen.specs.Lent.{modelAt, modelWas};
-ghost use Rattle·line_check.specs.Sound.{SoundScoring};
-ghost use Rattle·compute_scores·specs.specs.Entry.{givenAt, givenWas, buffersAt};
-ghost use Rattle·compute_scores·specs.specs.Promise.{statesOfLine, transitionsOfLine, scoringOf, Promised};
+ghost use Rattle.std.specs.Prelude.{◌≡◌, ◌++◌, [], ◌*◌, ◌≤◌, ◌<◌, ◌+◌, ℕ, ◌-◌, length, drop, get_or};
+ghost use Rattle.lines.specs.Spans.{through_span, SoundSpan};
+ghost use Rattle.lines.specs.Sound.{SoundStates, SoundLists, SoundWords, SoundTransitions};
+ghost use Rattle.lines.specs.Scored.{state_entry_of, scored_at, states_of, transition_entry_of, transitions_of};
+ghost use Rattle.lines.specs.Entry.{line_of, line_was};
+ghost use Rattle.lines.specs.Lent.{bare};
+ghost use Rattle.lines.specs.Passes.{through};
+ghost use Rattle.lines.specs.Tables.{Model};
+ghost use Rattle.compute_scores.specs.StateEntry.{states_was};
+ghost use Rattle.compute_scores.specs.TransitionEntry.{transitions_was};
+ghost use Rattle.feature_gen.specs.Lent.{model_at, model_was};
+ghost use Rattle.line_check.specs.Sound.{SoundScoring};
+ghost use Rattle.compute_scores.specs.Entry.{given_at, given_was, buffers_at};
+ghost use Rattle.compute_scores.specs.Promise.{states_of_line, transitions_of_line, scoring_of, Promised};
+
 use feature_gen::Counts;
-use lines::Attribute;
-use lines::Span;
+use lines::{Attribute, Span};
 use refusals::Checked;
 
-// The entry at a place of the attribute lists: a State adds weight·value in the word's row, at its destination.
+// The entry at a place of the attribute lists: a State adds typeof.weight.value in the word's row, at its destination.
 fn state_entry(
     labels: usize,
     features: usize,
@@ -36,13 +33,12 @@ fn state_entry(
     e: usize,
     states: &mut [f64],
 )
-    requires { ⌜ SoundStates labels features (now kinds) (now destinations) (now weights) ⌝ }
-    requires { ⌜ e < length (now entries) ⌝ }
-    requires { ⌜ getD (now entries) e 0 < features ⌝ }
-    requires { ⌜ (word + 1) * labels ≤ length (now states) ⌝ }
-    ensures { λ _.
-        let m = statesWas bare labels features kinds destinations 0 [] entries in
-        ⌜ now (states .exit) ≡ stateEntry m (now (weights .entry)) word value e (now (states .entry)) ⌝ }
+    requires sound_states { SoundStates labels features kinds.now destinations.now weights.now }
+    requires e_in_bounds { e < length entries.now }
+    requires e_bound { get_or entries.now e 0 < features }
+    requires labels_in_bounds { (word + 1) * labels ≤ length states.old }
+    ensures { let m = states_was bare labels features kinds destinations 0 [] entries in
+        states.new ≡ state_entry_of m weights.now word value e states.old }
 {
     let i = lines::at(entries, e);
     if kinds[i] == 0 {
@@ -65,12 +61,11 @@ pub fn score_attribute(
     span: Span,
     states: &mut [f64],
 )
-    requires { ⌜ SoundStates labels features (now kinds) (now destinations) (now weights) ⌝ }
-    requires { ⌜ SoundSpan span (now entries) features ⌝ }
-    requires { ⌜ (word + 1) * labels ≤ length (now states) ⌝ }
-    ensures { λ _.
-        let m = statesWas bare labels features kinds destinations 0 [] entries in
-        ⌜ now (states .exit) ≡ throughSpan (stateEntry m (now (weights .entry)) word (attribute .value)) span (now (states .entry)) ⌝ }
+    requires sound_states { SoundStates labels features kinds.now destinations.now weights.now }
+    requires sound_span { SoundSpan span entries.now features }
+    requires labels_in_bounds { (word + 1) * labels ≤ length states.old }
+    ensures { let m = states_was bare labels features kinds destinations 0 [] entries in
+        states.new ≡ through_span (state_entry_of m weights.now word attribute.value) span states.old }
 {
     let value = attribute.value;
     let last = span.last;
@@ -110,15 +105,14 @@ fn score_word(
     word: usize,
     states: &mut [f64],
 )
-    requires { ⌜ SoundStates labels features (now kinds) (now destinations) (now weights) ⌝ }
-    requires { ⌜ SoundLists lists (now starts) (now entries) features ⌝ }
-    requires { ⌜ to ≤ length (now ids) ⌝ }
-    requires { ⌜ to ≤ length (now values) ⌝ }
-    requires { ⌜ (word + 1) * labels ≤ length (now states) ⌝ }
-    ensures { λ _.
-        let m = statesWas bare labels features kinds destinations lists (now (starts .entry)) entries in
-        let d = lineOf 0 [] (now (ids .entry)) (now (values .entry)) in
-        ⌜ now (states .exit) ≡ through (scoredAt m (now (weights .entry)) d word) from (to - from) (now (states .entry)) ⌝ }
+    requires sound_states { SoundStates labels features kinds.now destinations.now weights.now }
+    requires sound_lists { SoundLists lists starts.now entries.now features }
+    requires to_in_bounds { to ≤ length ids.now }
+    requires to_in_bounds_2 { to ≤ length values.now }
+    requires labels_in_bounds { (word + 1) * labels ≤ length states.old }
+    ensures { let m = states_was bare labels features kinds destinations lists starts.now entries in
+        let d = line_of 0 [] ids.now values.now in
+        states.new ≡ through (scored_at m weights.now d word) from (to - from) states.old }
 {
     if from < to {
         let mut a = from;
@@ -163,14 +157,14 @@ pub fn score_line(
     words: usize,
     states: &mut [f64],
 )
-    requires { ⌜ SoundStates labels features (now kinds) (now destinations) (now weights) ⌝ }
-    requires { ⌜ SoundLists lists (now starts) (now entries) features ⌝ }
-    requires { ⌜ SoundWords (first + words) (now begins) (now ids) (now values) ⌝ }
-    requires { ⌜ words * labels ≤ length (now states) ⌝ }
-    ensures { λ _. ⌜ ((rest : Model) (size : ℕ) →
-        let m = statesWas rest labels features kinds destinations lists (now (starts .entry)) entries in
-        let d = lineWas size begins ids values in
-        now (states .exit) ≡ statesOf m (now (weights .entry)) d first words ++ drop (words * labels) (now (states .entry))) ⌝ }
+    requires sound_states { SoundStates labels features kinds.now destinations.now weights.now }
+    requires sound_lists { SoundLists lists starts.now entries.now features }
+    requires sound_words { SoundWords (first + words) begins.now ids.now values.now }
+    requires labels_in_bounds { words * labels ≤ length states.old }
+    ensures { (rest : Model) (size : ℕ) →
+        let m = states_was rest labels features kinds destinations lists starts.now entries in
+        let d = line_was size begins ids values in
+        states.new ≡ states_of m weights.now d first words ++ drop (words * labels) states.old }
 {
     fronts::fill(states, words * labels, 0.0);
     let mut word = 0;
@@ -209,13 +203,12 @@ fn transition_entry(
     e: usize,
     transitions: &mut [f64],
 )
-    requires { ⌜ SoundTransitions labels features (now kinds) (now destinations) (now sources) (now weights) ⌝ }
-    requires { ⌜ e < length (now entries) ⌝ }
-    requires { ⌜ getD (now entries) e 0 < features ⌝ }
-    requires { ⌜ labels * labels ≤ length (now transitions) ⌝ }
-    ensures { λ _.
-        let m = transitionsWas bare labels features kinds destinations sources 0 [] entries in
-        ⌜ now (transitions .exit) ≡ transitionEntry m (now (weights .entry)) e (now (transitions .entry)) ⌝ }
+    requires sound_transitions { SoundTransitions labels features kinds.now destinations.now sources.now weights.now }
+    requires e_in_bounds { e < length entries.now }
+    requires e_bound { get_or entries.now e 0 < features }
+    requires labels_in_bounds { labels * labels ≤ length transitions.old }
+    ensures { let m = transitions_was bare labels features kinds destinations sources 0 [] entries in
+        transitions.new ≡ transition_entry_of m weights.now e transitions.old }
 {
     let i = lines::at(entries, e);
     if kinds[i] == 1 {
@@ -238,12 +231,11 @@ pub fn score_label(
     span: Span,
     transitions: &mut [f64],
 )
-    requires { ⌜ SoundTransitions labels features (now kinds) (now destinations) (now sources) (now weights) ⌝ }
-    requires { ⌜ SoundSpan span (now entries) features ⌝ }
-    requires { ⌜ labels * labels ≤ length (now transitions) ⌝ }
-    ensures { λ _.
-        let m = transitionsWas bare labels features kinds destinations sources 0 [] entries in
-        ⌜ now (transitions .exit) ≡ throughSpan (transitionEntry m (now (weights .entry))) span (now (transitions .entry)) ⌝ }
+    requires sound_transitions { SoundTransitions labels features kinds.now destinations.now sources.now weights.now }
+    requires sound_span { SoundSpan span entries.now features }
+    requires labels_in_bounds { labels * labels ≤ length transitions.old }
+    ensures { let m = transitions_was bare labels features kinds destinations sources 0 [] entries in
+        transitions.new ≡ through_span (transition_entry_of m weights.now) span transitions.old }
 {
     let last = span.last;
     let mut e = span.first;
@@ -276,12 +268,12 @@ pub fn score_transitions(
     entries: &[u32],
     transitions: &mut [f64],
 )
-    requires { ⌜ SoundTransitions labels features (now kinds) (now destinations) (now sources) (now weights) ⌝ }
-    requires { ⌜ SoundLists lists (now starts) (now entries) features ⌝ }
-    requires { ⌜ labels * labels ≤ length (now transitions) ⌝ }
-    ensures { λ _. ⌜ ((rest : Model) →
-        let m = transitionsWas rest labels features kinds destinations sources lists (now (starts .entry)) entries in
-        now (transitions .exit) ≡ transitionsOf m (now (weights .entry)) ++ drop (labels * labels) (now (transitions .entry))) ⌝ }
+    requires sound_transitions { SoundTransitions labels features kinds.now destinations.now sources.now weights.now }
+    requires sound_lists { SoundLists lists starts.now entries.now features }
+    requires labels_in_bounds { labels * labels ≤ length transitions.old }
+    ensures { (rest : Model) →
+        let m = transitions_was rest labels features kinds destinations sources lists starts.now entries in
+        transitions.new ≡ transitions_of m weights.now ++ drop (labels * labels) transitions.old }
 {
     fronts::fill(transitions, labels * labels, 0.0);
     let shared = lines::smaller(labels, lists);
@@ -323,17 +315,15 @@ pub fn fill_scores(
     transitions: &mut [f64],
     states: &mut [f64],
 )
-    requires { let m = modelAt labels counts kinds destinations sources «attribute_starts» «attribute_entries» «label_starts» «label_entries» in
-        let g = givenAt m weights words attributes begins ids values in
-        ⌜ SoundScoring (scoringOf g (buffersAt transitions states)) ⌝ }
-    ensures { λ _.
-        let m = modelWas labels counts kinds destinations sources «attribute_starts» «attribute_entries» «label_starts» «label_entries» in
-        let g = givenWas m weights words attributes begins ids values in
-        ⌜ now (transitions .exit) ≡ transitionsOfLine g ++ drop (labels * labels) (now (transitions .entry)) ⌝ }
-    ensures { λ _.
-        let m = modelWas labels counts kinds destinations sources «attribute_starts» «attribute_entries» «label_starts» «label_entries» in
-        let g = givenWas m weights words attributes begins ids values in
-        ⌜ now (states .exit) ≡ statesOfLine g ++ drop (words * labels) (now (states .entry)) ⌝ }
+    requires { let m = model_at labels counts kinds destinations sources attribute_starts attribute_entries label_starts label_entries in
+        let g = given_at m weights words attributes begins ids values in
+        SoundScoring (scoring_of g (buffers_at transitions states)) }
+    ensures transitions_after { let m = model_was labels counts kinds destinations sources attribute_starts attribute_entries label_starts label_entries in
+        let g = given_was m weights words attributes begins ids values in
+        transitions.new ≡ transitions_of_line g ++ drop (labels * labels) transitions.old }
+    ensures states_after { let m = model_was labels counts kinds destinations sources attribute_starts attribute_entries label_starts label_entries in
+        let g = given_was m weights words attributes begins ids values in
+        states.new ≡ states_of_line g ++ drop (words * labels) states.old }
 {
     let width = labels as usize;
     let features = counts.features as usize;
@@ -387,11 +377,10 @@ pub fn compute_scores(
     transitions: &mut [f64],
     states: &mut [f64],
 ) -> Checked
-    ensures { λ r.
-        let m = modelWas labels counts kinds destinations sources «attribute_starts» «attribute_entries» «label_starts» «label_entries» in
-        let g = givenWas m weights words attributes begins ids values in
-        let b = buffersAt (transitions .entry) (states .entry) in
-        ⌜ Promised g b (record { answer = r; transitions = now (transitions .exit); states = now (states .exit) }) ⌝ }
+    ensures { let m = model_was labels counts kinds destinations sources attribute_starts attribute_entries label_starts label_entries in
+        let g = given_was m weights words attributes begins ids values in
+        let b = buffers_at transitions.entry states.entry in
+        Promised g b (record { answer = result; transitions = transitions.new; states = states.new }) }
 {
     let checked = line_check::check_scoring(
         labels,

@@ -1,12 +1,13 @@
 // The feature counts of a line, for programs in C and Rust: one call of the crate extract_features, and its answer as numbers.
-ghost use Rattle·lines.specs.Entry.{lineWas};
-ghost use Rattle·feature_gen.specs.Lent.{modelWas};
-ghost use Rattle·counting_exports·specs.specs.Counts.{Counted};
+ghost use Rattle.lines.specs.Entry.{line_was};
+ghost use Rattle.feature_gen.specs.Lent.{model_was};
+ghost use Rattle.counting_exports.specs.Counts.{Counted};
+
 use answers::checks::Refused;
 use feature_gen::Counts;
 
 // The feature counts of a line under the labels of `path`, in the front of `feature_counts`.
-#[no_mangle]
+#[unsafe(no_mangle)]
 pub extern "C" fn bodkinbloom_extract_features(
     labels: u32,
     counts: Counts,
@@ -25,11 +26,10 @@ pub extern "C" fn bodkinbloom_extract_features(
     path: &[u32],
     feature_counts: &mut [f64],
 ) -> Refused
-    ensures { λ r.
-        let m = modelWas labels counts kinds destinations sources «attribute_starts» «attribute_entries» «label_starts» «label_entries» in
-        let line = lineWas attributes «word_starts» ids values in
-        ⌜ Counted (record { model = m; words = words; line = line; path = now (path .entry) })
-        (now («feature_counts» .entry)) (record { answer = r; counts = now («feature_counts» .exit) }) ⌝ }
+    ensures { let m = model_was labels counts kinds destinations sources attribute_starts attribute_entries label_starts label_entries in
+        let line = line_was attributes word_starts ids values in
+        Counted (record { model = m; words = words; line = line; path = path.now })
+        feature_counts.old (record { answer = result; counts = feature_counts.new }) }
 {
     let answer = extract_features::extract_features(
         labels,

@@ -1,125 +1,125 @@
 -- From what the reader promises of the bytes to what is promised of the line. Assumes nothing.
-use mathlib.Core.Path.{_≡_, sym, _∙_, ap}
-use mathlib.Core.List.{List, [], _++_, append-assoc, append-nil}
-use Prim.Native.Nat.{ℕ, _*_, _<_, _≤_}
+use mathlib.Core.Path.{◌≡◌, sym, ◌∙◌, ap}
+use mathlib.Core.List.{List, [], ◌++◌, append_assoc, append-nil}
+use Prim.Native.Nat.{ℕ, ◌*◌, ◌<◌, ◌≤◌}
 use native.Mathlib.Omega.{arith}
 use lib.ListN.{length, take, drop, length-append}
-use lib.Seq.{take-at, length-take-le}
+use lib.Seq.{take_at, length-take-le}
 use lib.Ieee.{Float}
-use Rattle·refusals.specs.declared.Refusal.{Refusal}
-use Rattle·refusals.specs.declared.Checked.the-variants.{Accepted, Refused}
-use Rattle·best_path.specs.Scores.{tabled}
-use Rattle·best_path.specs.Decoded.{decodedPath, decodedSum}
-use Rattle·score_tables.specs.Sound.{SoundScores}
-use Rattle·sheet.specs.declared.Reading.{Reading}
-use Rattle·sheet.specs.Fields.{labelsIn, wordsIn, transitionsIn, statesIn}
-use Rattle·sheet.specs.Rows.{Lent, sheetChecked}
-use Rattle·sheet.specs.Promise as reader
-use Rattle·sheet.proofs.Meant.{refused-by}
-use Rattle·sheet.proofs.Rows.{accepts}
-use Rattle·sheet.proofs.RowsMeant.{file-means}
-use Rattle·byte_buffers.specs.Stored as buffer
-use Rattle·answer_line.specs.Line as line
-use Rattle·answer_line.specs.Line.{pathRoom}
-use Rattle·decode_sheet·specs.specs.declared.Written.{Written}
-use Rattle·decode_sheet·specs.specs.Answer.{pathLineOf, bufferChecked}
-use Rattle·decode_sheet·specs.specs.Promise.{answerTo, lineAfter, Promised}
-use Rattle·decode_sheet·proofs.proofs.Rows.{Lends, rows, line-means, read-by, transitions-size, states-size, sound-in}
+use Rattle.refusals.specs.declared.Refusal.{Refusal}
+use Rattle.refusals.specs.declared.Checked.TheVariants.{Accepted, Refused}
+use Rattle.best_path.specs.Scores.{tabled}
+use Rattle.best_path.specs.Decoded.{decoded_path, decoded_sum}
+use Rattle.score_tables.specs.Sound.{SoundScores}
+use Rattle.sheet.specs.declared.Reading.{Reading}
+use Rattle.sheet.specs.Fields.{labels_in_of, words_in, transitions_in_of, states_in_of}
+use Rattle.sheet.specs.Rows.{Lent, sheet_checked}
+use Rattle.sheet.specs.Promise as reader
+use Rattle.sheet.proofs.Meant.{refused_by}
+use Rattle.sheet.proofs.Rows.{accepts}
+use Rattle.sheet.proofs.RowsMeant.{file_means}
+use Rattle.byte_buffers.specs.Stored as buffer
+use Rattle.answer_line.specs.Line as line
+use Rattle.answer_line.specs.Line.{path_room}
+use Rattle.decode_sheet.specs.declared.Written.{Written}
+use Rattle.decode_sheet.specs.Answer.{path_line_for, buffer_checked}
+use Rattle.decode_sheet.specs.Promise.{answer_to, line_after, Promised}
+use Rattle.decode_sheet.proofs.Rows.{Lends, rows, line_means, read_by, transitions_size, states_size, sound_in}
 
 -- the room that is lent of the transitions: none where the line is too short, else all
 pub record Chosen (before : List ℕ) (transitions states : List Float) (room : ℕ) : Type 0 where
-  pub none : length before < pathRoom → room ≡ 0
-  pub all : pathRoom ≤ length before → room ≡ length transitions
+  pub none : length before < path_room → room ≡ 0
+  pub all : path_room ≤ length before → room ≡ length transitions
   pub inside : room ≤ length transitions
-  pub long-transitions : 1024 ≤ length transitions
-  pub long-states : 4096 ≤ length states
+  pub long_transitions : 1024 ≤ length transitions
+  pub long_states : 4096 ≤ length states
 
 abbrev pub lent : List Float → List Float → ℕ → Lent
 lent transitions states room = record { transitions = take room transitions; states = states }
 
 -- the promise, by the two answers
 module _ (bytes before : List ℕ) where
-  pub promised-refused : (why : Refusal) → bufferChecked bytes (length before) ≡ Refused why → Promised (record { bytes = bytes }) before (record { answer = Written.Refused why; line = before })
-  unfolding answerTo lineAfter
-  promised-refused why h = record { answers = rw h; fills-line = rw h }
+  pub promised_refused : (why : Refusal) → buffer_checked bytes (length before) ≡ Refused why → Promised (record { bytes = bytes }) before (record { answer = Written.Refused why; line = before })
+  unfolding answer_to line_after
+  promised_refused why h = record { answers = rw h; fills_line = rw h }
 
-  pub promised-path : (size : ℕ) (after : List ℕ) → bufferChecked bytes (length before) ≡ Accepted → buffer.Written (pathLineOf bytes) before size after → Promised (record { bytes = bytes }) before (record { answer = Written.Path size; line = after })
-  unfolding answerTo lineAfter
-  promised-path size after h w = record { answers = rw (h, w .counted); fills-line = rw h (w .written) }
+  pub promised_path : (size : ℕ) (after : List ℕ) → buffer_checked bytes (length before) ≡ Accepted → buffer.Written (path_line_for bytes) before size after → Promised (record { bytes = bytes }) before (record { answer = Written.Path size; line = after })
+  unfolding answer_to line_after
+  promised_path size after h w = record { answers = rw (h, w.counted); fills_line = rw h w.written }
 
   -- a line that is accepted has its room
-  roomy : bufferChecked bytes (length before) ≡ Accepted → pathRoom ≤ length before
-  roomy h = file-means bytes (line-means (length before)) .accepted .0 h .1 .0
+  roomy : buffer_checked bytes (length before) ≡ Accepted → path_room ≤ length before
+  roomy h = ((file_means bytes (line_means (length before))).accepted.0 h).1.0
 
 -- what a file that is read gives to the decoder
 pub record Tables (bytes before : List ℕ) (transitions states : List Float) (room labels words : ℕ) (o : reader.Outcome) : Type 0 where
-  pub accepted : bufferChecked bytes (length before) ≡ Accepted
-  pub line-long : pathRoom ≤ length before
-  pub labels-are : labels ≡ labelsIn bytes
-  pub words-are : words ≡ wordsIn bytes
-  pub sound : SoundScores (labelsIn bytes) (wordsIn bytes) (transitionsIn bytes) (statesIn bytes)
-  pub transitions-front : take (labelsIn bytes * labelsIn bytes) (o .transitions ++ drop room transitions) ≡ transitionsIn bytes
-  pub states-front : take (wordsIn bytes * labelsIn bytes) (o .states) ≡ statesIn bytes
-  pub transitions-long : labelsIn bytes * labelsIn bytes ≤ length (o .transitions ++ drop room transitions)
-  pub states-long : wordsIn bytes * labelsIn bytes ≤ length (o .states)
+  pub accepted : buffer_checked bytes (length before) ≡ Accepted
+  pub line_long : path_room ≤ length before
+  pub labels_are : labels ≡ labels_in_of bytes
+  pub words_are : words ≡ words_in bytes
+  pub sound : SoundScores (labels_in_of bytes) (words_in bytes) (transitions_in_of bytes) (states_in_of bytes)
+  pub transitions_front : take (labels_in_of bytes * labels_in_of bytes) (o.transitions ++ drop room transitions) ≡ transitions_in_of bytes
+  pub states_front : take (words_in bytes * labels_in_of bytes) o.states ≡ states_in_of bytes
+  pub transitions_long : labels_in_of bytes * labels_in_of bytes ≤ length (o.transitions ++ drop room transitions)
+  pub states_long : words_in bytes * labels_in_of bytes ≤ length o.states
 
 -- a product, its factors by other names
-pub counted-as : {n x y a b : ℕ} → n ≡ x * y → x ≡ a → y ≡ b → n ≡ a * b
-counted-as e f g = e ∙ rw (f, g)
+pub counted_as : {n x y a b : ℕ} → n ≡ x * y → x ≡ a → y ≡ b → n ≡ a * b
+counted_as e f g = e ∙ rw (f, g)
 
 -- the front of a table that was filled
 front : (table rest more : List Float) (n : ℕ) → length table ≡ n → (take n ((table ++ rest) ++ more) ≡ table) × (n ≤ length ((table ++ rest) ++ more))
 front table rest more n e =
-    (rw (append-assoc table rest more) (take-at table (rest ++ more) n e), rw (append-assoc table rest more, length-append table (rest ++ more)) (omega arith))
+    (rw (append_assoc table rest more) (take_at table (rest ++ more) n e), rw (append_assoc table rest more, length-append table (rest ++ more)) (omega arith))
 
 module _ (bytes before : List ℕ) (transitions states : List Float) (room : ℕ) (chosen : Chosen before transitions states room) where
   lends : Lends (length before) (lent transitions states room)
   lends =
-      let e = length-take-le room transitions (chosen .inside) in
+      let e = length-take-le room transitions chosen.inside in
       record {
-        none = λ h. omega (arith, chosen .none h);
-        enough = λ h. omega (arith, chosen .all h, chosen .long-transitions);
-        states = chosen .long-states;
+        none = λ h. omega (arith, chosen.none h);
+        enough = λ h. omega (arith, chosen.all h, chosen.long_transitions);
+        states = chosen.long_states;
       }
 
-  checked : sheetChecked (record { bytes = bytes }) (lent transitions states room) ≡ bufferChecked bytes (length before)
+  checked : sheet_checked (record { bytes = bytes }) (lent transitions states room) ≡ buffer_checked bytes (length before)
   checked = rows bytes (length before) (lent transitions states room) lends
 
-  pub read-refused : (o : reader.Outcome) → reader.Promised (record { bytes = bytes }) (lent transitions states room) o → (why : Refusal) → o .answer ≡ Reading.Refused why → Promised (record { bytes = bytes }) before (record { answer = Written.Refused why; line = before })
-  unfolding reader.answerTo
-  read-refused o p why h = promised-refused bytes before why (sym checked ∙ refused-by bytes _ _ (p .answers) (why .number) (why .table) (why .place) .0 (ap reader.said h))
+  pub read_refused : (o : reader.Outcome) → reader.Promised (record { bytes = bytes }) (lent transitions states room) o → (why : Refusal) → o.answer ≡ Reading.Refused why → Promised (record { bytes = bytes }) before (record { answer = Written.Refused why; line = before })
+  unfolding reader.answer_to
+  read_refused o p why h = promised_refused bytes before why (sym checked ∙ (refused_by bytes _ _ p.answers why.number why.table why.place).0 (ap reader.said h))
 
-  pub read-tables : (o : reader.Outcome) → reader.Promised (record { bytes = bytes }) (lent transitions states room) o → (labels words : ℕ) → o .answer ≡ Reading.Read labels words → Tables bytes before transitions states room labels words o
-  unfolding reader.answerTo reader.transitionsAfter reader.statesAfter
-  read-tables o p labels words h =
-      let r = read-by bytes (sheetChecked (record { bytes = bytes }) (lent transitions states room)) labels words (rw h at (p .answers)) in
-      let sound = sound-in bytes (lent transitions states room) (accepts bytes (lent transitions states room) (r .accepted)) in
-      let t : o .transitions ≡ transitionsIn bytes ++ drop (length (transitionsIn bytes)) (take room transitions) = p .fills-transitions ∙ rw (r .accepted) in
-      let s : o .states ≡ statesIn bytes ++ drop (length (statesIn bytes)) states = p .fills-states ∙ rw (r .accepted) in
-      let m = labelsIn bytes * labelsIn bytes in
-      let n = wordsIn bytes * labelsIn bytes in
-      let f = front (transitionsIn bytes) (drop (length (transitionsIn bytes)) (take room transitions)) (drop room transitions) m (transitions-size bytes) in
-      let g = front (statesIn bytes) (drop (length (statesIn bytes)) states) [] n (states-size bytes) in
+  pub read_tables : (o : reader.Outcome) → reader.Promised (record { bytes = bytes }) (lent transitions states room) o → (labels words : ℕ) → o.answer ≡ Reading.Read labels words → Tables bytes before transitions states room labels words o
+  unfolding reader.answer_to reader.transitions_after reader.states_after
+  read_tables o p labels words h =
+      let r = read_by bytes (sheet_checked (record { bytes = bytes }) (lent transitions states room)) labels words (rw h at p.answers) in
+      let sound = sound_in bytes (lent transitions states room) (accepts bytes (lent transitions states room) r.accepted) in
+      let t : o.transitions ≡ transitions_in_of bytes ++ drop (length (transitions_in_of bytes)) (take room transitions) = p.fills_transitions ∙ rw r.accepted in
+      let s : o.states ≡ states_in_of bytes ++ drop (length (states_in_of bytes)) states = p.fills_states ∙ rw r.accepted in
+      let m = labels_in_of bytes * labels_in_of bytes in
+      let n = words_in bytes * labels_in_of bytes in
+      let f = front (transitions_in_of bytes) (drop (length (transitions_in_of bytes)) (take room transitions)) (drop room transitions) m (transitions_size bytes) in
+      let g = front (states_in_of bytes) (drop (length (states_in_of bytes)) states) [] n (states_size bytes) in
       record {
-        accepted = sym checked ∙ r .accepted;
-        line-long = roomy bytes before (sym checked ∙ r .accepted);
-        labels-are = r .labels-are;
-        words-are = r .words-are;
+        accepted = sym checked ∙ r.accepted;
+        line_long = roomy bytes before (sym checked ∙ r.accepted);
+        labels_are = r.labels_are;
+        words_are = r.words_are;
         sound = sound;
-        transitions-front = rw t (f .0);
-        states-front = rw (s, ← append-nil (statesIn bytes ++ drop (length (statesIn bytes)) states)) (g .0);
-        transitions-long = rw t (f .1);
-        states-long = rw (s, ← append-nil (statesIn bytes ++ drop (length (statesIn bytes)) states)) (g .1);
+        transitions_front = rw t f.0;
+        states_front = rw (s, ← append-nil (states_in_of bytes ++ drop (length (states_in_of bytes)) states)) g.0;
+        transitions_long = rw t f.1;
+        states_long = rw (s, ← append-nil (states_in_of bytes ++ drop (length (states_in_of bytes)) states)) g.1;
       }
 
 -- the fronts of the tables that were read, by how many entries they have
-module _ {bytes before : List ℕ} {transitions states : List Float} {room labels words : ℕ} {o : reader.Outcome} (t : Tables bytes before transitions states room labels words o) {size count : ℕ} (size-is : size ≡ labelsIn bytes * labelsIn bytes) (count-is : count ≡ wordsIn bytes * labelsIn bytes) where
-  pub fronts-sound : SoundScores labels words (take size (o .transitions ++ drop room transitions)) (take count (o .states))
-  fronts-sound = rw (size-is, count-is, t .transitions-front, t .states-front, t .labels-are, t .words-are) (t .sound)
+module _ {bytes before : List ℕ} {transitions states : List Float} {room labels words : ℕ} {o : reader.Outcome} (t : Tables bytes before transitions states room labels words o) {size count : ℕ} (size_is : size ≡ labels_in_of bytes * labels_in_of bytes) (count_is : count ≡ words_in bytes * labels_in_of bytes) where
+  pub fronts_sound : SoundScores labels words (take size (o.transitions ++ drop room transitions)) (take count o.states)
+  fronts_sound = rw (size_is, count_is, t.transitions_front, t.states_front, t.labels_are, t.words_are) t.sound
 
-  pub promised-line : {n : ℕ} {after : List ℕ} →
-      (let s = tabled labels (take size (o .transitions ++ drop room transitions)) (take count (o .states)) in buffer.Written (line.pathLine (decodedSum s words) (decodedPath s words)) before n after) →
+  pub promised_line : {n : ℕ} {after : List ℕ} →
+      (let s = tabled labels (take size (o.transitions ++ drop room transitions)) (take count o.states) in buffer.Written (line.path_line_of (decoded_sum s words) (decoded_path s words)) before n after) →
       Promised (record { bytes = bytes }) before (record { answer = Written.Path n; line = after })
-  unfolding pathLineOf
-  promised-line w =
-      promised-path bytes before _ _ (t .accepted) (rw (size-is, count-is, t .transitions-front, t .states-front, t .labels-are, t .words-are) at w)
+  unfolding path_line_for
+  promised_line w =
+      promised_path bytes before _ _ t.accepted (rw (size_is, count_is, t.transitions_front, t.states_front, t.labels_are, t.words_are) at w)

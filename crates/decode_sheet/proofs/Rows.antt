@@ -1,94 +1,94 @@
 -- The rows of a sheet that is decoded into a line, by way of the reader's rows over tables with room for every sheet. Assumes nothing.
-use mathlib.Core.Path.{_≡_, refl, ap}
+use mathlib.Core.Path.{◌≡◌, refl, ap}
 use mathlib.Core.Bool.{Bool, true, false}
 use mathlib.Core.List.{List}
-use Prim.Native.Nat.{ℕ, _*_, _<_, _≤_}
+use Prim.Native.Nat.{ℕ, ◌*◌, ◌<◌, ◌≤◌}
 use native.Mathlib.Nat.{mul-le-mul}
 use native.Mathlib.Omega.{arith}
 use borrow.Author.Tests.{lt-ltb, le-ltb, ltb-true, ltb-false}
 use lib.Dec.{ltb}
 use lib.ListN.{length}
-use Rattle·refusals.specs.declared.Checked.{Checked}
-use Rattle·refusals.specs.declared.Checked.the-variants.{Accepted, Refused}
-use Rattle·refusals.specs.Refusals.{refuseIn, orNext}
-use Rattle·score_tables.specs.Sound.{LabelsIn, WordsIn, SoundScores}
-use Rattle·score_tables.proofs.Laws.{all-finite}
-use Rattle·sheet.specs.Fields.{labelsIn, wordsIn, transitionsIn, statesIn}
-use Rattle·sheet.specs.Rows.{Lent, tablesShort, sheetChecked}
-use Rattle·refusals.proofs.Said.{same-given}
-use Rattle·sheet.specs.Promise.{LabelsAndWords, read, answerBy}
-use Rattle·sheet.proofs.Bytes.{length-numbers}
-use Rattle·sheet.proofs.Rows.{Accepts}
-use Rattle·sheet.proofs.RowsMeant.{RoomMeans, rooms-mean, same-file}
-use Rattle·answer_line.specs.Line.{pathRoom}
-use Rattle·decode_sheet·specs.specs.Answer.{lineRooms, lineShort, bufferChecked}
+use Rattle.refusals.specs.declared.Checked.{Checked}
+use Rattle.refusals.specs.declared.Checked.TheVariants.{Accepted, Refused}
+use Rattle.refusals.specs.Refusals.{refuse_in_of, or_next_of}
+use Rattle.score_tables.specs.Sound.{LabelsIn, WordsIn, SoundScores}
+use Rattle.score_tables.proofs.Laws.{all_finite}
+use Rattle.sheet.specs.Fields.{labels_in_of, words_in, transitions_in_of, states_in_of}
+use Rattle.sheet.specs.Rows.{Lent, tables_short, sheet_checked}
+use Rattle.refusals.proofs.Said.{same_given}
+use Rattle.sheet.specs.Promise.{LabelsAndWords, read, answer_by}
+use Rattle.sheet.proofs.Bytes.{length_numbers}
+use Rattle.sheet.proofs.Rows.{Accepts}
+use Rattle.sheet.proofs.RowsMeant.{RoomMeans, rooms_mean, same_file}
+use Rattle.answer_line.specs.Line.{path_room}
+use Rattle.decode_sheet.specs.Answer.{line_rooms, line_short, buffer_checked}
 
 -- the room of the tables that are lent: none for a line that is too short
 pub record Lends (room : ℕ) (before : Lent) : Type 0 where
-  pub none : room < pathRoom → length (before .transitions) ≡ 0
-  pub enough : pathRoom ≤ room → 1024 ≤ length (before .transitions)
-  pub states : 4096 ≤ length (before .states)
+  pub none : room < path_room → length before.transitions ≡ 0
+  pub enough : path_room ≤ room → 1024 ≤ length before.transitions
+  pub states : 4096 ≤ length before.states
 
 module _ (bytes : List ℕ) (room : ℕ) (before : Lent) (lends : Lends room before) where
   -- 12 with the place 1 on both sides, or none
-  room-row : LabelsIn (labelsIn bytes) → WordsIn (wordsIn bytes) → tablesShort bytes before ≡ lineShort room
-  unfolding orNext refuseIn
-  room-row l w = go (ltb room pathRoom) refl
+  room_row : LabelsIn (labels_in_of bytes) → WordsIn (words_in bytes) → tables_short bytes before ≡ line_short room
+  unfolding or_next_of refuse_in_of
+  room_row l w = go (ltb room path_room) refl
     where
-      go : (b : Bool) → ltb room pathRoom ≡ b → tablesShort bytes before ≡ lineShort room
+      go : (b : Bool) → ltb room path_room ≡ b → tables_short bytes before ≡ line_short room
       go true e =
-          let h : length (before .transitions) < labelsIn bytes * labelsIn bytes = omega (arith, lends .none (ltb-true room pathRoom e), mul-le-mul (l .low) (l .low)) in
+          let h : length before.transitions < labels_in_of bytes * labels_in_of bytes = omega (arith, lends.none (ltb-true room path_room e), mul-le-mul l.low l.low) in
           rw (lt-ltb _ _ h, e)
       go false e =
-          let h : labelsIn bytes * labelsIn bytes ≤ length (before .transitions) = omega (arith, lends .enough (ltb-false room pathRoom e), mul-le-mul (l .high) (l .high)) in
-          let k : wordsIn bytes * labelsIn bytes ≤ length (before .states) = omega (arith, lends .states, mul-le-mul (w .high) (l .high)) in
+          let h : labels_in_of bytes * labels_in_of bytes ≤ length before.transitions = omega (arith, lends.enough (ltb-false room path_room e), mul-le-mul l.high l.high) in
+          let k : words_in bytes * labels_in_of bytes ≤ length before.states = omega (arith, lends.states, mul-le-mul w.high l.high) in
           rw (le-ltb _ _ h, le-ltb _ _ k, e)
 
   -- the reader's rows are the line's
-  pub rows : sheetChecked (record { bytes = bytes }) before ≡ bufferChecked bytes room
-  rows = same-file bytes (tablesShort bytes before) (lineShort room) (λ b. room-row (b .labels) (b .words))
+  pub rows : sheet_checked (record { bytes = bytes }) before ≡ buffer_checked bytes room
+  rows = same_file bytes (tables_short bytes before) (line_short room) (λ b. room_row b.labels b.words)
 
 -- 12 does not apply where the line has room for the longest
-pub line-means : (room : ℕ) → RoomMeans (lineShort room) (lineRooms room)
-line-means room = rooms-mean (lineRooms room) tt
+pub line_means : (room : ℕ) → RoomMeans (line_short room) (line_rooms room)
+line_means room = rooms_mean (line_rooms room) tt
 
 -- ---- what the reader answers
 
 pub record ReadBy (bytes : List ℕ) (c : Checked) (labels words : ℕ) : Type 0 where
   pub accepted : c ≡ Accepted
-  pub labels-are : labels ≡ labelsIn bytes
-  pub words-are : words ≡ wordsIn bytes
+  pub labels_are : labels ≡ labels_in_of bytes
+  pub words_are : words ≡ words_in bytes
 
-pub read-by : (bytes : List ℕ) (c : Checked) (labels words : ℕ) → read labels words ≡ answerBy c bytes → ReadBy bytes c labels words
-read-by bytes Accepted labels words h =
-    let e = same-given h in
-    record { accepted = refl; labels-are = ap (λ (z : LabelsAndWords). z .labels) e; words-are = ap (λ (z : LabelsAndWords). z .words) e }
-read-by bytes (Refused why) labels words h = let z : _≡_ {A = ℕ} 0 1 = cc in absurd (omega arith)
+pub read_by : (bytes : List ℕ) (c : Checked) (labels words : ℕ) → read labels words ≡ answer_by c bytes → ReadBy bytes c labels words
+read_by bytes Accepted labels words h =
+    let e = same_given h in
+    record { accepted = refl; labels_are = ap (λ (z : LabelsAndWords). z.labels) e; words_are = ap (λ (z : LabelsAndWords). z.words) e }
+read_by bytes (Refused why) labels words h = let z : ◌≡◌ {A = ℕ} 0 1 = cc in absurd (omega arith)
 
 -- how many numbers a file's tables have
-pub transitions-size : (bytes : List ℕ) → length (transitionsIn bytes) ≡ labelsIn bytes * labelsIn bytes
-unfolding transitionsIn
-transitions-size bytes = length-numbers _ _
+pub transitions_size : (bytes : List ℕ) → length (transitions_in_of bytes) ≡ labels_in_of bytes * labels_in_of bytes
+unfolding transitions_in_of
+transitions_size bytes = length_numbers _ _
 
-pub states-size : (bytes : List ℕ) → length (statesIn bytes) ≡ wordsIn bytes * labelsIn bytes
-unfolding statesIn
-states-size bytes = length-numbers _ _
+pub states_size : (bytes : List ℕ) → length (states_in_of bytes) ≡ words_in bytes * labels_in_of bytes
+unfolding states_in_of
+states_size bytes = length_numbers _ _
 
 -- the tables that an accepted file holds are sound
-pub sound-in : (bytes : List ℕ) (before : Lent) → Accepts bytes before → SoundScores (labelsIn bytes) (wordsIn bytes) (transitionsIn bytes) (statesIn bytes)
-sound-in bytes before a =
-    let l = a .sizes-in .room .labels-in in
-    let w = a .sizes-in .room .words-in in
-    let t = transitions-size bytes in
-    let s = states-size bytes in
+pub sound_in : (bytes : List ℕ) (before : Lent) → Accepts bytes before → SoundScores (labels_in_of bytes) (words_in bytes) (transitions_in_of bytes) (states_in_of bytes)
+sound_in bytes before a =
+    let l = a.sizes_in.room.labels_in in
+    let w = a.sizes_in.room.words_in_lem in
+    let t = transitions_size bytes in
+    let s = states_size bytes in
     record {
       sized =
           record {
-            labels-in = l;
-            words-in = w;
-            room = record { long-transitions = omega arith; long-states = omega arith };
-            few-transitions = a .sizes-in .room .few-transitions;
-            few-states = a .sizes-in .room .few-states;
+            labels_in = l;
+            words_in_lem = w;
+            room = record { long_transitions = omega arith; long_states = omega arith };
+            few_transitions = a.sizes_in.room.few_transitions;
+            few_states = a.sizes_in.room.few_states;
           };
-      finite = all-finite (labelsIn bytes) (wordsIn bytes) (transitionsIn bytes) (statesIn bytes) (a .transitions-in) (a .states-in);
+      finite = all_finite (labels_in_of bytes) (words_in bytes) (transitions_in_of bytes) (states_in_of bytes) a.transitions_in a.states_in;
     }

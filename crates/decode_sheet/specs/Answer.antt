@@ -1,30 +1,29 @@
 -- What document 01 says of a sheet's bytes: the line of its path, and the rows of refusals. Assumes nothing.
-use mathlib.Core.List.{List, [], _∷_}
-use Prim.Native.Nat.{ℕ}
-use Rattle·refusals.specs.declared.Checked.{Checked}
-use Rattle·refusals.specs.Refusals.{first}
-use Rattle·best_path.specs.Scores.{Scores, tabled}
-use Rattle·best_path.specs.Decoded.{decodedPath, decodedSum}
-use Rattle·refusal_rows.specs.Limits.{Limit, room, limitChecks}
-use Rattle·sheet.specs.Fields.{labelsIn, wordsIn, transitionsIn, statesIn}
-use Rattle·sheet.specs.Rows.{fileChecked}
-use Rattle·answer_line.specs.Line.{pathLine, pathRoom}
+use Rattle.std.specs.Prelude.{List, [], ◌∷◌, ℕ}
+use Rattle.refusals.specs.declared.Checked.{Checked}
+use Rattle.refusals.specs.Refusals.{first}
+use Rattle.best_path.specs.Scores.{Scores, tabled}
+use Rattle.best_path.specs.Decoded.{decoded_path, decoded_sum}
+use Rattle.refusal_rows.specs.Limits.{Limit, room, limit_checks}
+use Rattle.sheet.specs.Fields.{labels_in_of, words_in, transitions_in_of, states_in_of}
+use Rattle.sheet.specs.Rows.{file_checked}
+use Rattle.answer_line.specs.Line.{path_line_of, path_room}
 
 -- the score tables that the bytes hold
-abbrev pub scoresIn : List ℕ → Scores
-scoresIn bytes = tabled (labelsIn bytes) (transitionsIn bytes) (statesIn bytes)
+abbrev pub scores_in : List ℕ → Scores
+scores_in bytes = tabled (labels_in_of bytes) (transitions_in_of bytes) (states_in_of bytes)
 
 -- the line of its decoded path and sum
-unfoldable pub pathLineOf : List ℕ → List ℕ
-pathLineOf bytes = pathLine (decodedSum (scoresIn bytes) (wordsIn bytes)) (decodedPath (scoresIn bytes) (wordsIn bytes))
+unfoldable pub path_line_for : List ℕ → List ℕ
+path_line_for bytes = path_line_of (decoded_sum (scores_in bytes) (words_in bytes)) (decoded_path (scores_in bytes) (words_in bytes))
 
 -- 12 | "for room": that of the longest line | "the buffer's position among the call's buffers": the bytes stand before the line
-abbrev pub lineRooms : ℕ → List Limit
-lineRooms have = room 1 have pathRoom ∷ []
+abbrev pub line_rooms : ℕ → List Limit
+line_rooms have = room 1 have path_room ∷ []
 
-abbrev pub lineShort : ℕ → Checked
-lineShort have = first (limitChecks (lineRooms have))
+abbrev pub line_short : ℕ → Checked
+line_short have = first (limit_checks (line_rooms have))
 
 -- the rows of the file, 12 for the lent line
-abbrev pub bufferChecked : List ℕ → ℕ → Checked
-bufferChecked bytes have = fileChecked bytes (lineShort have)
+abbrev pub buffer_checked : List ℕ → ℕ → Checked
+buffer_checked bytes have = file_checked bytes (line_short have)

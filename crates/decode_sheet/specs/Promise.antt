@@ -1,14 +1,11 @@
 -- What `decode_sheet` promises: the answer, and what the lent line holds afterwards. Assumes nothing.
-use mathlib.Core.Path.{_≡_}
-use mathlib.Core.List.{List, _++_}
-use Prim.Native.Nat.{ℕ}
-use lib.ListN.{length, drop}
-use Rattle·refusals.specs.declared.Checked.{Checked}
-use Rattle·refusals.specs.declared.Checked.the-variants.{Accepted, Refused}
-use Rattle·refusals.specs.Said.{Said, accepted, refused, orRefused}
-use Rattle·decode_sheet·specs.specs.declared.Written.{Written}
-use Rattle·decode_sheet·specs.specs.declared.Written.the-variants.{Path, Refused as WrittenRefused}
-use Rattle·decode_sheet·specs.specs.Answer.{pathLineOf, bufferChecked}
+use Rattle.std.specs.Prelude.{◌≡◌, List, ◌++◌, ℕ, length, drop}
+use Rattle.refusals.specs.declared.Checked.{Checked}
+use Rattle.refusals.specs.declared.Checked.TheVariants.{Accepted, Refused}
+use Rattle.refusals.specs.Said.{Said, accepted, refused, or_refused}
+use Rattle.decode_sheet.specs.declared.Written.{Written}
+use Rattle.decode_sheet.specs.declared.Written.TheVariants.{Path, Refused as WrittenRefused}
+use Rattle.decode_sheet.specs.Answer.{path_line_for, buffer_checked}
 
 -- what the call is given: the file's bytes
 pub record Given : Type 0 where
@@ -25,24 +22,24 @@ said (Path size) = accepted size
 said (WrittenRefused why) = refused why
 
 -- the refusal of the first row that refuses, or else the length of the path's line
-abbrev pub answerBy : Checked → List ℕ → Said ℕ
-answerBy checked line = orRefused checked (accepted (length line))
+abbrev pub answer_by : Checked → List ℕ → Said ℕ
+answer_by checked line = or_refused checked (accepted (length line))
 
 -- "After 1 to 7 and 10 every lent buffer holds its entry contents", and 12 "like it, leaves every lent buffer as at entry"; else the line stands in front, and the tail is unchanged
-abbrev pub lineBy : Checked → List ℕ → List ℕ → List ℕ
-lineBy Accepted line before = line ++ drop (length line) before
-lineBy (Refused why) line before = before
+abbrev pub line_by : Checked → List ℕ → List ℕ → List ℕ
+line_by Accepted line before = line ++ drop (length line) before
+line_by (Refused why) line before = before
 
-unfoldable pub answerTo : Given → List ℕ → Said ℕ
-answerTo given before = answerBy (bufferChecked (given .bytes) (length before)) (pathLineOf (given .bytes))
+unfoldable pub answer_to : Given → List ℕ → Said ℕ
+answer_to given before = answer_by (buffer_checked given.bytes (length before)) (path_line_for given.bytes)
 
-unfoldable pub lineAfter : Given → List ℕ → List ℕ
-lineAfter given before = lineBy (bufferChecked (given .bytes) (length before)) (pathLineOf (given .bytes)) before
+unfoldable pub line_after : Given → List ℕ → List ℕ
+line_after given before = line_by (buffer_checked given.bytes (length before)) (path_line_for given.bytes) before
 
 -- the promise
 pub record Promised (given : Given) (before : List ℕ) (outcome : Outcome) : Type 0 where
-  pub answers : said (outcome .answer) ≡ answerTo given before
-  pub fills-line : outcome .line ≡ lineAfter given before
+  pub answers : said outcome.answer ≡ answer_to given before
+  pub fills_line : outcome.line ≡ line_after given before
 
 -- no two different outcomes satisfy it. The proof is in proofs/Once
 abbrev pub OnlyOne : Type 0

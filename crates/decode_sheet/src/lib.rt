@@ -1,19 +1,19 @@
 // From a sheet's bytes to its answer line: read, decoded, written. What the program `decode` runs between its input and its output.
-ghost use mathlib.Core.Path.{_≡_};
-ghost use Prim.Native.Nat.{_≤_};
-ghost use lib.ListN.{length};
-ghost use Rattle·best_path.specs.Scores.{tabled};
-ghost use Rattle·best_path.specs.Decoded.{decodedPath, decodedSum};
-ghost use Rattle·score_tables.specs.Sound.{SoundScores};
-ghost use Rattle·byte_buffers.specs.Stored.{Written as Stored·Written};
-ghost use Rattle·answer_line.specs.Line.{pathLine, pathRoom};
-ghost use Rattle·decode_sheet·specs.specs.Promise.{Promised};
-ghost use Rattle·decode_sheet·specs.specs.Program.{Printed};
+ghost use Rattle.std.specs.Prelude.{◌≡◌, ◌≤◌, length};
+ghost use Rattle.best_path.specs.Scores.{tabled};
+ghost use Rattle.best_path.specs.Decoded.{decoded_path, decoded_sum};
+ghost use Rattle.score_tables.specs.Sound.{SoundScores};
+ghost use Rattle.byte_buffers.specs.Stored.{Written as StoredAsWritten};
+ghost use Rattle.answer_line.specs.Line.{path_line_of, path_room};
+ghost use Rattle.decode_sheet.specs.Promise.{Promised};
+ghost use Rattle.decode_sheet.specs.Program.{Printed};
+
 use answer_line::PATH_ROOM;
 use refusals::Refusal;
 use score_tables::entries;
 use sheet::Reading;
 
+#[derive(Drop)]
 pub enum Written {
     Path(usize),
     Refused(Refusal),
@@ -30,9 +30,9 @@ fn write_path(
     states: &[f64],
     line: &mut [u8],
 ) -> usize
-    requires { ⌜ SoundScores labels words (now transitions) (now states) ⌝ }
-    requires { ⌜ pathRoom ≤ length (now line) ⌝ }
-    ensures { λ r. ⌜ Stored·Written (pathLine (decodedSum (tabled labels (now (transitions .entry)) (now (states .entry))) words) (decodedPath (tabled labels (now (transitions .entry)) (now (states .entry))) words)) (now (line .entry)) r (now (line .exit)) ⌝ }
+    requires sound_scores { SoundScores labels words transitions.now states.now }
+    requires path_room_in_bounds { path_room ≤ length line.old }
+    ensures { StoredAsWritten (path_line_of (decoded_sum (tabled labels transitions.now states.now) words) (decoded_path (tabled labels transitions.now states.now) words)) line.old result line.new }
 {
     let mut path = [0u32; MOST_LABELLED];
     let n = words as usize;
@@ -47,8 +47,8 @@ fn decode_with(
     states: &mut [f64],
     line: &mut [u8],
 ) -> Written
-    requires { ⌜ (1024 ≤ length (now transitions)) × (4096 ≤ length (now states)) ⌝ }
-    ensures { λ r. ⌜ Promised (record { bytes = now (bytes .entry) }) (now (line .entry)) (record { answer = r; line = now (line .exit) }) ⌝ }
+    requires { (1024 ≤ length transitions.old) × (4096 ≤ length states.old) }
+    ensures { Promised (record { bytes = bytes.entry.now }) line.old (record { answer = result; line = line.new }) }
 {
     // A line with too little room is refused where a table with too little room is: none is lent then. Both are the
     // second buffer of their call, so the place is the line's.
@@ -70,7 +70,7 @@ fn decode_with(
 
 // The line of the path, or a refusal that leaves the lent line as it was.
 pub fn decode_sheet(bytes: &[u8], line: &mut [u8]) -> Written
-    ensures { λ r. ⌜ Promised (record { bytes = now (bytes .entry) }) (now (line .entry)) (record { answer = r; line = now (line .exit) }) ⌝ }
+    ensures { Promised (record { bytes = bytes.entry.now }) line.old (record { answer = result; line = line.new }) }
 {
     let mut transitions = [0.0f64; 1024];
     let mut states = [0.0f64; 4096];
@@ -79,7 +79,7 @@ pub fn decode_sheet(bytes: &[u8], line: &mut [u8]) -> Written
 
 // The line that the program prints.
 pub fn print_sheet(bytes: &[u8], line: &mut [u8; PATH_ROOM]) -> usize
-    ensures { λ r. ⌜ Printed (now (bytes .entry)) (now (line .entry)) r (now (line .exit)) ⌝ }
+    ensures { Printed bytes.now line.old result line.new }
 {
     match decode_sheet(bytes, line) {
         Written::Path(n) => n,

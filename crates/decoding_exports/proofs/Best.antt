@@ -1,26 +1,26 @@
 -- Demand 3 of every line that C hands over. Assumes nothing.
-use mathlib.Core.Path.{_≡_, ap, _∙_}
+use mathlib.Core.Path.{◌≡◌, ap, ◌∙◌}
 use lib.ListN.{take, drop}
-use lib.Seq.{take-at}
-use Rattle·refusals.specs.declared.Checked.the-variants.{Accepted}
-use Rattle·best_path.specs.Decoded.{decodedPath, decodedSum}
-use Rattle·best_path.specs.Lead.{lead}
-use Rattle·best_path.proofs.Laws.{decoded-length}
-use Rattle·best_path.proofs.Demand3.{demand-3}
-use Rattle·viterbi.proofs.Meant.{decoding-means}
-use Rattle·viterbi.specs.Promise.{scoresOf, checkedOf, answerTo, pathAfter}
-use Rattle·answers.proofs.Told.{number-of, sum-of}
-use Rattle·decoding_exports·specs.specs.Meaning.{EveryLineIsBest}
+use lib.Seq.{take_at}
+use Rattle.refusals.specs.declared.Checked.TheVariants.{Accepted}
+use Rattle.best_path.specs.Decoded.{decoded_path, decoded_sum}
+use Rattle.best_path.specs.Lead.{lead}
+use Rattle.best_path.proofs.Laws.{decoded_length}
+use Rattle.best_path.proofs.Demand3.{demand_3}
+use Rattle.viterbi.proofs.Meant.{decoding_means}
+use Rattle.viterbi.specs.Promise.{scores_of, checked_of, answer_to, path_after}
+use Rattle.answers.proofs.Told.{number_of_lem, sum_of}
+use Rattle.decoding_exports.specs.Meaning.{EveryLineIsBest}
 
-pub every-line-is-best : EveryLineIsBest
-unfolding answerTo pathAfter
-every-line-is-best given before outcome kept sound long =
-    let s = scoresOf given in
-    let words = given .words in
-    let accepted : checkedOf given before ≡ Accepted = decoding-means _ _ _ _ _ .accepted .1 (sound, long) in
-    let answer = rw accepted at (kept .answers) in
-    let low = sound .sized .words-in .low in
-    let best = demand-3 s words (sound .sized .labels-in .low) low (sound .finite) in
-    let front : take words (outcome .path) ≡ decodedPath s words = rw (kept .path, accepted) (take-at (decodedPath s words) (drop words before) words (decoded-length s words low)) in
-    let same : outcome .answer .sum ≡ decodedSum s words = ap (λ a. a .sum) answer ∙ sum-of (decodedSum s words) (lead s words) in
-    (ap (λ a. a .number) answer ∙ number-of (decodedSum s words) (lead s words), rw (front, same) best)
+pub every_line_is_best : EveryLineIsBest
+unfolding answer_to path_after
+every_line_is_best given before outcome kept sound long =
+    let s = scores_of given in
+    let words = given.words in
+    let accepted : checked_of given before ≡ Accepted = (decoding_means _ _ _ _ _).accepted.1 (sound, long) in
+    let answer = rw accepted at kept.answers in
+    let low = sound.sized.words_in_lem.low in
+    let best = demand_3 s words sound.sized.labels_in.low low sound.finite in
+    let front : take words outcome.path ≡ decoded_path s words = rw (kept.path, accepted) (take_at (decoded_path s words) (drop words before) words (decoded_length s words low)) in
+    let same : outcome.answer.sum ≡ decoded_sum s words = ap (λ a. a.sum) answer ∙ sum_of (decoded_sum s words) (lead s words) in
+    (ap (λ a. a.number) answer ∙ number_of_lem (decoded_sum s words) (lead s words), rw (front, same) best)

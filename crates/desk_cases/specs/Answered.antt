@@ -1,50 +1,47 @@
 -- The definitions answer every desk case as document 01 does: one statement, which the checker computes. Assumes nothing.
-use mathlib.Core.Path.{_≡_, refl}
-use mathlib.Core.Bool.{Bool, true, false}
-use mathlib.Core.List.{List, [], _∷_, map}
-use Prim.Native.Nat.{ℕ}
-use lib.ListN.{length}
-use lib.Ieee.{Float, binary64, ofBits, toBits, add, sub, mul, div, lt, le, eq, isNan, ofInt, round}
-use Rattle·refusals.specs.declared.Refusal.{Refusal}
-use Rattle·best_path.specs.Scores.{Scores, tabled, extended}
-use Rattle·best_path.specs.Decoded.{lastLargest, best, back, pathTo, lastLabel, decodedPath, decodedSum}
-use Rattle·best_path.specs.Lead.{rival, positiveZero, leadBetween, lead, none, by as ahead}
-use Rattle·best_path.specs.Lead as L
-use Rattle·best_path.specs.PathScore.{pathScore}
-use Rattle·lines.specs.Passes.{through, raised}
-use Rattle·lines.specs.Tables.{Model}
-use Rattle·lines.specs.Scored.{stateEntry, scoredAttribute, scoredAt, scoredWord, statesOf, transitionEntry, transitionsOf}
-use Rattle·lines.specs.Counted.{stateCount, countedAttribute, countedAt, countedWord, transitionCount, countedTransition, countsOf}
-use Rattle·shuffle.specs.Shuffle.{chosen, swapped, swappedAt, shuffledFrom, shuffled}
-use Rattle·roots.specs.Root.{wholeRoot, nearestRoot}
-use Rattle·training.specs.declared.Trained.{Trained}
-use Rattle·training.specs.declared.Training.{Training}
-use Rattle·training.specs.declared.Training.the-variants.{Accepted, Refused}
-use Rattle·lines.specs.Data.{Data}
-use Rattle·training.specs.Wrong.{wrongAt, wrongOf}
-use Rattle·fronts.specs.Finite.{allFinite}
-use Rattle·training.specs.Rules.{Rule, pushed, squared, pulled, spread, narrowed, stepOf, byPerceptron, byPassive, byArow, updatedBy, besideAtFirst, stops, averagedAt, averagedBy}
-use Rattle·training.specs.Visits.{refusedAs, unchanged, changedTo, finiteState, heldTo, corrected, compared, visited}
-use Rattle·training.specs.Epochs.{Settings, Result, countedFrom, opened, visitedAt, epochOver, epoch, epochUnlessOver, begun, ran, refusedWith, averaged, finished}
-use Rattle·training.specs.Epochs as E
-use Rattle·desk_cases·specs.specs.Cases.{Question, decode, score, train, Answer, decoded, scored, trained, refused, CaseLead, no-lead, by, Case, cases}
+use Rattle.std.specs.Prelude.{◌≡◌, refl, Bool, true, false, List, [], ◌∷◌, map, ℕ, length, Float}
+use Rattle.std.specs.Float.{binary64}
+use Rattle.std.specs.Float.Ieee.{of_bits, to_bits, add, sub, mul, div, lt, le, eq, is_nan, of_int, round}
+use Rattle.refusals.specs.declared.Refusal.{Refusal}
+use Rattle.best_path.specs.Scores.{Scores, tabled, extended}
+use Rattle.best_path.specs.Decoded.{last_largest, best, back, path_to, last_label, decoded_path, decoded_sum}
+use Rattle.best_path.specs.Lead.{rival, positive_zero_of, lead_between, lead, none, by as ahead}
+use Rattle.best_path.specs.Lead as L
+use Rattle.best_path.specs.PathScore.{path_score}
+use Rattle.lines.specs.Passes.{through, raised}
+use Rattle.lines.specs.Tables.{Model}
+use Rattle.lines.specs.Scored.{state_entry_of, scored_attribute, scored_at, scored_word, states_of, transition_entry_of, transitions_of}
+use Rattle.lines.specs.Counted.{state_count, counted_attribute, counted_at, counted_word, transition_count_of, counted_transition, counts_of}
+use Rattle.shuffle.specs.Shuffle.{chosen, swapped, swapped_at, shuffled_from, shuffled}
+use Rattle.roots.specs.Root.{whole_root, nearest_root}
+use Rattle.training.specs.declared.Trained.{Trained}
+use Rattle.training.specs.declared.Training.{Training}
+use Rattle.training.specs.declared.Training.TheVariants.{Accepted, Refused}
+use Rattle.lines.specs.Data.{Data}
+use Rattle.training.specs.Wrong.{wrong_at, wrong_of}
+use Rattle.fronts.specs.Finite.{all_finite_of}
+use Rattle.training.specs.Rules.{Rule, pushed, squared, pulled, spread, narrowed, step_of, by_perceptron, by_passive, by_arow, updated_by, beside_at_first, stops, averaged_at, averaged_by}
+use Rattle.training.specs.Visits.{refused_as, unchanged, changed_to, finite_state, held_to, corrected, compared, visited}
+use Rattle.training.specs.Epochs.{Settings, Result, counted_from, opened, visited_at, epoch_over, epoch, epoch_unless_over, begun, ran, refused_with, averaged, finished}
+use Rattle.training.specs.Epochs as E
+use Rattle.desk_cases.specs.Cases.{Question, decode, score, train, Answer, decoded, scored, trained, refused, CaseLead, no_lead, by, Case, cases}
 
 floats : List ℕ → List Float
-unfolding ofBits
-floats bits = map (ofBits binary64) bits
+unfolding of_bits
+floats bits = map (of_bits binary64) bits
 
-leadBits : L.Lead → CaseLead
-unfolding toBits
-leadBits none = no-lead
-leadBits (ahead x) = by (toBits binary64 x)
+lead_bits : L.Lead → CaseLead
+unfolding to_bits
+lead_bits none = no_lead
+lead_bits (ahead x) = by (to_bits binary64 x)
 
 -- "L=2, one word, attribute 0 of value 1 listing State features to labels 0 and 1, instance weight 1"
 model : Model
 model = record {
   labels = 2;
   features = record { count = 2; kinds = 0 ∷ 0 ∷ []; destinations = 0 ∷ 1 ∷ []; sources = 0 ∷ 0 ∷ [] };
-  attributeLists = record { count = 1; starts = 0 ∷ 2 ∷ []; size = 2; entries = 0 ∷ 1 ∷ [] };
-  labelLists = record { count = 0; starts = 0 ∷ []; size = 0; entries = [] };
+  attribute_lists_of = record { count = 1; starts = 0 ∷ 2 ∷ []; size = 2; entries = 0 ∷ 1 ∷ [] };
+  label_lists_of = record { count = 0; starts = 0 ∷ []; size = 0; entries = [] };
 }
 
 single : ℕ → Data
@@ -59,22 +56,22 @@ single reference = record {
 }
 
 result : Training → List Float → Answer
-unfolding toBits
-result (Accepted t) weights = trained (t .epochs) (t .visits) (t .updates) (map (toBits binary64) weights)
-result (Refused why) weights = refused (why .number) (why .place)
+unfolding to_bits
+result (Accepted t) weights = trained t.epochs t.visits t.updates (map (to_bits binary64) weights)
+result (Refused why) weights = refused why.number why.place
 
 -- what the definitions answer
 pub answer : Question → Answer
-unfolding floats leadBits model single result add sub mul div lt le eq isNan ofInt round ofBits toBits extended lastLargest best back pathTo lastLabel decodedPath decodedSum rival positiveZero leadBetween lead pathScore through raised stateEntry scoredAttribute scoredAt scoredWord statesOf transitionEntry transitionsOf stateCount countedAttribute countedAt countedWord transitionCount countedTransition countsOf chosen swapped swappedAt shuffledFrom shuffled wholeRoot nearestRoot wrongAt wrongOf allFinite pushed squared pulled spread narrowed stepOf byPerceptron byPassive byArow updatedBy besideAtFirst stops averagedAt averagedBy refusedAs unchanged changedTo finiteState heldTo corrected compared visited countedFrom opened visitedAt epochOver epoch epochUnlessOver begun ran refusedWith averaged finished E.trained
+unfolding floats lead_bits model single result add sub mul div lt le eq is_nan of_int round of_bits to_bits extended last_largest best back path_to last_label decoded_path decoded_sum rival positive_zero_of lead_between lead path_score through raised state_entry_of scored_attribute scored_at scored_word states_of transition_entry_of transitions_of state_count counted_attribute counted_at counted_word transition_count_of counted_transition counts_of chosen swapped swapped_at shuffled_from shuffled whole_root nearest_root wrong_at wrong_of all_finite_of pushed squared pulled spread narrowed step_of by_perceptron by_passive by_arow updated_by beside_at_first stops averaged_at averaged_by refused_as unchanged changed_to finite_state held_to corrected compared visited counted_from opened visited_at epoch_over epoch epoch_unless_over begun ran refused_with averaged finished E.trained
 answer (decode labels words transitions states) =
     let s = tabled labels (floats transitions) (floats states) in
-    decoded (decodedPath s words) (toBits binary64 (decodedSum s words)) (leadBits (lead s words))
+    decoded (decoded_path s words) (to_bits binary64 (decoded_sum s words)) (lead_bits (lead s words))
 answer (score labels transitions states path) =
-    scored (toBits binary64 (pathScore (tabled labels (floats transitions) (floats states)) path (length path)))
+    scored (to_bits binary64 (path_score (tabled labels (floats transitions) (floats states)) path (length path)))
 answer (train rule reference epochs) =
-    let r = E.trained rule (record { epochs = epochs; epsilon = ofBits binary64 0; seed = 0 }) model (single reference) in
-    result (r .answer) (r .weights)
+    let r = E.trained rule (record { epochs = epochs; epsilon = of_bits binary64 0; seed = 0 }) model (single reference) in
+    result r.answer r.weights
 
-pub answered : map (λ (c : Case). answer (c .asks)) cases ≡ map (λ (c : Case). c .says) cases
+pub answered : map (λ (c : Case). answer c.asks) cases ≡ map (λ (c : Case). c.says) cases
 unfolding answer cases
 answered = refl

@@ -1,21 +1,20 @@
 -- Names of the desk cases, and where their searches begin. Assumes nothing.
-use mathlib.Core.Path.{_≡_, refl}
-use mathlib.Core.List.{[], _∷_}
-use Rattle·layout.specs.Layout.{Bytes}
-use Rattle·distinct·specs.specs.Names.{rawFrom, rawName, nameAt, namesAt}
-use Rattle·distinct·specs.specs.Slots.{hashed, home}
+use Rattle.std.specs.Prelude.{◌≡◌, refl, [], ◌∷◌}
+use Rattle.layout.specs.Layout.{Bytes}
+use Rattle.distinct.specs.Names.{raw_from, raw_name, name_at, names_at}
+use Rattle.distinct.specs.Slots.{hashed, home}
 
 -- T1, its first two lines: `A␉a:0.5␉b␊B`, names of attributes at 2 and 8
 abbrev t1 : Bytes
 t1 = 65 ∷ 9 ∷ 97 ∷ 58 ∷ 48 ∷ 46 ∷ 53 ∷ 9 ∷ 98 ∷ 10 ∷ 66 ∷ []
 
-names : namesAt t1 (2 ∷ 8 ∷ []) 2 ≡ (97 ∷ []) ∷ (98 ∷ []) ∷ []
-unfolding namesAt nameAt rawFrom
+names : names_at t1 (2 ∷ 8 ∷ []) 2 ≡ (97 ∷ []) ∷ (98 ∷ []) ∷ []
+unfolding names_at name_at raw_from
 names = refl
 
 -- T2, its attribute: `C\:\\x:1`. The colon behind a backslash is the name's own
-escapes : rawName (67 ∷ 92 ∷ 58 ∷ 92 ∷ 92 ∷ 120 ∷ 58 ∷ 49 ∷ []) ≡ 67 ∷ 92 ∷ 58 ∷ 92 ∷ 92 ∷ 120 ∷ []
-unfolding rawFrom
+escapes : raw_name (67 ∷ 92 ∷ 58 ∷ 92 ∷ 92 ∷ 120 ∷ 58 ∷ 49 ∷ []) ≡ 67 ∷ 92 ∷ 58 ∷ 92 ∷ 92 ∷ 120 ∷ []
+unfolding raw_from
 escapes = refl
 
 -- `a` and `b` among 131,072 slots

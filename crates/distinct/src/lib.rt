@@ -1,34 +1,31 @@
 // Ids of names by first appearance, over places in the text: nothing is copied, a name is known by where it first stands. Attribute
 // names are found by open addressing in lent slots, labels are compared one by one. The search is right whatever the slots' homes
 // are; homes that lie apart make it short.
-ghost use mathlib.Core.Path.{_≡_};
-ghost use mathlib.Core.List.{List};
-ghost use Prim.Native.Nat.{_+_, _*_, _/_, _%_, _≤_, _<_};
-ghost use lib.ListN.{length};
-ghost use lib.Seq.{slice};
-ghost use Rattle·layout.specs.Layout.{Bytes};
-ghost use Rattle·text_tables.specs.Distinct.{same, idIn};
-ghost use Rattle·distinct·specs.specs.Names.{endsAt, nameAt, namesAt, NameStands, Listed, Known, LearntLabel};
-ghost use Rattle·distinct·specs.specs.Slots.{home, slotFor, Searchable, Tabled, LearntName};
+ghost use Rattle.std.specs.Prelude.{◌≡◌, List, ◌+◌, ◌*◌, ◌/◌, ◌%◌, ◌≤◌, ◌<◌, length};
+ghost use Rattle.std.proofs.Math.Seq.{slice};
+ghost use Rattle.layout.specs.Layout.{Bytes};
+ghost use Rattle.text_tables.specs.Distinct.{same, id_in};
+ghost use Rattle.distinct.specs.Names.{ends_at, name_at, names_at, NameStands, Listed, Known, LearntLabel};
+ghost use Rattle.distinct.specs.Slots.{home, slot_for, Searchable, Tabled, LearntName};
 
 fn wide(b: u8) -> u64
-    ensures { λ r. ⌜ r ≡ b ⌝ }
+    ensures { result ≡ b }
 {
     b as u64
 }
 
 // One byte more in the number of a name.
 fn hash_byte(h: u64, b: u8) -> u64
-    requires { ⌜ h < 4294967296 ⌝ }
-    ensures { λ r. ⌜ r ≡ (h * 16777619 + b) % 4294967296 ⌝ }
+    requires { h < 4294967296 }
+    ensures { result ≡ (h * 16777619 + b) % 4294967296 }
 {
     (h * 16777619 + wide(b)) % 4294967296
 }
 
 // Where the search for the bytes from one place up to another begins, among so many slots. No division: the upper bits of a product.
 fn home_of(text: &[u8], from: usize, to: usize, size: usize) -> usize
-    requires { ⌜ (from ≤ to) × (to ≤ length (now text)) × (size ≤ 4294967295) ⌝ }
-    ensures { λ r. ⌜ r ≡ home size (slice from to (now (text .entry))) ⌝ }
+    requires { (from ≤ to) × (to ≤ length text.now) × (size ≤ 4294967295) }
+    ensures { result ≡ home size (slice from to text.now) }
 {
     let mut h = 0u64;
     let mut i = from;
@@ -41,7 +38,7 @@ fn home_of(text: &[u8], from: usize, to: usize, size: usize) -> usize
 
 // Whether a name may end before a place: at the text's end, or where a tab, a line feed or a colon stands.
 fn ends_at(text: &[u8], at: usize) -> bool
-    ensures { λ r. ⌜ r ≡ endsAt (now (text .entry)) at ⌝ }
+    ensures { result ≡ ends_at text.now at }
 {
     if at < text.len() {
         let b = text[at];
@@ -52,8 +49,8 @@ fn ends_at(text: &[u8], at: usize) -> bool
 
 // Whether the name at a place is the one that stands from one place up to another: its bytes are, and it ends with them.
 fn same_name(text: &[u8], p: usize, from: usize, to: usize) -> bool
-    requires { ⌜ NameStands (now text) from to × (p ≤ length (now text)) ⌝ }
-    ensures { λ r. ⌜ r ≡ same (nameAt (now (text .entry)) p) (nameAt (now (text .entry)) from) ⌝ }
+    requires { NameStands text.now from to × (p ≤ length text.now) }
+    ensures { result ≡ same (name_at text.now p) (name_at text.now from) }
 {
     let n = to - from;
     if text.len() - p < n {
@@ -71,8 +68,8 @@ fn same_name(text: &[u8], p: usize, from: usize, to: usize) -> bool
 
 // The slot behind a slot: the first behind the last.
 fn slot_after(i: usize, size: usize) -> usize
-    requires { ⌜ i < size ⌝ }
-    ensures { λ r. ⌜ r ≡ (i + 1) % size ⌝ }
+    requires { i < size }
+    ensures { result ≡ (i + 1) % size }
 {
     if i + 1 < size { i + 1 } else { 0 }
 }
@@ -86,11 +83,10 @@ fn seek(
     from: usize,
     to: usize,
 ) -> usize
-    requires { ⌜ Searchable (now text) (now slots) (now positions) count × NameStands (now text) from to ⌝ }
-    ensures { λ r.
-        let t = now (text .entry) in
-        let s = now (slots .entry) in
-        ⌜ r ≡ slotFor (length s) (namesAt t (now (positions .entry)) count) s (nameAt t from) ⌝ }
+    requires { Searchable text.now slots.now positions.now count × NameStands text.now from to }
+    ensures { let t = text.now in
+        let s = slots.now in
+        result ≡ slot_for (length s) (names_at t positions.now count) s (name_at t from) }
 {
     let size = slots.len();
     let mut i = home_of(text, from, to, size);
@@ -119,10 +115,9 @@ pub fn id_of(
     from: usize,
     to: usize,
 ) -> usize
-    requires { ⌜ Tabled (now text) (now slots) (now positions) count × NameStands (now text) from to ⌝ }
-    ensures { λ r.
-        let t = now (text .entry) in
-        ⌜ ((known : List Bytes) → Known t (now (positions .entry)) count known → r ≡ idIn known (nameAt t from)) ⌝ }
+    requires { Tabled text.now slots.now positions.now count × NameStands text.now from to }
+    ensures { let t = text.now in
+        ((known : List Bytes) → Known t positions.now count known → result ≡ id_in known (name_at t from)) }
 {
     let i = seek(text, slots, positions, count, from, to);
     let v = lines::at(slots, i);
@@ -131,8 +126,8 @@ pub fn id_of(
 
 // What the slot of a name holds: its id and one, since 0 is a free slot.
 fn in_slot(id: usize) -> u32
-    requires { ⌜ id < 4294967295 ⌝ }
-    ensures { λ r. ⌜ r ≡ id + 1 ⌝ }
+    requires { id < 4294967295 }
+    ensures { result ≡ id + 1 }
 {
     (id + 1) as u32
 }
@@ -146,12 +141,11 @@ pub fn learn(
     from: usize,
     to: usize,
 ) -> usize
-    requires { ⌜ Tabled (now text) (now slots) (now positions) count × NameStands (now text) from to ⌝ }
-    requires { ⌜ (count < length (now positions)) × (length (now text) ≤ 4294967295) ⌝ }
-    ensures { λ r.
-        let t = now (text .entry) in
-        ⌜ ((known : List Bytes) → Known t (now (positions .entry)) count known
-        → LearntName t known (nameAt t from) (now (slots .exit)) (now (positions .exit)) r) ⌝ }
+    requires tabled { Tabled text.now slots.old positions.old count × NameStands text.now from to }
+    requires count_in_bounds { (count < length positions.old) × (length text.now ≤ 4294967295) }
+    ensures { let t = text.now in
+        ((known : List Bytes) → Known t positions.old count known
+        → LearntName t known (name_at t from) slots.new positions.new result) }
 {
     let i = seek(text, slots, positions, count, from, to);
     let v = lines::at(slots, i);
@@ -165,10 +159,9 @@ pub fn learn(
 
 // The id of a label, compared with those known one by one; the count where it is not known.
 pub fn label_id(text: &[u8], positions: &[u32], count: usize, from: usize, to: usize) -> usize
-    requires { ⌜ Listed (now text) (now positions) count × NameStands (now text) from to ⌝ }
-    ensures { λ r.
-        let t = now (text .entry) in
-        ⌜ ((known : List Bytes) → Known t (now (positions .entry)) count known → r ≡ idIn known (nameAt t from)) ⌝ }
+    requires { Listed text.now positions.now count × NameStands text.now from to }
+    ensures { let t = text.now in
+        ((known : List Bytes) → Known t positions.now count known → result ≡ id_in known (name_at t from)) }
 {
     let mut i = 0usize;
     while i < count {
@@ -189,12 +182,11 @@ pub fn learn_label(
     from: usize,
     to: usize,
 ) -> usize
-    requires { ⌜ Listed (now text) (now positions) count × NameStands (now text) from to ⌝ }
-    requires { ⌜ (count < length (now positions)) × (length (now text) ≤ 4294967295) ⌝ }
-    ensures { λ r.
-        let t = now (text .entry) in
-        ⌜ ((known : List Bytes) → Known t (now (positions .entry)) count known
-        → LearntLabel t known (nameAt t from) (now (positions .exit)) r) ⌝ }
+    requires listed { Listed text.now positions.old count × NameStands text.now from to }
+    requires count_in_bounds { (count < length positions.old) × (length text.now ≤ 4294967295) }
+    ensures { let t = text.now in
+        ((known : List Bytes) → Known t positions.old count known
+        → LearntLabel t known (name_at t from) positions.new result) }
 {
     let id = label_id(text, positions, count, from, to);
     if id == count {

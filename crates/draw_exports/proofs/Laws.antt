@@ -1,26 +1,26 @@
 -- The bound of a shuffle, by the test that the code makes. Assumes nothing.
-use mathlib.Core.Path.{_≡_}
+use mathlib.Core.Path.{◌≡◌}
 use mathlib.Core.Bool.{true, false}
-use Prim.Native.Nat.{ℕ, _<_, _≤_}
+use Prim.Native.Nat.{ℕ, ◌<◌, ◌≤◌}
 use native.Mathlib.Omega.{arith}
 use borrow.Author.Tests.{ltb-false}
 use lib.Dec.{ltb}
-use Rattle·refusals.specs.declared.Checked.{Checked}
-use Rattle·refusals.specs.declared.Checked.the-variants.{Accepted}
-use Rattle·refusals.specs.Refusals.{refuseIn, refusedAt, orNext}
-use Rattle·refusals.specs.Bounds.{theInstances, position, most, outsideIts}
-use Rattle·refusals.proofs.Laws.{neither}
-use Rattle·draw_exports·specs.specs.Draws.{check}
+use Rattle.refusals.specs.declared.Checked.{Checked}
+use Rattle.refusals.specs.declared.Checked.TheVariants.{Accepted}
+use Rattle.refusals.specs.Refusals.{refuse_in_of, refused_at, or_next_of}
+use Rattle.refusals.specs.Bounds.{the_instances, position, most, outside_its}
+use Rattle.refusals.proofs.Laws.{neither}
+use Rattle.draw_exports.specs.Draws.{check}
 
-pub refused-outside : (n : ℕ) → outsideIts theInstances n ≡ true → check n ≡ refusedAt 2 (position theInstances)
-unfolding refuseIn orNext
-refused-outside n h = rw h
+pub refused_outside : (n : ℕ) → outside_its the_instances n ≡ true → check n ≡ refused_at 2 (position the_instances)
+unfolding refuse_in_of or_next_of
+refused_outside n h = rw h
 
-pub accepted-within : (n : ℕ) → outsideIts theInstances n ≡ false → check n ≡ Accepted
-unfolding refuseIn orNext
-accepted-within n h = rw h
+pub accepted_within : (n : ℕ) → outside_its the_instances n ≡ false → check n ≡ Accepted
+unfolding refuse_in_of or_next_of
+accepted_within n h = rw h
 
-pub within : (n : ℕ) → outsideIts theInstances n ≡ false → (0 < n) × (n ≤ most theInstances)
+pub within : (n : ℕ) → outside_its the_instances n ≡ false → (0 < n) × (n ≤ most the_instances)
 within n h =
-    let w = neither (ltb n 1) (ltb (most theInstances) n) h in
-    (omega (arith, ltb-false n 1 (w .0)), omega (arith, ltb-false (most theInstances) n (w .1)))
+    let w = neither (ltb n 1) (ltb (most the_instances) n) h in
+    (omega (arith, ltb-false n 1 w.0), omega (arith, ltb-false (most the_instances) n w.1))

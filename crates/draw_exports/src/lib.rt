@@ -1,6 +1,7 @@
 // A draw, and the shuffle of an order, for programs in C and Rust.
-ghost use mathlib.Core.Path.{_≡_};
-ghost use Rattle·draw_exports·specs.specs.Draws.{Drew, Shuffled, Shuffling};
+ghost use Rattle.std.specs.Prelude.{◌≡◌};
+ghost use Rattle.draw_exports.specs.Draws.{Drew, Shuffled, Shuffling};
+
 use answers::checks::Refused;
 
 // The bound of `theInstances`, and its position among the counts.
@@ -9,9 +10,9 @@ pub const MOST_INSTANCES: usize = 16384;
 pub const INSTANCES: u64 = 7;
 
 // One draw of SplitMix64: the number is the answer, and the state is advanced.
-#[no_mangle]
+#[unsafe(no_mangle)]
 pub extern "C" fn bodkinbloom_draw(state: &mut u64) -> u64
-    ensures { λ r. ⌜ Drew (now (state .entry)) r (now (state .exit)) ⌝ }
+    ensures { Drew state.old result state.new }
 {
     let drawn = generator::draw_from(*state);
     *state = drawn.state;
@@ -19,9 +20,9 @@ pub extern "C" fn bodkinbloom_draw(state: &mut u64) -> u64
 }
 
 // An order of 1 to 16,384 numbers is shuffled, and the generator's state goes on.
-#[no_mangle]
+#[unsafe(no_mangle)]
 pub extern "C" fn bodkinbloom_shuffle(state: &mut u64, order: &mut [u32]) -> Refused
-    ensures { λ r. ⌜ Shuffling (now (state .entry)) (now (order .entry)) (record { answer = r; state = now (state .exit); order = now (order .exit) }) ⌝ }
+    ensures { Shuffling state.old order.old (record { answer = result; state = state.new; order = order.new }) }
 {
     let n = order.len();
     if (n < 1) | (MOST_INSTANCES < n) {

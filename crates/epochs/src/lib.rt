@@ -1,19 +1,19 @@
 // Epochs until training ends.
-ghost use mathlib.Core.Bool.{false};
-ghost use Rattle·lines.specs.Passes.{through};
-ghost use Rattle·training.specs.Rules.{stops};
-ghost use Rattle·training.specs.Visits.{visited};
-ghost use Rattle·training.specs.Epochs.{Run, epochUnlessOver};
-ghost use Rattle·prediction.specs.Tables.{trainingModelAt, trainingModelWas, trainingDataAt, trainingDataWas};
-ghost use Rattle·parameters.specs.Trainers.{ruleOf};
-ghost use Rattle·updates.specs.Updating.{stateOf};
-ghost use Rattle·begin_and_end.specs.Ending.{Finished};
-ghost use Rattle·epochs·specs.specs.Running.{firstStep, Runnable};
+ghost use Rattle.std.specs.Prelude.{false};
+ghost use Rattle.lines.specs.Passes.{through};
+ghost use Rattle.training.specs.Rules.{stops};
+ghost use Rattle.training.specs.Visits.{visited};
+ghost use Rattle.training.specs.Epochs.{Run, epoch_unless_over};
+ghost use Rattle.prediction.specs.Tables.{training_model_at, training_model_was, training_data_at, training_data_was};
+ghost use Rattle.parameters.specs.Trainers.{rule_of};
+ghost use Rattle.updates.specs.Updating.{state_of};
+ghost use Rattle.begin_and_end.specs.Ending.{Finished};
+ghost use Rattle.epochs.specs.Running.{first_step, Runnable};
+
 use begin_and_end::Ran;
 use parameters::Trainer;
 use prediction::Sizes;
-use training::Progress;
-use training::Visit;
+use training::{Progress, Visit};
 
 // Epochs, each with the order shuffled anew, until training ends or none is left.
 pub fn run(
@@ -41,16 +41,15 @@ pub fn run(
     truly: &mut [f64],
     predicted: &mut [f64],
 ) -> Ran
-    requires { let m = trainingModelAt sizes kinds destinations sources starts entries «label_starts» «label_entries» in
-        let d = trainingDataAt sizes lines begins ids values references shares in
-        ⌜ Runnable sizes m d allowed (now order) (now weights) (now beside) (now truly) (now predicted) ⌝ }
-    ensures { λ r.
-        let m = trainingModelWas sizes kinds destinations sources starts entries «label_starts» «label_entries» in
-        let d = trainingDataWas sizes lines begins ids values references shares in
-        let progress = epochUnlessOver (visited (ruleOf trainer) m d) (stops (ruleOf trainer) epsilon) (sizes .instances) in
-        let first = stateOf firstStep (now (weights .entry)) (now (beside .entry)) in
-        let begun : Run = record { state = first; deal = record { state = seed; order = now (order .entry) }; epochs = 0; over = false } in
-        ⌜ Finished r (now (weights .exit)) (now (beside .exit)) (through progress 0 allowed begun) ⌝ }
+    requires { let m = training_model_at sizes kinds destinations sources starts entries label_starts label_entries in
+        let d = training_data_at sizes lines begins ids values references shares in
+        Runnable sizes m d allowed order.old weights.old beside.old truly.old predicted.old }
+    ensures { let m = training_model_was sizes kinds destinations sources starts entries label_starts label_entries in
+        let d = training_data_was sizes lines begins ids values references shares in
+        let progress = epoch_unless_over (visited (rule_of trainer) m d) (stops (rule_of trainer) epsilon) sizes.instances in
+        let first = state_of first_step weights.old beside.old in
+        let begun : Run = record { state = first; deal = record { state = seed; order = order.old }; epochs = 0; over = false } in
+        Finished result weights.new beside.new (through progress 0 allowed begun) }
 {
     let n = sizes.instances;
     let mut progress = Progress {

@@ -1,39 +1,39 @@
 -- How counting the features of a line keeps its promise. Assumes nothing.
-use mathlib.Core.Path.{_≡_, _∙_}
-use mathlib.Core.List.{List, _++_}
+use mathlib.Core.Path.{◌≡◌, ◌∙◌}
+use mathlib.Core.List.{List, ◌++◌}
 use lib.ListN.{drop}
 use lib.Ieee.{Float}
-use Rattle·refusals.specs.declared.Refusal.{Refusal}
-use Rattle·refusals.specs.declared.Checked.{Checked}
-use Rattle·refusals.specs.declared.Checked.the-variants.{Accepted, Refused}
-use Rattle·refusals.specs.Refusals.{orNext}
-use Rattle·lines.proofs.Fronts.{length-counts}
-use Rattle·finished.specs.Rows.{finishedChecked}
-use Rattle·finished.specs.After.{clearedWhere}
-use Rattle·finished.proofs.Laws.{front-checked, contents-kept}
-use Rattle·extract_features·specs.specs.Promise.{Given, needed, countsOfLine, checkedOf, countsFinishedOf, answerTo, amountsAfter, Promised}
+use Rattle.refusals.specs.declared.Refusal.{Refusal}
+use Rattle.refusals.specs.declared.Checked.{Checked}
+use Rattle.refusals.specs.declared.Checked.TheVariants.{Accepted, Refused}
+use Rattle.refusals.specs.Refusals.{or_next_of}
+use Rattle.lines.proofs.Fronts.{length_counts}
+use Rattle.finished.specs.Rows.{finished_checked}
+use Rattle.finished.specs.After.{cleared_where}
+use Rattle.finished.proofs.Laws.{front_checked, contents_kept}
+use Rattle.extract_features.specs.Promise.{Given, needed, counts_of_line, checked_of, counts_finished_of, answer_to, amounts_after, Promised}
 
 -- a refusal beforehand leaves the buffer
-pub refused-kept : (given : Given) (before : List Float) {answer : Checked} {amounts : List Float} (why : Refusal) →
-    checkedOf given before ≡ Refused why →
+pub refused_kept : (given : Given) (before : List Float) {answer : Checked} {amounts : List Float} (why : Refusal) →
+    checked_of given before ≡ Refused why →
     answer ≡ Refused why →
     amounts ≡ before →
     Promised given before (record { answer = answer; amounts = amounts })
-unfolding answerTo amountsAfter orNext
-refused-kept given before why h e p = record { answers = rw (h, e); amounts = rw h p }
+unfolding answer_to amounts_after or_next_of
+refused_kept given before why h e p = record { answers = rw (h, e); amounts = rw h p }
 
 -- the counts were made, and cleared where 8 is given
-module _ (given : Given) (before : List Float) (accepted : checkedOf given before ≡ Accepted) where
-  pub made-kept : {amounts after : List Float} {r : Checked} →
-      amounts ≡ countsOfLine given ++ drop (needed given) before →
-      r ≡ finishedChecked amounts (needed given) →
-      after ≡ clearedWhere r (needed given) amounts →
+module _ (given : Given) (before : List Float) (accepted : checked_of given before ≡ Accepted) where
+  pub made_kept : {amounts after : List Float} {r : Checked} →
+      amounts ≡ counts_of_line given ++ drop (needed given) before →
+      r ≡ finished_checked amounts (needed given) →
+      after ≡ cleared_where r (needed given) amounts →
       Promised given before (record { answer = r; amounts = after })
-  unfolding answerTo amountsAfter orNext
-  made-kept {r = r} p f s =
-      let long = length-counts (given .model) (given .line) 0 (given .words) (given .path) in
-      let e : r ≡ countsFinishedOf given = f ∙ rw p (front-checked (countsOfLine given) _ (needed given) long) in
+  unfolding answer_to amounts_after or_next_of
+  made_kept {r = r} p f s =
+      let long = length_counts given.model given.line 0 given.words given.path in
+      let e : r ≡ counts_finished_of given = f ∙ rw p (front_checked (counts_of_line given) _ (needed given) long) in
       record {
         answers = rw (accepted, ← e);
-        amounts = rw (accepted, ← e, contents-kept r (needed given) before (countsOfLine given) long p s);
+        amounts = rw (accepted, ← e, contents_kept r (needed given) before (counts_of_line given) long p s);
       }

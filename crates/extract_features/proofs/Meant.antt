@@ -1,40 +1,40 @@
 -- What counting the features of a line answers means what `CountingMeans` says. Assumes nothing.
-use mathlib.Core.Path.{sym, _∙_}
-use mathlib.Core.List.{_++_}
-use Rattle·refusals.specs.declared.Checked.{Checked}
-use Rattle·refusals.specs.Refusals.{numberedIn, orNext}
-use Rattle·refusals.specs.Meaning.{FirstBad}
-use Rattle·fronts.specs.Finite.{FiniteTo, NotFinite}
-use Rattle·refusals.proofs.Said.{refused-said, done-said}
-use Rattle·feature_gen.specs.Rows.{idTests}
-use Rattle·line_check.specs.Rows.{countingCounts, countingRooms, lineStarts, labelTests, valueTests}
-use Rattle·refusal_rows.proofs.Renumbered.{renumbered-same, renumbered-next}
-use Rattle·line_check.specs.Before.{countingBefore}
-use Rattle·line_check.proofs.Meant.{counting-means, counting-renumbered}
-use Rattle·finished.proofs.Meant.{counts-mean}
-use Rattle·finished.proofs.Answers.{answered}
-use Rattle·extract_features·specs.specs.Promise.{needed, countsOfLine, countingOf, checkedOf, countsFinishedOf, answerTo}
-use Rattle·extract_features·specs.specs.Meaning.{CountingMeans, CountsRenumbered}
+use mathlib.Core.Path.{sym, ◌∙◌}
+use mathlib.Core.List.{◌++◌}
+use Rattle.refusals.specs.declared.Checked.{Checked}
+use Rattle.refusals.specs.Refusals.{numbered_in_of, or_next_of}
+use Rattle.refusals.specs.Meaning.{FirstBad}
+use Rattle.fronts.specs.Finite.{FiniteTo, NotFinite}
+use Rattle.refusals.proofs.Said.{refused_said, done_said}
+use Rattle.feature_gen.specs.Rows.{id_tests}
+use Rattle.line_check.specs.Rows.{counting_counts, counting_rooms, line_starts, label_tests, value_tests}
+use Rattle.refusal_rows.proofs.Renumbered.{renumbered_same, renumbered_next}
+use Rattle.line_check.specs.Before.{counting_before}
+use Rattle.line_check.proofs.Meant.{counting_means, counting_renumbered}
+use Rattle.finished.proofs.Meant.{counts_mean}
+use Rattle.finished.proofs.Answers.{answered}
+use Rattle.extract_features.specs.Promise.{needed, counts_of_line, counting_of, checked_of, counts_finished_of, answer_to}
+use Rattle.extract_features.specs.Meaning.{CountingMeans, CountsRenumbered}
 
-pub counts-meant : CountingMeans
-unfolding answerTo
-counts-meant given before outcome kept =
-    let all : Checked = orNext (checkedOf given before) (countsFinishedOf given) in
-    answered (checkedOf given before) (countsFinishedOf given)
-    (given .model .labels) (given .words) (countingCounts (countingOf given before)) (countingRooms (countingOf given before))
-    (lineStarts (given .model) (given .words) (given .line .starts) (given .line .size))
-    (idTests (given .model) ++ labelTests (countingOf given before))
-    (valueTests (given .line))
-    (FirstBad (NotFinite (countsOfLine given)) (needed given)) (FiniteTo (countsOfLine given) (needed given))
-    (counting-means (countingOf given before))
-    (counts-mean (countsOfLine given) (needed given))
+pub counts_meant : CountingMeans
+unfolding answer_to
+counts_meant given before outcome kept =
+    let all : Checked = or_next_of (checked_of given before) (counts_finished_of given) in
+    answered (checked_of given before) (counts_finished_of given)
+    given.model.labels given.words (counting_counts (counting_of given before)) (counting_rooms (counting_of given before))
+    (line_starts given.model given.words given.line.starts given.line.size)
+    (id_tests given.model ++ label_tests (counting_of given before))
+    (value_tests given.line)
+    (FirstBad (NotFinite (counts_of_line given)) (needed given)) (FiniteTo (counts_of_line given) (needed given))
+    (counting_means (counting_of given before))
+    (counts_mean (counts_of_line given) (needed given))
     _ _
-    (λ number table place h. refused-said tt all (numberedIn number table place) .0 (sym (kept .answers) ∙ h))
-    (λ number table place _ h. kept .answers ∙ refused-said tt all (numberedIn number table place) .1 h)
-    (λ h. done-said all .0 (sym (kept .answers) ∙ h), λ h. kept .answers ∙ done-said all .1 h)
+    (λ number table place h. (refused_said tt all (numbered_in_of number table place)).0 (sym kept.answers ∙ h))
+    (λ number table place _ h. kept.answers ∙ (refused_said tt all (numbered_in_of number table place)).1 h)
+    (λ h. (done_said all).0 (sym kept.answers ∙ h), λ h. kept.answers ∙ (done_said all).1 h)
 
-pub counts-renumbered : CountsRenumbered
-counts-renumbered given before =
-    renumbered-next (countingBefore (countingOf given before)) (checkedOf given before) (countsFinishedOf given) (countsFinishedOf given)
-    (counting-renumbered (countingOf given before))
-    (renumbered-same (countsFinishedOf given))
+pub counts_renumbered : CountsRenumbered
+counts_renumbered given before =
+    renumbered_next (counting_before (counting_of given before)) (checked_of given before) (counts_finished_of given) (counts_finished_of given)
+    (counting_renumbered (counting_of given before))
+    (renumbered_same (counts_finished_of given))

@@ -1,16 +1,14 @@
 // The feature counts of a line under labels: `extract_features` of trainer.rs, over flat tables and into a lent buffer. The loops
 // are in `line_counts`; the call tests all it is given, with refusals 1 to 6 beforehand and 8 afterwards.
-ghost use mathlib.Core.Path.{_≡_};
-ghost use mathlib.Core.List.{_++_};
-ghost use Prim.Native.Nat.{_≤_, _+_, ℕ};
-ghost use lib.ListN.{length, drop};
-ghost use Rattle·lines.specs.Sound.{SoundLists, SoundCounts, SoundWords};
-ghost use Rattle·lines.specs.Counted.{countsOf};
-ghost use Rattle·lines.specs.Tables.{Model};
-ghost use Rattle·lines.specs.Entry.{lineWas};
-ghost use Rattle·feature_gen.specs.Lent.{modelWas};
-ghost use Rattle·extract_features·specs.specs.Entry.{countsWas, givenWas};
-ghost use Rattle·extract_features·specs.specs.Promise.{Promised};
+ghost use Rattle.std.specs.Prelude.{◌≡◌, ◌++◌, ◌≤◌, ◌+◌, ℕ, length, drop};
+ghost use Rattle.lines.specs.Sound.{SoundLists, SoundCounts, SoundWords};
+ghost use Rattle.lines.specs.Counted.{counts_of};
+ghost use Rattle.lines.specs.Tables.{Model};
+ghost use Rattle.lines.specs.Entry.{line_was};
+ghost use Rattle.feature_gen.specs.Lent.{model_was};
+ghost use Rattle.extract_features.specs.Entry.{counts_was, given_was};
+ghost use Rattle.extract_features.specs.Promise.{Promised};
+
 use feature_gen::Counts;
 use refusals::Checked;
 
@@ -35,17 +33,17 @@ pub fn count_line(
     labels: &[u32],
     counts: &mut [f64],
 )
-    requires { ⌜ SoundCounts features (now kinds) (now destinations) ⌝ }
-    requires { ⌜ features ≤ length (now sources) ⌝ }
-    requires { ⌜ SoundLists lists (now starts) (now entries) features ⌝ }
-    requires { ⌜ SoundLists «label_lists» (now «label_starts») (now «label_entries») features ⌝ }
-    requires { ⌜ SoundWords (first + words) (now begins) (now ids) (now values) ⌝ }
-    requires { ⌜ words ≤ length (now labels) ⌝ }
-    requires { ⌜ features ≤ length (now counts) ⌝ }
-    ensures { λ _. ⌜ ((rest : Model) (size : ℕ) →
-        let m = countsWas rest features kinds destinations sources lists starts entries «label_lists» «label_starts» «label_entries» in
-        let d = lineWas size begins ids values in
-        now (counts .exit) ≡ countsOf m d first words (now (labels .entry)) ++ drop features (now (counts .entry))) ⌝ }
+    requires sound_counts { SoundCounts features kinds.now destinations.now }
+    requires features_in_bounds { features ≤ length sources.now }
+    requires sound_lists { SoundLists lists starts.now entries.now features }
+    requires sound_lists_2 { SoundLists label_lists label_starts.now label_entries.now features }
+    requires sound_words { SoundWords (first + words) begins.now ids.now values.now }
+    requires words_in_bounds { words ≤ length labels.now }
+    requires features_in_bounds_2 { features ≤ length counts.old }
+    ensures { (rest : Model) (size : ℕ) →
+        let m = counts_was rest features kinds destinations sources lists starts entries label_lists label_starts label_entries in
+        let d = line_was size begins ids values in
+        counts.new ≡ counts_of m d first words labels.now ++ drop features counts.old }
 {
     fronts::fill(counts, features, 0.0);
     line_counts::count_words(
@@ -96,10 +94,9 @@ pub fn extract_features(
     path: &[u32],
     amounts: &mut [f64],
 ) -> Checked
-    ensures { λ r.
-        let m = modelWas labels counts kinds destinations sources «attribute_starts» «attribute_entries» «label_starts» «label_entries» in
-        let g = givenWas m words attributes begins ids values path in
-        ⌜ Promised g (now (amounts .entry)) (record { answer = r; amounts = now (amounts .exit) }) ⌝ }
+    ensures { let m = model_was labels counts kinds destinations sources attribute_starts attribute_entries label_starts label_entries in
+        let g = given_was m words attributes begins ids values path in
+        Promised g amounts.old (record { answer = result; amounts = amounts.new }) }
 {
     let features = counts.features as usize;
     let checked = line_check::check_counting(

@@ -1,7 +1,7 @@
 -- No two different answers satisfy the promise of `check_model`. Assumes nothing.
-use mathlib.Core.Path.{_≡_, sym, _∙_}
-use Rattle·refusals.proofs.Said.{said-once}
-use Rattle·feature_gen·specs.specs.CheckModel as model
+use mathlib.Core.Path.{◌≡◌, sym, ◌∙◌}
+use Rattle.refusals.proofs.Said.{said_once}
+use Rattle.feature_gen.specs.CheckModel as model
 
-pub only-model : model.OnlyOne
-only-model given a b p q = said-once a b (p .answers ∙ sym (q .answers))
+pub only_model : model.OnlyOne
+only_model given a b p q = said_once a b (p.answers ∙ sym q.answers)

@@ -1,23 +1,21 @@
 -- What the check of a model promises: document 01's answer to what it is given. It is lent nothing to change, so the outcome is the answer. Assumes nothing.
-use mathlib.Core.Path.{_≡_}
-use mathlib.Core.List.{List}
-use lib.Ieee.{Float}
-use Rattle·refusals.specs.declared.Checked.{Checked}
-use Rattle·refusals.specs.Said.{Said, saidOf}
-use Rattle·lines.specs.Tables.{Model}
-use Rattle·feature_gen·specs.specs.Rows.{modelChecked}
+use Rattle.std.specs.Prelude.{◌≡◌, List, Float}
+use Rattle.refusals.specs.declared.Checked.{Checked}
+use Rattle.refusals.specs.Said.{Said, said_of}
+use Rattle.lines.specs.Tables.{Model}
+use Rattle.feature_gen.specs.Rows.{model_checked}
 
 pub record Given : Type 0 where
   pub model : Model
   pub weights : List Float
 
 -- what document 01 says: refused by the first row that applies
-unfoldable pub answerTo : Given → Said Unit
-answerTo given = saidOf (modelChecked (given .model) (given .weights))
+unfoldable pub answer_to : Given → Said Unit
+answer_to given = said_of (model_checked given.model given.weights)
 
 -- the promise
 pub record ModelChecked (given : Given) (outcome : Checked) : Type 0 where
-  pub answers : saidOf outcome ≡ answerTo given
+  pub answers : said_of outcome ≡ answer_to given
 
 -- no two different outcomes satisfy one promise; proved in proofs/Unique
 abbrev pub OnlyOne : Type 0

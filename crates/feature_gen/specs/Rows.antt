@@ -1,102 +1,99 @@
 -- Document 01, "Numbered refusals", the rows that concern a model and its weights, and their order. Assumes nothing.
-use mathlib.Core.List.{List, [], _∷_, _++_}
-use Prim.Native.Nat.{ℕ, _+_}
-use lib.ListN.{length}
-use lib.Ieee.{Float}
-use Rattle·refusals.specs.declared.Checked.{Checked}
-use Rattle·refusals.specs.Refusals.{first}
-use Rattle·refusals.specs.Bounds.{theFeatures, theAttributeLists, theLabelLists, theAttributeEntries, theLabelEntries, kindTable, destinationTable, sourceTable, weightTable, attributeListTable, labelListTable}
-use Rattle·score_tables.specs.Rows.{one}
-use Rattle·refusal_rows.specs.Limits.{Limit, count, room, limitChecks}
-use Rattle·refusal_rows.specs.Tests.{Test, startsRise, kindsKnown, idsBelow, sourcesBelow, numbersFinite, checks}
-use Rattle·lines.specs.Tables.{Features, Lists, Model}
+use Rattle.std.specs.Prelude.{List, [], ◌∷◌, ◌++◌, ℕ, ◌+◌, length, Float}
+use Rattle.refusals.specs.declared.Checked.{Checked}
+use Rattle.refusals.specs.Refusals.{first}
+use Rattle.refusals.specs.Bounds.{the_features, the_attribute_lists, the_label_lists, the_attribute_entries, the_label_entries, kind_table, destination_table, source_table, weight_table, attribute_list_table, label_list_table}
+use Rattle.score_tables.specs.Rows.{one}
+use Rattle.refusal_rows.specs.Limits.{Limit, count, room, limit_checks}
+use Rattle.refusal_rows.specs.Tests.{Test, starts_rise, kinds_known, ids_below, sources_below, numbers_finite, checks}
+use Rattle.lines.specs.Tables.{Features, Lists, Model}
 
 -- ---- 2 | "counts outside their bounds" | "the count's position in document 01's list, from 0"
 
-abbrev pub countLimits : (features attributeLists labelLists attributeEntries labelEntries : ℕ) → List Limit
-countLimits features attributeLists labelLists attributeEntries labelEntries =
-    count theFeatures features
-    ∷ count theAttributeLists attributeLists
-    ∷ count theLabelLists labelLists
-    ∷ count theAttributeEntries attributeEntries
-    ∷ count theLabelEntries labelEntries
+abbrev pub count_limits : (features attribute_lists_of label_lists_of attribute_entries_of label_entries_of : ℕ) → List Limit
+count_limits features attribute_lists_of label_lists_of attribute_entries_of label_entries_of =
+    count the_features features
+    ∷ count the_attribute_lists attribute_lists_of
+    ∷ count the_label_lists label_lists_of
+    ∷ count the_attribute_entries attribute_entries_of
+    ∷ count the_label_entries label_entries_of
     ∷ []
 
-abbrev pub modelCounts : Model → List Limit
-modelCounts m = countLimits (m .features .count) (m .attributeLists .count) (m .labelLists .count) (m .attributeLists .size) (m .labelLists .size)
+abbrev pub model_counts : Model → List Limit
+model_counts m = count_limits m.features.count m.attribute_lists_of.count m.label_lists_of.count m.attribute_lists_of.size m.label_lists_of.size
 
 -- ---- 12 | "for room" | "the buffer's position among the call's buffers": the features first
 
-abbrev pub featureRooms : Features → List Limit
-featureRooms features =
-    room 0 (length (features .kinds)) (features .count)
-    ∷ room 1 (length (features .destinations)) (features .count)
-    ∷ room 2 (length (features .sources)) (features .count)
+abbrev pub feature_rooms : Features → List Limit
+feature_rooms features =
+    room 0 (length features.kinds) features.count
+    ∷ room 1 (length features.destinations) features.count
+    ∷ room 2 (length features.sources) features.count
     ∷ []
 
 -- where a call is lent the weights of its features, they stand behind the sources
-abbrev pub weightRooms : Features → List Float → List Limit
-weightRooms features weights = room 3 (length weights) (features .count) ∷ []
+abbrev pub weight_rooms : Features → List Float → List Limit
+weight_rooms features weights = room 3 (length weights) features.count ∷ []
 
 -- "for n lists, n+1 starts"; the lists begin at a position that is the call's own
-abbrev pub listRooms : (at : ℕ) → Lists → Lists → List Limit
-listRooms at attributeLists labelLists =
-    room at (length (attributeLists .starts)) (attributeLists .count + 1)
-    ∷ room (at + 1) (length (attributeLists .entries)) (attributeLists .size)
-    ∷ room (at + 2) (length (labelLists .starts)) (labelLists .count + 1)
-    ∷ room (at + 3) (length (labelLists .entries)) (labelLists .size)
+abbrev pub list_rooms : (at : ℕ) → Lists → Lists → List Limit
+list_rooms at attribute_lists_of label_lists_of =
+    room at (length attribute_lists_of.starts) (attribute_lists_of.count + 1)
+    ∷ room (at + 1) (length attribute_lists_of.entries) attribute_lists_of.size
+    ∷ room (at + 2) (length label_lists_of.starts) (label_lists_of.count + 1)
+    ∷ room (at + 3) (length label_lists_of.entries) label_lists_of.size
     ∷ []
 
-abbrev pub tableRooms : (at : ℕ) → Features → Lists → Lists → List Limit
-tableRooms at features attributeLists labelLists = featureRooms features ++ listRooms at attributeLists labelLists
+abbrev pub table_rooms : (at : ℕ) → Features → Lists → Lists → List Limit
+table_rooms at features attribute_lists_of label_lists_of = feature_rooms features ++ list_rooms at attribute_lists_of label_lists_of
 
-abbrev pub weightedTableRooms : Features → List Float → Lists → Lists → List Limit
-weightedTableRooms features weights attributeLists labelLists =
-    (featureRooms features ++ weightRooms features weights) ++ listRooms 4 attributeLists labelLists
+abbrev pub weighted_table_rooms : Features → List Float → Lists → Lists → List Limit
+weighted_table_rooms features weights attribute_lists_of label_lists_of =
+    (feature_rooms features ++ weight_rooms features weights) ++ list_rooms 4 attribute_lists_of label_lists_of
 
-abbrev pub modelRooms : (at : ℕ) → Model → List Limit
-modelRooms at m = tableRooms at (m .features) (m .attributeLists) (m .labelLists)
+abbrev pub model_rooms : (at : ℕ) → Model → List Limit
+model_rooms at m = table_rooms at m.features m.attribute_lists_of m.label_lists_of
 
-abbrev pub weightedRooms : Model → List Float → List Limit
-weightedRooms m weights = weightedTableRooms (m .features) weights (m .attributeLists) (m .labelLists)
+abbrev pub weighted_rooms : Model → List Float → List Limit
+weighted_rooms m weights = weighted_table_rooms m.features weights m.attribute_lists_of m.label_lists_of
 
 -- 3 | "a rule of starts is broken" | "index of the first bad start"
-abbrev pub startTests : Model → List Test
-startTests m =
-    startsRise attributeListTable (m .attributeLists .starts) (m .attributeLists .count) (m .attributeLists .size)
-    ∷ startsRise labelListTable (m .labelLists .starts) (m .labelLists .count) (m .labelLists .size)
+abbrev pub start_tests : Model → List Test
+start_tests m =
+    starts_rise attribute_list_table m.attribute_lists_of.starts m.attribute_lists_of.count m.attribute_lists_of.size
+    ∷ starts_rise label_list_table m.label_lists_of.starts m.label_lists_of.count m.label_lists_of.size
     ∷ []
 
 -- 5 | "kind not 0 or 1, destination at or above L, Transition source at or above L" | "index in its table"
-abbrev pub featureTests : ℕ → Features → List Test
-featureTests labels features =
-    kindsKnown kindTable (features .kinds) (features .count)
-    ∷ idsBelow destinationTable (features .destinations) (features .count) labels
-    ∷ sourcesBelow sourceTable (features .kinds) (features .sources) (features .count) labels
+abbrev pub feature_tests : ℕ → Features → List Test
+feature_tests labels features =
+    kinds_known kind_table features.kinds features.count
+    ∷ ids_below destination_table features.destinations features.count labels
+    ∷ sources_below source_table features.kinds features.sources features.count labels
     ∷ []
 
 -- 5 | "list id at or above F" | "index in its table"
-abbrev pub entryTests : Model → List Test
-entryTests m =
-    idsBelow attributeListTable (m .attributeLists .entries) (m .attributeLists .size) (m .features .count)
-    ∷ idsBelow labelListTable (m .labelLists .entries) (m .labelLists .size) (m .features .count)
+abbrev pub entry_tests : Model → List Test
+entry_tests m =
+    ids_below attribute_list_table m.attribute_lists_of.entries m.attribute_lists_of.size m.features.count
+    ∷ ids_below label_list_table m.label_lists_of.entries m.label_lists_of.size m.features.count
     ∷ []
 
 -- 5, in order: "feature kinds, destinations, sources ..; attribute lists; label lists"
-abbrev pub idTests : Model → List Test
-idTests m = featureTests (m .labels) (m .features) ++ entryTests m
+abbrev pub id_tests : Model → List Test
+id_tests m = feature_tests m.labels m.features ++ entry_tests m
 
 -- 6 | "a weight .. not finite" | "index in its table"
-abbrev pub weightTests : Model → List Float → List Test
-weightTests m weights = numbersFinite weightTable weights (m .features .count) ∷ []
+abbrev pub weight_tests : Model → List Float → List Test
+weight_tests m weights = numbers_finite weight_table weights m.features.count ∷ []
 
 -- "The lowest number wins", and "12 is tested directly after 2": 1, 2, 12, 3, 5, 6
-unfoldable pub modelChecked : Model → List Float → Checked
-modelChecked m weights =
+unfoldable pub model_checked : Model → List Float → Checked
+model_checked m weights =
     first
-    (one (m .labels)
-    ∷ limitChecks (modelCounts m)
-    ++ limitChecks (weightedRooms m weights)
-    ++ checks (startTests m)
-    ++ checks (idTests m)
-    ++ checks (weightTests m weights))
+    (one m.labels
+    ∷ limit_checks (model_counts m)
+    ++ limit_checks (weighted_rooms m weights)
+    ++ checks (start_tests m)
+    ++ checks (id_tests m)
+    ++ checks (weight_tests m weights))

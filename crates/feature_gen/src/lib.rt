@@ -1,17 +1,15 @@
 // Features and the model that holds them, after `feature_gen.rs`: kinds State 0 and Transition 1, and the check of a model: of
 // its tables, and of its weights apart. Every call that is lent a model takes the sooner of these checks and its own.
-ghost use mathlib.Core.Path.{_≡_};
-ghost use mathlib.Core.List.{[], _∷_};
-ghost use Prim.Native.Nat.{_<_, _≤_};
-ghost use lib.ListN.{length};
-ghost use Rattle·refusals.specs.Refusals.{first, firstFrom};
-ghost use Rattle·refusal_rows.specs.Limits.{limitChecks};
-ghost use Rattle·refusals.specs.Bounds.{Table, tablePosition, attributeListTable, labelListTable};
-ghost use Rattle·refusal_rows.specs.Tests.{startsRise, idsBelow, checks};
-ghost use Rattle·feature_gen·specs.specs.Rows.{countLimits, featureRooms, listRooms, featureTests};
-ghost use Rattle·feature_gen·specs.specs.Parts.{tablesSized, tablesChecked, weightsChecked, weightedChecked};
-ghost use Rattle·feature_gen·specs.specs.Lent.{featuresOf, attributeListsOf, labelListsOf, modelWas};
-ghost use Rattle·feature_gen·specs.specs.CheckModel.{ModelChecked};
+ghost use Rattle.std.specs.Prelude.{◌≡◌, [], ◌∷◌, ◌<◌, ◌≤◌, length};
+ghost use Rattle.refusals.specs.Refusals.{first, first_from};
+ghost use Rattle.refusal_rows.specs.Limits.{limit_checks};
+ghost use Rattle.refusals.specs.Bounds.{Table, table_position, attribute_list_table, label_list_table};
+ghost use Rattle.refusal_rows.specs.Tests.{starts_rise, ids_below, checks};
+ghost use Rattle.feature_gen.specs.Rows.{count_limits, feature_rooms, list_rooms, feature_tests};
+ghost use Rattle.feature_gen.specs.Parts.{tables_sized_of, tables_checked, weights_checked, weighted_checked};
+ghost use Rattle.feature_gen.specs.Lent.{features_of, attribute_lists_for, label_lists_for, model_was};
+ghost use Rattle.feature_gen.specs.CheckModel.{ModelChecked};
+
 use refusals::Checked;
 
 pub const STATE: u8 = 0;
@@ -28,6 +26,7 @@ pub const MOST_ENTRIES: u32 = 1048576;
 
 // The counts of a model, which are numbers of their own beside the tables.
 #[repr(C)]
+#[derive(Drop)]
 pub struct Counts {
     pub features: u32,
     pub attribute_lists: u32,
@@ -38,7 +37,7 @@ pub struct Counts {
 
 // 2: each count in document 01's order, from the features, which have position 2.
 fn check_counts(counts: Counts) -> Checked
-    ensures { λ r. ⌜ r ≡ first (limitChecks (countLimits (counts .features) (counts .«attribute_lists») (counts .«label_lists») (counts .«attribute_entries») (counts .«label_entries»))) ⌝ }
+    ensures { result ≡ first (limit_checks (count_limits counts.features counts.attribute_lists counts.label_lists counts.attribute_entries counts.label_entries)) }
 {
     let a = refusals::refuse_if(Checked::Accepted, 2, 2, MOST_FEATURES < counts.features);
     let b = refusals::refuse_if(a, 2, 3, MOST_ATTRIBUTE_LISTS < counts.attribute_lists);
@@ -55,7 +54,7 @@ fn check_feature_room(
     destinations: &[u32],
     sources: &[u32],
 ) -> Checked
-    ensures { λ r. ⌜ r ≡ firstFrom answer (limitChecks (featureRooms (featuresOf counts (now (kinds .entry)) (now (destinations .entry)) (now (sources .entry))))) ⌝ }
+    ensures { result ≡ first_from answer (limit_checks (feature_rooms (features_of counts kinds.now destinations.now sources.now))) }
 {
     let n = counts.features as usize;
     let a = refusals::refuse_if(answer, 12, 0, kinds.len() < n);
@@ -73,7 +72,7 @@ fn check_list_room(
     label_starts: &[u32],
     label_entries: &[u32],
 ) -> Checked
-    ensures { λ r. ⌜ r ≡ firstFrom answer (limitChecks (listRooms at (attributeListsOf counts (now («attribute_starts» .entry)) (now («attribute_entries» .entry))) (labelListsOf counts (now («label_starts» .entry)) (now («label_entries» .entry))))) ⌝ }
+    ensures { result ≡ first_from answer (limit_checks (list_rooms at (attribute_lists_for counts attribute_starts.now attribute_entries.now) (label_lists_for counts label_starts.now label_entries.now))) }
 {
     let p = at as usize;
     let starts = counts.attribute_lists as usize + 1;
@@ -93,9 +92,9 @@ fn check_starts(
     attribute_starts: &[u32],
     label_starts: &[u32],
 ) -> Checked
-    requires { ⌜ counts .«attribute_lists» < length (now «attribute_starts») ⌝ }
-    requires { ⌜ counts .«label_lists» < length (now «label_starts») ⌝ }
-    ensures { λ r. ⌜ r ≡ firstFrom answer (checks (startsRise attributeListTable (now («attribute_starts» .entry)) (counts .«attribute_lists») (counts .«attribute_entries») ∷ startsRise labelListTable (now («label_starts» .entry)) (counts .«label_lists») (counts .«label_entries») ∷ [])) ⌝ }
+    requires attribute_lists_in_bounds { counts.attribute_lists < length attribute_starts.now }
+    requires label_lists_in_bounds { counts.label_lists < length label_starts.now }
+    ensures { result ≡ first_from answer (checks (starts_rise attribute_list_table attribute_starts.now counts.attribute_lists counts.attribute_entries ∷ starts_rise label_list_table label_starts.now counts.label_lists counts.label_entries ∷ [])) }
 {
     let attributes = counts.attribute_lists as usize;
     let labels = counts.label_lists as usize;
@@ -117,10 +116,10 @@ fn check_features(
     destinations: &[u32],
     sources: &[u32],
 ) -> Checked
-    requires { ⌜ counts .features ≤ length (now kinds) ⌝ }
-    requires { ⌜ counts .features ≤ length (now destinations) ⌝ }
-    requires { ⌜ counts .features ≤ length (now sources) ⌝ }
-    ensures { λ r. ⌜ r ≡ firstFrom answer (checks (featureTests labels (featuresOf counts (now (kinds .entry)) (now (destinations .entry)) (now (sources .entry))))) ⌝ }
+    requires features_in_bounds { counts.features ≤ length kinds.now }
+    requires features_in_bounds_2 { counts.features ≤ length destinations.now }
+    requires features_in_bounds_3 { counts.features ≤ length sources.now }
+    ensures { result ≡ first_from answer (checks (feature_tests labels (features_of counts kinds.now destinations.now sources.now))) }
 {
     let n = counts.features as usize;
     let a = table_checks::check_kinds(answer, refusals::KINDS, kinds, n);
@@ -135,9 +134,9 @@ fn check_entries(
     attribute_entries: &[u32],
     label_entries: &[u32],
 ) -> Checked
-    requires { ⌜ counts .«attribute_entries» ≤ length (now «attribute_entries») ⌝ }
-    requires { ⌜ counts .«label_entries» ≤ length (now «label_entries») ⌝ }
-    ensures { λ r. ⌜ r ≡ firstFrom answer (checks (idsBelow attributeListTable (now («attribute_entries» .entry)) (counts .«attribute_entries») (counts .features) ∷ idsBelow labelListTable (now («label_entries» .entry)) (counts .«label_entries») (counts .features) ∷ [])) ⌝ }
+    requires attribute_entries_in_bounds { counts.attribute_entries ≤ length attribute_entries.now }
+    requires label_entries_in_bounds { counts.label_entries ≤ length label_entries.now }
+    ensures { result ≡ first_from answer (checks (ids_below attribute_list_table attribute_entries.now counts.attribute_entries counts.features ∷ ids_below label_list_table label_entries.now counts.label_entries counts.features ∷ [])) }
 {
     let attributes = counts.attribute_entries as usize;
     let labels = counts.label_entries as usize;
@@ -161,9 +160,8 @@ fn check_sizes(
     label_starts: &[u32],
     label_entries: &[u32],
 ) -> Checked
-    ensures { λ r.
-        let m = modelWas labels counts kinds destinations sources «attribute_starts» «attribute_entries» «label_starts» «label_entries» in
-        ⌜ r ≡ tablesSized at m ⌝ }
+    ensures { let m = model_was labels counts kinds destinations sources attribute_starts attribute_entries label_starts label_entries in
+        result ≡ tables_sized_of at m }
 {
     let outside = check_counts(counts);
     let features = check_feature_room(outside, counts, kinds, destinations, sources);
@@ -191,9 +189,8 @@ pub fn check_tables(
     label_starts: &[u32],
     label_entries: &[u32],
 ) -> Checked
-    ensures { λ r.
-        let m = modelWas labels counts kinds destinations sources «attribute_starts» «attribute_entries» «label_starts» «label_entries» in
-        ⌜ r ≡ tablesChecked at m ⌝ }
+    ensures { let m = model_was labels counts kinds destinations sources attribute_starts attribute_entries label_starts label_entries in
+        result ≡ tables_checked at m }
 {
     let sizes = check_sizes(
         at,
@@ -217,7 +214,7 @@ pub fn check_tables(
 
 // 12 and 6 of so many weights, at a position of the call: those of the features, or those of a trainer's instances.
 pub fn check_weights(table: u32, at: u32, weights: &[f64], count: u32) -> Checked
-    ensures { λ r. ⌜ ((which : Table) → tablePosition which ≡ table → r ≡ weightsChecked which at count (now (weights .entry))) ⌝ }
+    ensures { (which : Table) → table_position which ≡ table → result ≡ weights_checked which at count weights.now }
 {
     let n = count as usize;
     let sizes = refusals::refuse_if(Checked::Accepted, 12, at as usize, weights.len() < n);
@@ -240,9 +237,8 @@ pub fn check_weighted(
     label_starts: &[u32],
     label_entries: &[u32],
 ) -> Checked
-    ensures { λ r.
-        let m = modelWas labels counts kinds destinations sources «attribute_starts» «attribute_entries» «label_starts» «label_entries» in
-        ⌜ r ≡ weightedChecked m (now (weights .entry)) ⌝ }
+    ensures { let m = model_was labels counts kinds destinations sources attribute_starts attribute_entries label_starts label_entries in
+        result ≡ weighted_checked m weights.now }
 {
     let tables = check_tables(
         4,
@@ -273,9 +269,8 @@ pub fn check_model(
     label_starts: &[u32],
     label_entries: &[u32],
 ) -> Checked
-    ensures { λ r.
-        let m = modelWas labels counts kinds destinations sources «attribute_starts» «attribute_entries» «label_starts» «label_entries» in
-        ⌜ ModelChecked (record { model = m; weights = now (weights .entry) }) r ⌝ }
+    ensures { let m = model_was labels counts kinds destinations sources attribute_starts attribute_entries label_starts label_entries in
+        ModelChecked (record { model = m; weights = weights.now }) result }
 {
     let one = score_tables::check_labels(labels);
     let model = check_weighted(

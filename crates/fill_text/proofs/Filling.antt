@@ -1,74 +1,74 @@
 -- What each of the passes asks, of a text that is ready for all of them. Assumes nothing.
-use mathlib.Core.Path.{_≡_, refl, subst}
-use mathlib.Core.List.{List, [], _∷_}
-use Prim.Native.Nat.{ℕ, zero, suc, _≤_, _<_}
-use native.Mathlib.Nat.{not-suc-le-zero, le-of-suc-le-suc, le-trans}
-use lib.ListN.{length, getD}
+use mathlib.Core.Path.{◌≡◌, refl, subst}
+use mathlib.Core.List.{List, [], ◌∷◌}
+use Prim.Native.Nat.{ℕ, zero, suc, ◌≤◌, ◌<◌}
+use native.Mathlib.Nat.{not-suc-le-zero, le_of_suc-le-suc, le_trans}
+use lib.ListN.{length, get_or}
 use lib.Ieee.{Float}
-use Rattle·layout.specs.Layout.{Bytes, Word, Clean, Name, sequences, WellFormed}
-use Rattle·text_tables.specs.Distinct.{distinct}
-use Rattle·text_tables.specs.Tables.{flat, allWords, allAttributes, labelsOf, namesOf, tables}
-use Rattle·text_tables.proofs.Appearance.{ids-by-first-appearance}
-use Rattle·text_tables.proofs.Carried.{EachName, labels-named, all-attributes, attributes-named, text-words-sound}
-use Rattle·fill_text·specs.specs.Filled.{distinctLabels, distinctNames, Placed, NamesReady, StringsLaid, WordsReady, AttributesReady, TextReady}
-use Rattle·fill_text·proofs.proofs.Going.{in-text}
+use Rattle.layout.specs.Layout.{Bytes, Word, Clean, Name, sequences, WellFormed}
+use Rattle.text_tables.specs.Distinct.{distinct}
+use Rattle.text_tables.specs.Tables.{flat, all_words, all_attributes, labels_of, names_of, tables}
+use Rattle.text_tables.proofs.Appearance.{ids_by_first_appearance}
+use Rattle.text_tables.proofs.Carried.{EachName, labels_named, all_attributes_lem, attributes_named, text_words_sound}
+use Rattle.fill_text.specs.Filled.{distinct_labels, distinct_names, Placed, NamesReady, StringsLaid, WordsReady, AttributesReady, TextReady}
+use Rattle.fill_text.proofs.Going.{in_text}
 
 -- ---- names are without tab and line feed
 clean : (n : Bytes) → Name n → Clean n
 clean [] h = absurd h
 clean (b ∷ n) h = h
 
-clean-at : (ns : List Bytes) → EachName ns → (i : ℕ) → i < length ns → Clean (getD ns i [])
-clean-at [] h i l = absurd (not-suc-le-zero l)
-clean-at (n ∷ ns) h zero l = clean n (h .0)
-clean-at (n ∷ ns) h (suc i) l = clean-at ns (h .1) i (le-of-suc-le-suc l)
+clean_at : (ns : List Bytes) → EachName ns → (i : ℕ) → i < length ns → Clean (get_or ns i [])
+clean_at [] h i l = absurd (not-suc-le-zero l)
+clean_at (n ∷ ns) h zero l = clean n h.0
+clean_at (n ∷ ns) h (suc i) l = clean_at ns h.1 i (le_of_suc-le-suc l)
 
-clean-distinct : (ns : List Bytes) → EachName ns → (i : ℕ) → i < length (distinct ns) → Clean (getD (distinct ns) i [])
-clean-distinct ns h i l = let o = ids-by-first-appearance ns .in-order i l in subst Clean (o .2) (clean-at ns h (o .0) (o .1))
+clean_distinct : (ns : List Bytes) → EachName ns → (i : ℕ) → i < length (distinct ns) → Clean (get_or (distinct ns) i [])
+clean_distinct ns h i l = let o = (ids_by_first_appearance ns).in_order i l in subst Clean o.2 (clean_at ns h o.0 o.1)
 
-module _ {text : Bytes} {labels : List ℕ} {labelCount : ℕ} {slots positions : List ℕ} {count : ℕ} {lineStarts wordStarts ids : List ℕ} {values : List Float} {references : List ℕ} {weights : List Float}
-    {labelStarts labelBytes nameStarts nameBytes scaleStarts scales : List ℕ}
-    (y : TextReady text labels labelCount slots positions count lineStarts wordStarts ids values references weights labelStarts labelBytes nameStarts nameBytes scaleStarts scales) where
-  pub labels-placed : (h : WellFormed text) → Placed text labels labelCount (distinctLabels (sequences (h .lines)))
-  labels-placed h = record {
-    knows = y .room h .words .knows;
-    clean = clean-distinct (labelsOf (allWords (sequences (h .lines)))) (labels-named (allWords (sequences (h .lines))) (text-words-sound (h .lines) (h .sound)));
+module _ {text : Bytes} {labels : List ℕ} {label_count : ℕ} {slots positions : List ℕ} {count : ℕ} {line_starts word_starts_of ids : List ℕ} {values : List Float} {references : List ℕ} {weights : List Float}
+    {label_starts_of label_bytes_of name_starts_of name_bytes_of scale_starts_of scales : List ℕ}
+    (y : TextReady text labels label_count slots positions count line_starts word_starts_of ids values references weights label_starts_of label_bytes_of name_starts_of name_bytes_of scale_starts_of scales) where
+  pub labels_placed : (h : WellFormed text) → Placed text labels label_count (distinct_labels (sequences h.lines))
+  labels_placed h = record {
+    knows = (y.room h).words.knows;
+    clean = clean_distinct (labels_of (all_words (sequences h.lines))) (labels_named (all_words (sequences h.lines)) (text_words_sound h.lines h.sound));
   }
 
-  pub names-placed : (h : WellFormed text) → Placed text positions count (distinctNames (sequences (h .lines)))
-  names-placed h = record {
-    knows = y .room h .attributes .knows;
-    clean = clean-distinct (namesOf (allAttributes (allWords (sequences (h .lines)))))
-        (attributes-named (allAttributes (allWords (sequences (h .lines)))) (all-attributes (allWords (sequences (h .lines))) (text-words-sound (h .lines) (h .sound))));
+  pub names_placed : (h : WellFormed text) → Placed text positions count (distinct_names (sequences h.lines))
+  names_placed h = record {
+    knows = (y.room h).attributes.knows;
+    clean = clean_distinct (names_of (all_attributes (all_words (sequences h.lines))))
+        (attributes_named (all_attributes (all_words (sequences h.lines))) (all_attributes_lem (all_words (sequences h.lines)) (text_words_sound h.lines h.sound)));
   }
 
-  pub labels-ready : NamesReady text labels labelCount labelStarts labelBytes
-  labels-ready = record {
-    known = distinctLabels (sequences (y .formed .lines));
-    placed = labels-placed (y .formed);
-    starts = y .room (y .formed) .labelStarts;
-    bytes = y .room (y .formed) .labelBytes;
-    small = le-trans (in-text (y .formed) .labelBytes) (y .small);
+  pub labels_ready : NamesReady text labels label_count label_starts_of label_bytes_of
+  labels_ready = record {
+    known = distinct_labels (sequences y.formed.lines);
+    placed = labels_placed y.formed;
+    starts = (y.room y.formed).label_starts_of;
+    bytes = (y.room y.formed).label_bytes_of;
+    small = le_trans (in_text y.formed).label_bytes_of y.small;
   }
 
-  pub names-ready : NamesReady text positions count nameStarts nameBytes
-  names-ready = record {
-    known = distinctNames (sequences (y .formed .lines));
-    placed = names-placed (y .formed);
-    starts = y .room (y .formed) .nameStarts;
-    bytes = y .room (y .formed) .nameBytes;
-    small = le-trans (in-text (y .formed) .nameBytes) (y .small);
+  pub names_ready : NamesReady text positions count name_starts_of name_bytes_of
+  names_ready = record {
+    known = distinct_names (sequences y.formed.lines);
+    placed = names_placed y.formed;
+    starts = (y.room y.formed).name_starts_of;
+    bytes = (y.room y.formed).name_bytes_of;
+    small = le_trans (in_text y.formed).name_bytes_of y.small;
   }
 
-  pub words-ready : WordsReady text labels labelCount lineStarts wordStarts references weights
-  words-ready = record { formed = y .formed; small = y .small; few = y .labelsFew; room = λ h. y .room h .words }
+  pub words_ready : WordsReady text labels label_count line_starts word_starts_of references weights
+  words_ready = record { formed = y.formed; small = y.small; few = y.labels_few; room = λ h. (y.room h).words }
 
-  pub attributes-ready : AttributesReady text slots positions count ids values scaleStarts scales
-  attributes-ready = record { formed = y .formed; small = y .small; few = y .few; tabled = y .tabled; room = λ h. y .room h .attributes }
+  pub attributes_ready : AttributesReady text slots positions count ids values scale_starts_of scales
+  attributes_ready = record { formed = y.formed; small = y.small; few = y.few; tabled = y.tabled; room = λ h. (y.room h).attributes }
 
 -- the tables' names are the distinct ones
-pub labels-are : (ss : List (List Word)) {s₀ b₀ s b : List ℕ} → StringsLaid (flat (distinctLabels ss)) s₀ b₀ s b → StringsLaid (tables ss .labels) s₀ b₀ s b
-labels-are ss g = unfold tables in g
+pub labels_are : (ss : List (List Word)) {s₀ b₀ s b : List ℕ} → StringsLaid (flat (distinct_labels ss)) s₀ b₀ s b → StringsLaid (tables ss).labels s₀ b₀ s b
+labels_are ss g = unfold tables in g
 
-pub names-are : (ss : List (List Word)) {s₀ b₀ s b : List ℕ} → StringsLaid (flat (distinctNames ss)) s₀ b₀ s b → StringsLaid (tables ss .names) s₀ b₀ s b
-names-are ss g = unfold tables in g
+pub names_are : (ss : List (List Word)) {s₀ b₀ s b : List ℕ} → StringsLaid (flat (distinct_names ss)) s₀ b₀ s b → StringsLaid (tables ss).names s₀ b₀ s b
+names_are ss g = unfold tables in g

@@ -1,24 +1,21 @@
 // The tables of a text that is known to be well-formed, filled: names from where they first stand, then words and attributes, each
 // in one pass over the pieces. Sizes and names are known, and every table has room.
-ghost use mathlib.Core.Path.{_≡_};
-ghost use mathlib.Core.Bool.{cond};
-ghost use mathlib.Core.List.{List, map};
-ghost use Prim.Native.Nat.{ℕ, _+_, _≤_, _<_};
-ghost use lib.ListN.{length, set};
-ghost use lib.Seq.{slice};
-ghost use Rattle·layout.specs.Layout.{Bytes, WellFormed, sequences};
-ghost use Rattle·scales.specs.Value.{valueOf};
-ghost use Rattle·text_tables.specs.Pieces.{Piece};
-ghost use Rattle·text_tables.specs.Tables.{flat, tables};
-ghost use Rattle·byte_buffers.specs.Stored.{RoomFor, Put};
-ghost use Rattle·pieces.specs.PieceText.{keptIn};
-ghost use Rattle·pieces.specs.Standing.{Stands};
-ghost use Rattle·fill_text·specs.specs.Filled.{Placed, NamesReady, StringsLaid, WordsReady, WordsLaid, AttributesReady, AttributesLaid, TextReady};
-ghost use Rattle·fill_text·specs.specs.OnePiece.{WordMay, WordBegun, WordPieceMay, WordPieceTaken, AttributeMay, AttributePut, KeptPieceMay, KeptPieceTaken};
-use pieces::Kind;
-use pieces::Span;
+ghost use Rattle.std.specs.Prelude.{◌≡◌, cond, List, map, ℕ, ◌+◌, ◌≤◌, ◌<◌, length, set};
+ghost use Rattle.std.proofs.Math.Seq.{slice};
+ghost use Rattle.layout.specs.Layout.{Bytes, WellFormed, sequences};
+ghost use Rattle.scales.specs.Value.{value_of};
+ghost use Rattle.text_tables.specs.Pieces.{Piece};
+ghost use Rattle.text_tables.specs.Tables.{flat, tables};
+ghost use Rattle.byte_buffers.specs.Stored.{RoomFor, Put};
+ghost use Rattle.pieces.specs.PieceText.{kept_in};
+ghost use Rattle.pieces.specs.Standing.{Stands};
+ghost use Rattle.fill_text.specs.Filled.{Placed, NamesReady, StringsLaid, WordsReady, WordsLaid, AttributesReady, AttributesLaid, TextReady};
+ghost use Rattle.fill_text.specs.OnePiece.{WordMay, WordBegun, WordPieceMay, WordPieceTaken, AttributeMay, AttributePut, KeptPieceMay, KeptPieceTaken};
+
+use pieces::{Kind, Span};
 
 // How much the tables of words hold so far, and whether a sequence is open.
+#[derive(Drop)]
 pub struct WordsSoFar {
     pub sequences: usize,
     pub words: usize,
@@ -27,6 +24,7 @@ pub struct WordsSoFar {
 }
 
 // How much the tables of attributes hold so far.
+#[derive(Drop)]
 pub struct KeptSoFar {
     pub attributes: usize,
     pub bytes: usize,
@@ -40,9 +38,9 @@ pub fn fill_names(
     starts: &mut [u32],
     bytes: &mut [u8],
 )
-    requires { ⌜ NamesReady (now text) (now positions) count (now starts) (now bytes) ⌝ }
-    ensures { λ _. ⌜ ((known : List Bytes) → Placed (now (text .entry)) (now (positions .entry)) count known
-        → StringsLaid (flat known) (now (starts .entry)) (now (bytes .entry)) (now (starts .exit)) (now (bytes .exit))) ⌝ }
+    requires { NamesReady text.now positions.now count starts.old bytes.old }
+    ensures { (known : List Bytes) → Placed text.now positions.now count known
+        → StringsLaid (flat known) starts.old bytes.old starts.new bytes.new }
 {
     let mut i = 0usize;
     let mut at = 0usize;
@@ -58,9 +56,9 @@ pub fn fill_names(
 
 // A sequence begins where none is open: its start is how many words there are.
 fn begin_line(line_starts: &mut [u32], sequences: usize, words: usize, within: bool) -> usize
-    requires { ⌜ (sequences < length (now «line_starts»)) × (sequences ≤ 4294967295) × (words ≤ 4294967295) ⌝ }
-    ensures { λ r. ⌜ (r ≡ cond within sequences (sequences + 1))
-        × (now («line_starts» .exit) ≡ cond within (now («line_starts» .entry)) (set (now («line_starts» .entry)) sequences words)) ⌝ }
+    requires { (sequences < length line_starts.old) × (sequences ≤ 4294967295) × (words ≤ 4294967295) }
+    ensures { (result ≡ cond within sequences (sequences + 1))
+        × (line_starts.new ≡ cond within line_starts.old (set line_starts.old sequences words)) }
 {
     if within {
         return sequences;
@@ -82,10 +80,10 @@ fn begin_word(
     word_starts: &mut [u32],
     references: &mut [u32],
 ) -> WordsSoFar
-    requires { ⌜ WordMay (now text) (now positions) count from split «so_far» (now «line_starts») (now «word_starts») (now references) ⌝ }
-    ensures { λ r. ⌜ WordBegun (now (text .entry)) (now (positions .entry)) count from «so_far»
-        (now («line_starts» .entry)) (now («word_starts» .entry)) (now (references .entry))
-        r (now («line_starts» .exit)) (now («word_starts» .exit)) (now (references .exit)) ⌝ }
+    requires { WordMay text.now positions.now count from split so_far line_starts.old word_starts.old references.old }
+    ensures { WordBegun text.now positions.now count from so_far
+        line_starts.old word_starts.old references.old
+        result line_starts.new word_starts.new references.new }
 {
     let words = so_far.words;
     let attributes = so_far.attributes;
@@ -112,10 +110,10 @@ fn word_piece(
     word_starts: &mut [u32],
     references: &mut [u32],
 ) -> WordsSoFar
-    requires { ⌜ WordPieceMay (now text) (now positions) count span «so_far» (now «line_starts») (now «word_starts») (now references) ⌝ }
-    ensures { λ r. ⌜ WordPieceTaken (now (text .entry)) (now (positions .entry)) count span «so_far»
-        (now («line_starts» .entry)) (now («word_starts» .entry)) (now (references .entry))
-        r (now («line_starts» .exit)) (now («word_starts» .exit)) (now (references .exit)) ⌝ }
+    requires { WordPieceMay text.now positions.now count span so_far line_starts.old word_starts.old references.old }
+    ensures { WordPieceTaken text.now positions.now count span so_far
+        line_starts.old word_starts.old references.old
+        result line_starts.new word_starts.new references.new }
 {
     let kind = span.kind;
     match kind {
@@ -155,10 +153,10 @@ pub fn fill_words(
     references: &mut [u32],
     weights: &mut [f64],
 )
-    requires { ⌜ WordsReady (now text) (now positions) count (now «line_starts») (now «word_starts») (now references) (now weights) ⌝ }
-    ensures { λ _. ⌜ ((h : WellFormed (now (text .entry))) → WordsLaid (tables (sequences (h .lines)))
-        (now («line_starts» .entry)) (now («word_starts» .entry)) (now (references .entry)) (now (weights .entry))
-        (now («line_starts» .exit)) (now («word_starts» .exit)) (now (references .exit)) (now (weights .exit))) ⌝ }
+    requires { WordsReady text.now positions.now count line_starts.old word_starts.old references.old weights.old }
+    ensures { (h : WellFormed text.now) → WordsLaid (tables (sequences h.lines))
+        line_starts.old word_starts.old references.old weights.old
+        line_starts.new word_starts.new references.new weights.new }
 {
     let mut cursor = pieces::start(text);
     let mut so_far = WordsSoFar {
@@ -191,8 +189,8 @@ pub fn fill_words(
 
 // The value of an attribute: that of its scale, or 1 without one.
 fn value_in(text: &[u8], span: Span) -> f64
-    requires { ⌜ ((p : Piece) × Stands (now text) span p) ⌝ }
-    ensures { λ r. ⌜ ((p : Piece) → Stands (now (text .entry)) span p → r ≡ valueOf (keptIn p)) ⌝ }
+    requires { (p : Piece) × Stands text.now span p }
+    ensures { (p : Piece) → Stands text.now span p → result ≡ value_of (kept_in p) }
 {
     let split = span.split;
     let to = span.to;
@@ -205,8 +203,8 @@ fn value_in(text: &[u8], span: Span) -> f64
 
 // The bytes between two places, written from `at` on; the place after them.
 fn keep(text: &[u8], from: usize, to: usize, scales: &mut [u8], at: usize) -> usize
-    requires { ⌜ (to ≤ length (now text)) × RoomFor (slice from to (now text)) (now scales) at ⌝ }
-    ensures { λ r. ⌜ Put (slice from to (now (text .entry))) (now (scales .entry)) at r (now (scales .exit)) ⌝ }
+    requires { (to ≤ length text.now) × RoomFor (slice from to text.now) scales.old at }
+    ensures { Put (slice from to text.now) scales.old at result scales.new }
 {
     let mut i = from;
     let mut k = at;
@@ -231,10 +229,10 @@ fn put_attribute(
     starts: &mut [u32],
     scales: &mut [u8],
 ) -> usize
-    requires { ⌜ AttributeMay (now text) (now slots) (now positions) count span «so_far» (now ids) (now values) (now starts) (now scales) ⌝ }
-    ensures { λ r. ⌜ AttributePut (now (text .entry)) (now (positions .entry)) count span «so_far»
-        (now (ids .entry)) (now (values .entry)) (now (starts .entry)) (now (scales .entry))
-        r (now (ids .exit)) (now (values .exit)) (now (starts .exit)) (now (scales .exit)) ⌝ }
+    requires { AttributeMay text.now slots.now positions.now count span so_far ids.old values.old starts.old scales.old }
+    ensures { AttributePut text.now positions.now count span so_far
+        ids.old values.old starts.old scales.old
+        result ids.new values.new starts.new scales.new }
 {
     let a = so_far.attributes;
     let at = so_far.bytes;
@@ -258,10 +256,10 @@ fn kept_piece(
     starts: &mut [u32],
     scales: &mut [u8],
 ) -> KeptSoFar
-    requires { ⌜ KeptPieceMay (now text) (now slots) (now positions) count span «so_far» (now ids) (now values) (now starts) (now scales) ⌝ }
-    ensures { λ r. ⌜ KeptPieceTaken (now (text .entry)) (now (positions .entry)) count span «so_far»
-        (now (ids .entry)) (now (values .entry)) (now (starts .entry)) (now (scales .entry))
-        r (now (ids .exit)) (now (values .exit)) (now (starts .exit)) (now (scales .exit)) ⌝ }
+    requires { KeptPieceMay text.now slots.now positions.now count span so_far ids.old values.old starts.old scales.old }
+    ensures { KeptPieceTaken text.now positions.now count span so_far
+        ids.old values.old starts.old scales.old
+        result ids.new values.new starts.new scales.new }
 {
     let kind = span.kind;
     match kind {
@@ -269,16 +267,7 @@ fn kept_piece(
         Kind::Label => so_far,
         Kind::Attribute => {
             let end = put_attribute(
-                text,
-                slots,
-                positions,
-                count,
-                span,
-                so_far,
-                ids,
-                values,
-                starts,
-                scales,
+                text, slots, positions, count, span, so_far, ids, values, starts, scales,
             );
             KeptSoFar {
                 attributes: so_far.attributes + 1,
@@ -299,10 +288,10 @@ pub fn fill_attributes(
     starts: &mut [u32],
     scales: &mut [u8],
 )
-    requires { ⌜ AttributesReady (now text) (now slots) (now positions) count (now ids) (now values) (now starts) (now scales) ⌝ }
-    ensures { λ _. ⌜ ((h : WellFormed (now (text .entry))) → AttributesLaid (tables (sequences (h .lines)))
-        (now (ids .entry)) (now (values .entry)) (now (starts .entry)) (now (scales .entry))
-        (now (ids .exit)) (now (values .exit)) (now (starts .exit)) (now (scales .exit))) ⌝ }
+    requires { AttributesReady text.now slots.now positions.now count ids.old values.old starts.old scales.old }
+    ensures { (h : WellFormed text.now) → AttributesLaid (tables (sequences h.lines))
+        ids.old values.old starts.old scales.old
+        ids.new values.new starts.new scales.new }
 {
     let mut cursor = pieces::start(text);
     let mut so_far = KeptSoFar {
@@ -312,16 +301,7 @@ pub fn fill_attributes(
     while cursor.at <= text.len() {
         let span = pieces::piece_at(text, cursor);
         so_far = kept_piece(
-            text,
-            slots,
-            positions,
-            count,
-            span,
-            so_far,
-            ids,
-            values,
-            starts,
-            scales,
+            text, slots, positions, count, span, so_far, ids, values, starts, scales,
         );
         cursor = pieces::after(text, span.to);
     }
@@ -351,17 +331,17 @@ pub fn fill(
     scale_starts: &mut [u32],
     scales: &mut [u8],
 )
-    requires { ⌜ TextReady (now text) (now labels) «label_count» (now slots) (now positions) count
-        (now «line_starts») (now «word_starts») (now ids) (now values) (now references) (now weights)
-        (now «label_starts») (now «label_bytes») (now «name_starts») (now «name_bytes») (now «scale_starts») (now scales) ⌝ }
-    ensures { λ _. ⌜ ((h : WellFormed (now (text .entry))) →
-        let t = tables (sequences (h .lines)) in
-        StringsLaid (t .labels) (now («label_starts» .entry)) (now («label_bytes» .entry)) (now («label_starts» .exit)) (now («label_bytes» .exit))
-        × StringsLaid (t .names) (now («name_starts» .entry)) (now («name_bytes» .entry)) (now («name_starts» .exit)) (now («name_bytes» .exit))
-        × WordsLaid t (now («line_starts» .entry)) (now («word_starts» .entry)) (now (references .entry)) (now (weights .entry))
-        (now («line_starts» .exit)) (now («word_starts» .exit)) (now (references .exit)) (now (weights .exit))
-        × AttributesLaid t (now (ids .entry)) (now (values .entry)) (now («scale_starts» .entry)) (now (scales .entry))
-        (now (ids .exit)) (now (values .exit)) (now («scale_starts» .exit)) (now (scales .exit))) ⌝ }
+    requires { TextReady text.now labels.now label_count slots.now positions.now count
+        line_starts.old word_starts.old ids.old values.old references.old weights.old
+        label_starts.old label_bytes.old name_starts.old name_bytes.old scale_starts.old scales.old }
+    ensures { (h : WellFormed text.now) →
+        let t = tables (sequences h.lines) in
+        StringsLaid t.labels label_starts.old label_bytes.old label_starts.new label_bytes.new
+        × StringsLaid t.names name_starts.old name_bytes.old name_starts.new name_bytes.new
+        × WordsLaid t line_starts.old word_starts.old references.old weights.old
+        line_starts.new word_starts.new references.new weights.new
+        × AttributesLaid t ids.old values.old scale_starts.old scales.old
+        ids.new values.new scale_starts.new scales.new }
 {
     fill_names(text, labels, label_count, label_starts, label_bytes);
     fill_names(text, positions, count, name_starts, name_bytes);

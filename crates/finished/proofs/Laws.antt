@@ -1,100 +1,100 @@
 -- Laws of 8: what the finite test of a front tells of it, a search whose places are counted on, and what the front of a longer buffer is found to be. Assumes nothing.
-use mathlib.Core.Path.{_≡_, refl, ap, _∙_}
+use mathlib.Core.Path.{◌≡◌, refl, ap, ◌∙◌}
 use mathlib.Core.Bool.{Bool, true, false, not, true≢false}
-use mathlib.Core.List.{List, _++_}
-use mathlib.Core.Logic.{_⊎_, inl, inr, ⊎-elim}
-use Prim.Native.Nat.{ℕ, zero, suc, _+_, _*_, _<_, _≤_}
+use mathlib.Core.List.{List, ◌++◌}
+use mathlib.Core.Logic.{◌⊎◌, inl, inr, ⊎_elim}
+use Prim.Native.Nat.{ℕ, zero, suc, ◌+◌, ◌*◌, ◌<◌, ◌≤◌}
 use native.Mathlib.Nat.{zero-add}
 use native.Mathlib.Omega.{arith}
 use lib.Dec.{T, ltb}
-use lib.ListN.{length, getD, drop, replicate, List·getD-append}
-use lib.Seq.{drop-at}
+use lib.ListN.{length, get_or, drop, replicate, get_or-append}
+use lib.Seq.{drop_at}
 use lib.Ieee.{Float, nan}
-use lib.Ieee.Bits.{is-true}
+use lib.Ieee.Bits.{is_true}
 use lib.Ieee.Scale.{finite}
-use Rattle·refusals.specs.declared.Checked.{Checked}
-use Rattle·refusals.specs.declared.Checked.the-variants.{Accepted, Refused}
-use Rattle·refusals.specs.Refusals.{refuse, refuseIn, orNext, lowest, lowestIn}
-use Rattle·refusals.specs.Tables.{notFinite}
-use Rattle·refusals.proofs.Laws.{Passed, found}
-use Rattle·refusals.proofs.Meant.{accepted-means, accepted-if}
-use Rattle·fronts.proofs.Finite.{all-finite-at, all-finite-if}
-use Rattle·binary64.specs.Numbers.{nought}
-use Rattle·lines.specs.Sound.{SoundWords}
-use Rattle·finished·specs.specs.Rows.{finishedChecked, placedAfter, scoresFinished}
-use Rattle·finished·specs.specs.Meaning.{TestAccepts}
-use Rattle·finished·specs.specs.After.{clearedWhere, contents}
-use Rattle·fronts.specs.Cleared.{cleared}
+use Rattle.refusals.specs.declared.Checked.{Checked}
+use Rattle.refusals.specs.declared.Checked.TheVariants.{Accepted, Refused}
+use Rattle.refusals.specs.Refusals.{refuse, refuse_in_of, or_next_of, lowest, lowest_in}
+use Rattle.refusals.specs.Tables.{not_finite}
+use Rattle.refusals.proofs.Laws.{Passed, found}
+use Rattle.refusals.proofs.Meant.{accepted_means, accepted_if}
+use Rattle.fronts.proofs.Finite.{all_finite_at, all_finite_if}
+use Rattle.binary64.specs.Numbers.{nought}
+use Rattle.lines.specs.Sound.{SoundWords}
+use Rattle.finished.specs.Rows.{finished_checked, placed_after, scores_finished}
+use Rattle.finished.specs.Meaning.{TestAccepts}
+use Rattle.finished.specs.After.{cleared_where, contents}
+use Rattle.fronts.specs.Cleared.{cleared}
 
 -- ---- the search and the finite test
-pub test-accepts : TestAccepts
-test-accepts numbers n = (
-  λ e. all-finite-if numbers n (λ i l. not-bad (finite (getD numbers i nan)) (accepted-means 8 0 (notFinite numbers) n e i l)),
-  λ e. accepted-if 8 0 (notFinite numbers) n (λ i l. ap not (is-true (finite (getD numbers i nan)) (all-finite-at numbers n e i l))),
+pub test_accepts : TestAccepts
+test_accepts numbers n = (
+  λ e. all_finite_if numbers n (λ i l. not_bad (finite (get_or numbers i nan)) (accepted_means 8 0 (not_finite numbers) n e i l)),
+  λ e. accepted_if 8 0 (not_finite numbers) n (λ i l. ap not (is_true (finite (get_or numbers i nan)) (all_finite_at numbers n e i l))),
 )
   where
-    not-bad : (b : Bool) → not b ≡ false → T b
-    not-bad true e = tt
-    not-bad false e = absurd (true≢false e)
+    not_bad : (b : Bool) → not b ≡ false → T b
+    not_bad true e = tt
+    not_bad false e = absurd (true≢false e)
 
-placed-refuse : (others i : ℕ) (b : Bool) → refuse 8 (others + i) b ≡ placedAfter others (refuse 8 i b)
-unfolding refuseIn
-placed-refuse others i true = refl
-placed-refuse others i false = refl
+placed_refuse : (others i : ℕ) (b : Bool) → refuse 8 (others + i) b ≡ placed_after others (refuse 8 i b)
+unfolding refuse_in_of
+placed_refuse others i true = refl
+placed_refuse others i false = refl
 
 -- the answer of a search that left its loop at i: A and B are the two ways out
 pub placed : {A B : Type 0} {i n : ℕ} {test : ℕ → Bool} {r : Checked} (others : ℕ) →
-    r ≡ orNext Accepted (refuse 8 (others + i) (ltb i n)) →
+    r ≡ or_next_of Accepted (refuse 8 (others + i) (ltb i n)) →
     Passed 8 test n i →
     (A → n ≤ i) →
     (B → (i < n) × (test i ≡ true)) →
     A ⊎ B →
-    r ≡ placedAfter others (lowest 8 test n)
-unfolding orNext
+    r ≡ placed_after others (lowest 8 test n)
+unfolding or_next_of
 placed {i = i} {n = n} others e p f g w =
-    e ∙ placed-refuse others i (ltb i n) ∙ ap (placedAfter others) (found p (⊎-elim (λ a. inl (f a)) (λ b. inr (g b)) w))
+    e ∙ placed_refuse others i (ltb i n) ∙ ap (placed_after others) (found p (⊎_elim (λ a. inl (f a)) (λ b. inr (g b)) w))
 
 -- after no others, places are as they are
-pub placed-first : (check : Checked) → placedAfter 0 check ≡ check
-placed-first Accepted = refl
-placed-first (Refused why) = let e : 0 + why .place ≡ why .place = zero-add (why .place) in rw e
+pub placed_first : (check : Checked) → placed_after 0 check ≡ check
+placed_first Accepted = refl
+placed_first (Refused why) = let e : 0 + why.place ≡ why.place = zero-add why.place in rw e
 
 -- ---- the front of a longer buffer
 
-lowest-same : (number : ℕ) (f g : ℕ → Bool) (n : ℕ) → ((i : ℕ) → i < n → f i ≡ g i) → lowest number f n ≡ lowest number g n
-unfolding lowestIn
-lowest-same number f g zero h = refl
-lowest-same number f g (suc n) h =
+lowest_same : (number : ℕ) (f g : ℕ → Bool) (n : ℕ) → ((i : ℕ) → i < n → f i ≡ g i) → lowest number f n ≡ lowest number g n
+unfolding lowest_in
+lowest_same number f g zero h = refl
+lowest_same number f g (suc n) h =
     let l : n < suc n = omega arith in
-    rw (lowest-same number f g n (λ i b. h i (omega arith)), h n l)
+    rw (lowest_same number f g n (λ i b. h i (omega arith)), h n l)
 
-pub front-checked : (front tail : List Float) (n : ℕ) → length front ≡ n → finishedChecked (front ++ tail) n ≡ finishedChecked front n
-front-checked front tail n e =
-    lowest-same 8 _ _ n (λ i l. ap (λ (x : Float). not (finite x)) (List·getD-append front tail nan i (omega (arith, e))))
+pub front_checked : (front tail : List Float) (n : ℕ) → length front ≡ n → finished_checked (front ++ tail) n ≡ finished_checked front n
+front_checked front tail n e =
+    lowest_same 8 _ _ n (λ i l. ap (λ (x : Float). not (finite x)) (get_or-append front tail nan i (omega (arith, e))))
 
-pub scores-front : (labels words : ℕ) (states transitions a b : List Float) → length states ≡ words * labels → length transitions ≡ labels * labels → scoresFinished labels words (states ++ a) (transitions ++ b) ≡ scoresFinished labels words states transitions
-unfolding scoresFinished
-scores-front labels words states transitions a b e d = rw (front-checked states a (words * labels) e, front-checked transitions b (labels * labels) d)
+pub scores_front : (labels words : ℕ) (states transitions a b : List Float) → length states ≡ words * labels → length transitions ≡ labels * labels → scores_finished labels words (states ++ a) (transitions ++ b) ≡ scores_finished labels words states transitions
+unfolding scores_finished
+scores_front labels words states transitions a b e d = rw (front_checked states a (words * labels) e, front_checked transitions b (labels * labels) d)
 
 -- a buffer that was made, and cleared where 8 is given, holds what the call promises
-pub contents-kept : (finished : Checked) (needed : ℕ) (before made : List Float) {table after : List Float} → length made ≡ needed → table ≡ made ++ drop needed before → after ≡ clearedWhere finished needed table → after ≡ contents Accepted finished nought needed before made
-contents-kept Accepted needed before made long t e = e ∙ t
-contents-kept (Refused why) needed before made long t e =
+pub contents_kept : (finished : Checked) (needed : ℕ) (before made : List Float) {table after : List Float} → length made ≡ needed → table ≡ made ++ drop needed before → after ≡ cleared_where finished needed table → after ≡ contents Accepted finished nought needed before made
+contents_kept Accepted needed before made long t e = e ∙ t
+contents_kept (Refused why) needed before made long t e =
     e
     ∙ ap (λ (l : List Float). replicate needed nought ++ drop needed l) t
-    ∙ ap (λ (l : List Float). replicate needed nought ++ l) (drop-at made (drop needed before) needed long)
+    ∙ ap (λ (l : List Float). replicate needed nought ++ l) (drop_at made (drop needed before) needed long)
 
 -- the line begins at the first word
-pub from-first : (words : ℕ) (starts ids : List ℕ) (values : List Float) → SoundWords words starts ids values → SoundWords (0 + words) starts ids values
-from-first words starts ids values s = rw (zero-add words) s
+pub from_first : (words : ℕ) (starts ids : List ℕ) (values : List Float) → SoundWords words starts ids values → SoundWords (0 + words) starts ids values
+from_first words starts ids values s = rw (zero-add words) s
 
 -- ---- as the code goes
 
 -- states, then transitions
-pub in-order : (labels words : ℕ) (states transitions : List Float) {these those r : Checked} → these ≡ placedAfter 0 (finishedChecked states (words * labels)) → those ≡ placedAfter (words * labels) (finishedChecked transitions (labels * labels)) → r ≡ orNext these those → r ≡ scoresFinished labels words states transitions
-unfolding scoresFinished orNext
-in-order labels words states transitions e f g = g ∙ rw (e, f, placed-first (finishedChecked states (words * labels)))
+pub in_order : (labels words : ℕ) (states transitions : List Float) {these those r : Checked} → these ≡ placed_after 0 (finished_checked states (words * labels)) → those ≡ placed_after (words * labels) (finished_checked transitions (labels * labels)) → r ≡ or_next_of these those → r ≡ scores_finished labels words states transitions
+unfolding scores_finished or_next_of
+in_order labels words states transitions e f g = g ∙ rw (e, f, placed_first (finished_checked states (words * labels)))
 
 -- a front whose length was computed
-pub cleared-to : {n : ℕ} (needed : ℕ) (before : List Float) {after : List Float} → n ≡ needed → after ≡ cleared nought n before → after ≡ cleared nought needed before
-cleared-to needed before p e = rw p at e
+pub cleared_to : {n : ℕ} (needed : ℕ) (before : List Float) {after : List Float} → n ≡ needed → after ≡ cleared nought n before → after ≡ cleared nought needed before
+cleared_to needed before p e = rw p at e

@@ -1,17 +1,14 @@
 -- What a result buffer holds after a call on a single line, accepted or refused. Assumes nothing.
-use mathlib.Core.List.{List, _++_}
-use Prim.Native.Nat.{ℕ}
-use lib.ListN.{drop}
-use lib.Ieee.{Float}
-use Rattle·refusals.specs.declared.Checked.{Checked}
-use Rattle·refusals.specs.declared.Checked.the-variants.{Accepted, Refused}
-use Rattle·fronts.specs.Cleared.{cleared}
-use Rattle·binary64.specs.Numbers.{nought}
+use Rattle.std.specs.Prelude.{List, ◌++◌, ℕ, drop, Float}
+use Rattle.refusals.specs.declared.Checked.{Checked}
+use Rattle.refusals.specs.declared.Checked.TheVariants.{Accepted, Refused}
+use Rattle.fronts.specs.Cleared.{cleared}
+use Rattle.binary64.specs.Numbers.{nought}
 
 -- numbers whose front is cleared where a check refuses
-abbrev pub clearedWhere : Checked → ℕ → List Float → List Float
-clearedWhere Accepted needed numbers = numbers
-clearedWhere (Refused why) needed numbers = cleared nought needed numbers
+abbrev pub cleared_where : Checked → ℕ → List Float → List Float
+cleared_where Accepted needed numbers = numbers
+cleared_where (Refused why) needed numbers = cleared nought needed numbers
 
 -- "After 1 to 7 .. every lent buffer holds its entry contents. After 8 .. the needed front of every result .. buffer is zero": `checked` is the first of 1 to 6 that applies, `finished` is 8, and `made` is what an accepted call makes for the needed front
 abbrev pub contents : {A : Type 0} → Checked → Checked → A → ℕ → List A → List A → List A

@@ -1,12 +1,9 @@
 -- What a call on a single line answers, in plain terms: 1, 4, 2, 12, 3, 5 and 6 beforehand and 8 afterwards, each exactly when document 01 gives it, and with which table and place. The proof for every such call is in proofs/Answers.
-use mathlib.Core.Path.{_≡_}
-use mathlib.Core.List.{List, [], _∷_}
-use mathlib.Core.Logic.{_↔_}
-use Prim.Native.Nat.{ℕ}
-use Rattle·score_tables.specs.Sound.{LabelsIn, WordsIn}
-use Rattle·refusal_rows.specs.Limits.{Limit, AllWithin, Fitting}
-use Rattle·refusal_rows.specs.Tests.{Test, AllGood, FirstBadOf}
-use Rattle·refusal_rows.specs.Given.{AtZero, BrokenAt, OneOf}
+use Rattle.std.specs.Prelude.{◌≡◌, List, [], ◌∷◌, ◌↔◌, ℕ}
+use Rattle.score_tables.specs.Sound.{LabelsIn, WordsIn}
+use Rattle.refusal_rows.specs.Limits.{Limit, AllWithin, Fitting}
+use Rattle.refusal_rows.specs.Tests.{Test, AllGood, FirstBadOf}
+use Rattle.refusal_rows.specs.Given.{AtZero, BrokenAt, OneOf}
 
 module _ (labels words : ℕ) (counts rooms : List Limit) (starts ids numbers : List Test) where
   -- nothing of 1, 4, 2, 12, 3, 5 and 6 applies

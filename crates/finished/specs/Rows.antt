@@ -1,25 +1,23 @@
 -- Document 01, "Numbered refusals", row 8 for a call on a single line: "a finished state or transition score or feature count is not finite". Assumes nothing.
-use mathlib.Core.List.{List, [], _∷_}
-use Prim.Native.Nat.{ℕ, _+_, _*_}
-use lib.Ieee.{Float}
-use Rattle·refusals.specs.declared.Checked.{Checked}
-use Rattle·refusals.specs.declared.Checked.the-variants.{Accepted, Refused}
-use Rattle·refusals.specs.Refusals.{refusedIn, lowest, first}
-use Rattle·refusals.specs.Tables.{notFinite}
+use Rattle.std.specs.Prelude.{List, [], ◌∷◌, ℕ, ◌+◌, ◌*◌, Float}
+use Rattle.refusals.specs.declared.Checked.{Checked}
+use Rattle.refusals.specs.declared.Checked.TheVariants.{Accepted, Refused}
+use Rattle.refusals.specs.Refusals.{refused_in_of, lowest, first}
+use Rattle.refusals.specs.Tables.{not_finite}
 
 -- 8 of the first n of a table, "in 8, the lowest index": for counts, whose place is the "feature id", there is nothing more
-abbrev pub finishedChecked : List Float → ℕ → Checked
-finishedChecked numbers n = lowest 8 (notFinite numbers) n
+abbrev pub finished_checked : List Float → ℕ → Checked
+finished_checked numbers n = lowest 8 (not_finite numbers) n
 
 -- the place is counted on from so many others
-abbrev pub placedAfter : ℕ → Checked → Checked
-placedAfter others Accepted = Accepted
-placedAfter others (Refused why) = refusedIn (why .number) (why .table) (others + why .place)
+abbrev pub placed_after : ℕ → Checked → Checked
+placed_after others Accepted = Accepted
+placed_after others (Refused why) = refused_in_of why.number why.table (others + why.place)
 
 -- 8 of a line's scores | "t·L+l, then T·L+prev·L+next"
-unfoldable pub scoresFinished : ℕ → ℕ → List Float → List Float → Checked
-scoresFinished labels words states transitions =
+unfoldable pub scores_finished : ℕ → ℕ → List Float → List Float → Checked
+scores_finished labels words states transitions =
     first
-    (finishedChecked states (words * labels)
-    ∷ placedAfter (words * labels) (finishedChecked transitions (labels * labels))
+    (finished_checked states (words * labels)
+    ∷ placed_after (words * labels) (finished_checked transitions (labels * labels))
     ∷ [])

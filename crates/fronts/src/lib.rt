@@ -1,16 +1,14 @@
 // The needed front of a lent table, whichever the call: whether its numbers are finite, and filling or zeroing it. What lies
 // behind is not touched.
-ghost use mathlib.Core.Path.{_≡_};
-ghost use Prim.Native.Nat.{_+_, _≤_};
-ghost use lib.ListN.{length};
-ghost use Rattle·fronts·specs.specs.Finite.{allFinite};
-ghost use Rattle·fronts·specs.specs.Cleared.{cleared};
+ghost use Rattle.std.specs.Prelude.{◌≡◌, ◌+◌, ◌≤◌, length};
+ghost use Rattle.fronts.specs.Finite.{all_finite_of};
+ghost use Rattle.fronts.specs.Cleared.{cleared};
 
 // Both halves of a front are finite. One comparison tells of two entries, and the loop has no way out in the middle: it costs
 // less than half of a branch at each entry.
 fn halves_finite(table: &[f64], half: usize) -> bool
-    requires { ⌜ half + half ≤ length (now table) ⌝ }
-    ensures { λ r. ⌜ r ≡ allFinite (now (table .entry)) (half + half) ⌝ }
+    requires { half + half ≤ length table.now }
+    ensures { result ≡ all_finite_of table.now (half + half) }
 {
     let mut all = true;
     let mut i = 0usize;
@@ -23,8 +21,8 @@ fn halves_finite(table: &[f64], half: usize) -> bool
 
 // The first n are finite: two halves, and an odd last one.
 pub fn all_finite(table: &[f64], n: usize) -> bool
-    requires { ⌜ n ≤ length (now table) ⌝ }
-    ensures { λ r. ⌜ r ≡ allFinite (now (table .entry)) n ⌝ }
+    requires { n ≤ length table.now }
+    ensures { result ≡ all_finite_of table.now n }
 {
     let half = n / 2;
     let even = half + half;
@@ -37,8 +35,8 @@ pub fn all_finite(table: &[f64], n: usize) -> bool
 
 // The first n become the value: scores, counts, weights and running sums start at 0, the covariance at the variance.
 pub fn fill(table: &mut [f64], n: usize, value: f64)
-    requires { ⌜ n ≤ length (now table) ⌝ }
-    ensures { λ _. ⌜ now (table .exit) ≡ cleared value n (now (table .entry)) ⌝ }
+    requires { n ≤ length table.old }
+    ensures { table.new ≡ cleared value n table.old }
 {
     let mut i = 0usize;
     while i < n {
@@ -49,8 +47,8 @@ pub fn fill(table: &mut [f64], n: usize, value: f64)
 
 // The first n of a path or of an order become 0.
 pub fn clear(order: &mut [u32], n: usize)
-    requires { ⌜ n ≤ length (now order) ⌝ }
-    ensures { λ _. ⌜ now (order .exit) ≡ cleared 0 n (now (order .entry)) ⌝ }
+    requires { n ≤ length order.old }
+    ensures { order.new ≡ cleared 0 n order.old }
 {
     let mut i = 0usize;
     while i < n {

@@ -1,6 +1,5 @@
 -- SplitMix64 "as in the public-domain splitmix64.c, which decides", on numbers below 2 ^ 64. Assumes nothing.
-use Prim.Native.Nat.{ℕ, _+_, _*_, _/_, _%_, _^_}
-use lib.Bits.{bitXor}
+use Rattle.std.specs.Prelude.{ℕ, ◌+◌, ◌*◌, ◌/◌, ◌%◌, ◌^◌, bit_xor}
 
 -- "Sums and products wrap at 64 bits"
 abbrev pub wrapped : ℕ → ℕ → ℕ
@@ -8,7 +7,7 @@ wrapped a b = (a * b) % 2 ^ 64
 
 -- z ^ (z >> k)
 abbrev pub folded : ℕ → ℕ → ℕ
-folded k z = bitXor z (z / 2 ^ k)
+folded k z = bit_xor z (z / 2 ^ k)
 
 -- the state after a draw: "constants 9E3779B97F4A7C15"
 abbrev pub advanced : ℕ → ℕ

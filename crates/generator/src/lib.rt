@@ -1,11 +1,11 @@
 // The generator's room: what the shuffle draws from. `draw` is lent the generator and advances it; `draw_from` is a draw with plain numbers in and out.
-ghost use mathlib.Core.Path.{_≡_};
-ghost use Rattle·generator·specs.specs.SplitMix64.{folded, wrapped, advanced, mixed};
-ghost use Rattle·generator·specs.specs.Draw.{next, number};
+ghost use Rattle.std.specs.Prelude.{◌≡◌};
+ghost use Rattle.generator.specs.SplitMix64.{folded, wrapped, advanced, mixed};
+ghost use Rattle.generator.specs.Draw.{next, number};
 
 // a · b, wrapped at 64 bits: the language has no wrapping product, so it is made of halves of 32 bits.
 pub fn wrapping_mul(a: u64, b: u64) -> u64
-    ensures { λ r. ⌜ r ≡ wrapped a b ⌝ }
+    ensures { result ≡ wrapped a b }
 {
     let a0 = a % 4294967296;
     let a1 = a / 4294967296;
@@ -17,14 +17,14 @@ pub fn wrapping_mul(a: u64, b: u64) -> u64
 
 // The state after a draw.
 pub fn advance(state: u64) -> u64
-    ensures { λ r. ⌜ r ≡ advanced state ⌝ }
+    ensures { result ≡ advanced state }
 {
     std::num::wrapping_add_u64(state, 0x9E3779B97F4A7C15)
 }
 
 // The number that is drawn at a state that was advanced.
 pub fn mix(z: u64) -> u64
-    ensures { λ r. ⌜ r ≡ mixed z ⌝ }
+    ensures { result ≡ mixed z }
 {
     let a = wrapping_mul(z ^ (z >> 30), 0xBF58476D1CE4E5B9);
     let b = wrapping_mul(a ^ (a >> 27), 0x94D049BB133111EB);
@@ -32,11 +32,13 @@ pub fn mix(z: u64) -> u64
 }
 
 // "The generator's state goes from epoch to epoch", so the generator is lent and not copied.
+#[derive(Drop)]
 pub struct Generator {
     pub state: u64,
 }
 
 // What a draw gives: the number, and the state to go on with.
+#[derive(Drop)]
 pub struct Drawn {
     pub number: u64,
     pub state: u64,
@@ -44,7 +46,7 @@ pub struct Drawn {
 
 // A draw: the generator is advanced, and the number is mixed from its new state.
 pub fn draw(generator: &mut Generator) -> u64
-    ensures { λ r. ⌜ (r ≡ number (now (generator .entry) .state)) × (now (generator .exit) .state ≡ next (now (generator .entry) .state)) ⌝ }
+    ensures { (result ≡ number generator.old.state) × (generator.new.state ≡ next generator.old.state) }
 {
     let before = generator.state;
     let after = advance(before);
@@ -54,7 +56,7 @@ pub fn draw(generator: &mut Generator) -> u64
 
 // A draw for callers that hold the state as a number: a generator is made at it, lent to `draw`, and read afterwards.
 pub fn draw_from(state: u64) -> Drawn
-    ensures { λ r. ⌜ (r .number ≡ number state) × (r .state ≡ next state) ⌝ }
+    ensures { (result.number ≡ number state) × (result.state ≡ next state) }
 {
     let mut generator = Generator { state: state };
     let number = draw(&mut generator);

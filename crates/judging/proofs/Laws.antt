@@ -1,44 +1,44 @@
 -- Laws of counting wrong labels, and what judging one instance relies on. Assumes nothing.
-use mathlib.Core.Path.{_≡_, refl, sym, ap, _∙_}
-use mathlib.Core.Bool.{Bool, true, false, cond, _&&_, false≢true}
+use mathlib.Core.Path.{◌≡◌, refl, sym, ap, ◌∙◌}
+use mathlib.Core.Bool.{Bool, true, false, cond, ◌&&◌, false≢true}
 use mathlib.Core.List.{List}
-use Prim.Native.Nat.{ℕ, _+_, _≤_}
+use Prim.Native.Nat.{ℕ, ◌+◌, ◌≤◌}
 use native.Mathlib.Omega.{arith}
-use borrow.Author.Tests.{eq-eqb, ne-eqb}
+use borrow.Author.Tests.{eq-eqb, ne_eqb}
 use lib.Dec.{eqb}
-use lib.ListN.{getD, length}
+use lib.ListN.{get_or, length}
 use lib.Ieee.{Float}
-use Rattle·refusals.specs.declared.Checked.the-variants.{Accepted}
-use Rattle·refusals.proofs.Laws.{never}
-use Rattle·refusals.proofs.Said.{refused-said, accepted-said}
-use Rattle·lines.specs.Passes.{through}
-use Rattle·lines.proofs.Laws.{through-more}
-use Rattle·best_path.specs.Scores.{tabled}
-use Rattle·best_path.specs.Decoded.{decodedPath}
-use Rattle·best_path.specs.PathScore.{pathScore}
-use Rattle·best_path.proofs.Laws.{decoded-allowed}
-use Rattle·sequence_score.specs.Sound.{Met}
-use Rattle·viterbi.specs.declared.Decoding.{Decoding}
-use Rattle·finished.specs.Rows.{scoresFinished}
-use Rattle·finished.proofs.Meant.{tests-accept}
-use Rattle·fronts.proofs.Filled.{all-of}
-use Rattle·training.specs.Wrong.{wrongAt, wrongOf}
-use Rattle·judging·specs.specs.Judged.{isDecoded, Judgeable, Judged, finiteScores}
+use Rattle.refusals.specs.declared.Checked.TheVariants.{Accepted}
+use Rattle.refusals.proofs.Laws.{never}
+use Rattle.refusals.proofs.Said.{refused_said, accepted_said}
+use Rattle.lines.specs.Passes.{through}
+use Rattle.lines.proofs.Laws.{through_more}
+use Rattle.best_path.specs.Scores.{tabled}
+use Rattle.best_path.specs.Decoded.{decoded_path}
+use Rattle.best_path.specs.PathScore.{path_score}
+use Rattle.best_path.proofs.Laws.{decoded_allowed}
+use Rattle.sequence_score.specs.Sound.{Met}
+use Rattle.viterbi.specs.declared.Decoding.{Decoding}
+use Rattle.finished.specs.Rows.{scores_finished}
+use Rattle.finished.proofs.Meant.{tests_accept}
+use Rattle.fronts.proofs.Filled.{all_of}
+use Rattle.training.specs.Wrong.{wrong_at, wrong_of}
+use Rattle.judging.specs.Judged.{is_decoded_of, Judgeable, Judged, finite_scores}
 
 module _ (p q : List ℕ) where
-  pub wrong-none : 0 ≡ wrongOf p q 0
-  unfolding wrongOf through
-  wrong-none = refl
+  pub wrong_none : 0 ≡ wrong_of p q 0
+  unfolding wrong_of through
+  wrong_none = refl
 
-  wrong-more : (word : ℕ) → wrongOf p q (word + 1) ≡ cond (eqb (getD p word 0) (getD q word 0)) (wrongOf p q word) (wrongOf p q word + 1)
-  unfolding wrongOf wrongAt
-  wrong-more word = through-more (wrongAt p q) word 0
+  wrong_more : (word : ℕ) → wrong_of p q (word + 1) ≡ cond (eqb (get_or p word 0) (get_or q word 0)) (wrong_of p q word) (wrong_of p q word + 1)
+  unfolding wrong_of wrong_at
+  wrong_more word = through_more (wrong_at p q) word 0
 
-  pub wrong-same : (word : ℕ) {n : ℕ} → n ≡ wrongOf p q word → getD p word 0 ≡ getD q word 0 → n ≡ wrongOf p q (word + 1)
-  wrong-same word e h = e ∙ sym (wrong-more word ∙ rw (eq-eqb (getD p word 0) (getD q word 0) h))
+  pub wrong_same : (word : ℕ) {n : ℕ} → n ≡ wrong_of p q word → get_or p word 0 ≡ get_or q word 0 → n ≡ wrong_of p q (word + 1)
+  wrong_same word e h = e ∙ sym (wrong_more word ∙ rw (eq-eqb (get_or p word 0) (get_or q word 0) h))
 
-  pub wrong-other : (word : ℕ) {n : ℕ} → n ≡ wrongOf p q word → (getD p word 0 ≡ getD q word 0 → ⊥) → n + 1 ≡ wrongOf p q (word + 1)
-  wrong-other word e h = ap (λ (k : ℕ). k + 1) e ∙ sym (wrong-more word ∙ rw (ne-eqb (getD p word 0) (getD q word 0) h))
+  pub wrong_other : (word : ℕ) {n : ℕ} → n ≡ wrong_of p q word → (get_or p word 0 ≡ get_or q word 0 → ⊥) → n + 1 ≡ wrong_of p q (word + 1)
+  wrong_other word e h = ap (λ (k : ℕ). k + 1) e ∙ sym (wrong_more word ∙ rw (ne_eqb (get_or p word 0) (get_or q word 0) h))
 
 -- two tests that hold together
 pub both : (p q : Bool) → p && q ≡ true → (p ≡ true) × (q ≡ true)
@@ -51,43 +51,43 @@ unless true h = absurd (h refl)
 
 module _ {labels words : ℕ} {references : List ℕ} {transitions states : List Float} {path : List ℕ} where
   -- what 8 says of the scores is what the finite tests say
-  pub decoded-finite : (answer : Decoding) → Judgeable labels words references transitions states path answer → isDecoded answer ≡ finiteScores labels words transitions states
-  decoded-finite (Decoding.Decoded found) s = sym (tests-accept labels words states transitions .0 (accepted-said _ _ _ (sym (s .labelled .answers))))
-  decoded-finite (Decoding.Refused why) s =
-      unless _ (λ t. never (tests-accept labels words states transitions .1 t) (refused-said _ _ why .0 (sym (s .labelled .answers))))
+  pub decoded_finite : (answer : Decoding) → Judgeable labels words references transitions states path answer → is_decoded_of answer ≡ finite_scores labels words transitions states
+  decoded_finite (Decoding.Decoded found) s = sym ((tests_accept labels words states transitions).0 (accepted_said _ _ _ (sym s.labelled.answers)))
+  decoded_finite (Decoding.Refused why) s =
+      unless _ (λ t. never ((tests_accept labels words states transitions).1 t) ((refused_said _ _ why).0 (sym s.labelled.answers)))
 
   -- the path is the decoded one
-  pub path-is : (answer : Decoding) → isDecoded answer ≡ true → Judgeable labels words references transitions states path answer → path ≡ decodedPath (tabled labels transitions states) words
-  path-is (Decoding.Refused why) t s = absurd (false≢true t)
-  path-is (Decoding.Decoded found) t s =
-      let e : scoresFinished labels words states transitions ≡ Accepted = accepted-said _ _ _ (sym (s .labelled .answers)) in
-      rw e at (s .labelled .path) ∙ all-of _ _ _ (s .long-before)
+  pub path_is : (answer : Decoding) → is_decoded_of answer ≡ true → Judgeable labels words references transitions states path answer → path ≡ decoded_path (tabled labels transitions states) words
+  path_is (Decoding.Refused why) t s = absurd (false≢true t)
+  path_is (Decoding.Decoded found) t s =
+      let e : scores_finished labels words states transitions ≡ Accepted = accepted_said _ _ _ (sym s.labelled.answers) in
+      rw e at s.labelled.path ∙ all_of _ _ _ s.long_before
 
 module _ {labels words : ℕ} {references : List ℕ} {transitions states : List Float} {path : List ℕ} {answer : Decoding} (s : Judgeable labels words references transitions states path answer) where
   -- the reference labels meet entries of the tables, and so do those of the predicted path
-  pub true-met : Met labels transitions states references words
-  true-met = record {
-    long-path = omega (arith, s);
-    long-states = omega (arith, s);
-    long-transitions = omega (arith, s);
-    below = s .below;
+  pub true_met : Met labels transitions states references words
+  true_met = record {
+    long_path = omega (arith, s);
+    long_states = omega (arith, s);
+    long_transitions = omega (arith, s);
+    below = s.below;
   }
 
-  pub predicted-met : path ≡ decodedPath (tabled labels transitions states) words → Met labels transitions states path words
-  predicted-met e =
-      let a = decoded-allowed (tabled labels transitions states) (s .labels-in .low) words (s .words-in .low) in
+  pub predicted_met : path ≡ decoded_path (tabled labels transitions states) words → Met labels transitions states path words
+  predicted_met e =
+      let a = decoded_allowed (tabled labels transitions states) s.labels_in.low words s.words_in_lem.low in
       rw e (record {
-        long-path = omega (arith, a .long);
-        long-states = omega (arith, s);
-        long-transitions = omega (arith, s);
-        below = a .labels;
+        long_path = omega (arith, a.long);
+        long_states = omega (arith, s);
+        long_transitions = omega (arith, s);
+        below = a.labels;
       })
 
-  pub path-long : path ≡ decodedPath (tabled labels transitions states) words → words ≤ length path
-  path-long e = predicted-met e .long-path
+  pub path_long : path ≡ decoded_path (tabled labels transitions states) words → words ≤ length path
+  path_long e = (predicted_met e).long_path
 
 -- 8 for the scores: there is nothing else to know
-pub unscored : {labels words : ℕ} {transitions states : List Float} {references after : List ℕ} (x y : Float) → finiteScores labels words transitions states ≡ false → Judged labels words transitions states references after (record { finite = false; wrong = 0; reached = x; wanted = y })
+pub unscored : {labels words : ℕ} {transitions states : List Float} {references after : List ℕ} (x y : Float) → finite_scores labels words transitions states ≡ false → Judged labels words transitions states references after (record { finite = false; wrong = 0; reached = x; wanted = y })
 unscored x y e = record {
   finite = sym e;
   path = λ t. absurd (false≢true t);
@@ -99,7 +99,7 @@ unscored x y e = record {
 
 module _ {labels words : ℕ} {transitions states : List Float} {references after : List ℕ} where
   -- the labels agree: the path scores are not looked at
-  pub agreed : (x y : Float) {n : ℕ} → finiteScores labels words transitions states ≡ true → after ≡ decodedPath (tabled labels transitions states) words → n ≡ wrongOf after references words → n ≡ 0 → Judged labels words transitions states references after (record { finite = true; wrong = 0; reached = x; wanted = y })
+  pub agreed : (x y : Float) {n : ℕ} → finite_scores labels words transitions states ≡ true → after ≡ decoded_path (tabled labels transitions states) words → n ≡ wrong_of after references words → n ≡ 0 → Judged labels words transitions states references after (record { finite = true; wrong = 0; reached = x; wanted = y })
   agreed x y f p w z = record {
     finite = sym f;
     path = λ _. p;
@@ -110,7 +110,7 @@ module _ {labels words : ℕ} {transitions states : List Float} {references afte
   }
 
   -- they differ
-  pub differed : {x y : Float} {n : ℕ} → finiteScores labels words transitions states ≡ true → after ≡ decodedPath (tabled labels transitions states) words → n ≡ wrongOf after references words → n ≤ 128 → x ≡ pathScore (tabled labels transitions states) after words → y ≡ pathScore (tabled labels transitions states) references words → Judged labels words transitions states references after (record { finite = true; wrong = n; reached = x; wanted = y })
+  pub differed : {x y : Float} {n : ℕ} → finite_scores labels words transitions states ≡ true → after ≡ decoded_path (tabled labels transitions states) words → n ≡ wrong_of after references words → n ≤ 128 → x ≡ path_score (tabled labels transitions states) after words → y ≡ path_score (tabled labels transitions states) references words → Judged labels words transitions states references after (record { finite = true; wrong = n; reached = x; wanted = y })
   differed f p w h r q = record {
     finite = sym f;
     path = λ _. p;

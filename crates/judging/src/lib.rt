@@ -1,13 +1,13 @@
 // What a visit has to know of an instance that was labelled: 8 of its scores, the predicted path beside the reference, and their
 // path scores.
-ghost use mathlib.Core.Path.{_≡_};
-ghost use Prim.Native.Nat.{_≤_};
-ghost use lib.ListN.{length};
-ghost use Rattle·training.specs.Wrong.{wrongOf};
-ghost use Rattle·judging·specs.specs.Judged.{isDecoded, Judged, Judgeable};
+ghost use Rattle.std.specs.Prelude.{◌≡◌, ◌≤◌, length};
+ghost use Rattle.training.specs.Wrong.{wrong_of};
+ghost use Rattle.judging.specs.Judged.{is_decoded_of, Judged, Judgeable};
+
 use viterbi::Decoding;
 
 // Whether the scores are finite, how many labels are wrong, and where some are, the scores of the predicted and the true path.
+#[derive(Drop)]
 pub struct Prediction {
     pub finite: bool,
     pub wrong: u32,
@@ -17,8 +17,8 @@ pub struct Prediction {
 
 // In how many words two paths differ.
 fn count_wrong(path: &[u32], references: &[u32], words: usize) -> u32
-    requires { ⌜ (words ≤ 128) × (words ≤ length (now path)) × (words ≤ length (now references)) ⌝ }
-    ensures { λ r. ⌜ (r ≡ wrongOf (now (path .entry)) (now (references .entry)) words) × (r ≤ words) ⌝ }
+    requires { (words ≤ 128) × (words ≤ length path.now) × (words ≤ length references.now) }
+    ensures { (result ≡ wrong_of path.now references.now words) × (result ≤ words) }
 {
     let mut wrong = 0u32;
     let mut word = 0usize;
@@ -33,7 +33,7 @@ fn count_wrong(path: &[u32], references: &[u32], words: usize) -> u32
 
 // No 8 was given for the scores.
 fn is_decoded(answer: Decoding) -> bool
-    ensures { λ r. ⌜ r ≡ isDecoded answer ⌝ }
+    ensures { result ≡ is_decoded_of answer }
 {
     match answer {
         Decoding::Decoded(_) => true,
@@ -51,8 +51,8 @@ pub fn judge(
     path: &[u32],
     answer: Decoding,
 ) -> Prediction
-    requires { ⌜ Judgeable labels words (now references) (now transitions) (now states) (now path) answer ⌝ }
-    ensures { λ r. ⌜ Judged labels words (now (transitions .entry)) (now (states .entry)) (now (references .entry)) (now (path .entry)) r ⌝ }
+    requires { Judgeable labels words references.now transitions.now states.now path.now answer }
+    ensures { Judged labels words transitions.now states.now references.now path.now result }
 {
     let finite = is_decoded(answer);
     if !finite {

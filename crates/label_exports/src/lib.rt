@@ -1,13 +1,14 @@
 // Score, then decode: the labels of a line, for programs in C and Rust. One call of the crate label_line, and its answer as
 // numbers.
-ghost use Rattle·lines.specs.Entry.{lineWas};
-ghost use Rattle·feature_gen.specs.Lent.{modelWas};
-ghost use Rattle·label_exports·specs.specs.Labels.{Labels};
+ghost use Rattle.lines.specs.Entry.{line_was};
+ghost use Rattle.feature_gen.specs.Lent.{model_was};
+ghost use Rattle.label_exports.specs.Labels.{Labels};
+
 use answers::decoding::Decoded;
 use feature_gen::Counts;
 
 // The labels of a line, in the front of `path`, with their sum and lead.
-#[no_mangle]
+#[unsafe(no_mangle)]
 pub extern "C" fn bodkinbloom_label_line(
     labels: u32,
     counts: Counts,
@@ -26,10 +27,9 @@ pub extern "C" fn bodkinbloom_label_line(
     values: &[f64],
     path: &mut [u32],
 ) -> Decoded
-    ensures { λ r.
-        let m = modelWas labels counts kinds destinations sources «attribute_starts» «attribute_entries» «label_starts» «label_entries» in
-        let line = lineWas attributes «word_starts» ids values in
-        ⌜ Labels (record { model = m; weights = now (weights .entry); words = words; line = line }) (now (path .entry)) (record { answer = r; path = now (path .exit) }) ⌝ }
+    ensures { let m = model_was labels counts kinds destinations sources attribute_starts attribute_entries label_starts label_entries in
+        let line = line_was attributes word_starts ids values in
+        Labels (record { model = m; weights = weights.now; words = words; line = line }) path.old (record { answer = result; path = path.new }) }
 {
     let answer = label_line::label_line(
         labels,

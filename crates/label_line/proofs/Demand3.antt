@@ -1,43 +1,43 @@
 -- What labelling a line answers is best, as demand 3 says. Assumes nothing.
-use mathlib.Core.Path.{_≡_, sym, ap, _∙_}
+use mathlib.Core.Path.{◌≡◌, sym, ap, ◌∙◌}
 use lib.ListN.{length, take, drop}
-use lib.Seq.{take-at}
-use Rattle·refusals.specs.declared.Checked.the-variants.{Accepted}
-use Rattle·refusals.specs.Refusals.{orNext}
-use Rattle·refusals.proofs.Laws.{both}
-use Rattle·refusals.proofs.Said.{same-given, accepted-said}
-use Rattle·best_path.specs.Scores.{AllFinite}
-use Rattle·best_path.specs.Decoded.{decodedPath, decodedSum}
-use Rattle·best_path.proofs.Laws.{decoded-length}
-use Rattle·best_path.proofs.Demand3.{demand-3}
-use Rattle·score_tables.proofs.Laws.{within}
-use Rattle·viterbi.specs.Promise.{SumAndLead}
-use Rattle·finished.proofs.Meant.{scores-mean}
-use Rattle·compute_scores.specs.Promise.{Given, statesOfLine, transitionsOfLine, scoresFinishedOf}
-use Rattle·label_line·specs.specs.Promise.{scoresOfLine, checkedOf, answerTo, labelsAfter}
-use Rattle·label_line·specs.specs.Demand3.{AnswersAreBest}
-use Rattle·label_line·proofs.proofs.Meant.{checks-mean}
+use lib.Seq.{take_at}
+use Rattle.refusals.specs.declared.Checked.TheVariants.{Accepted}
+use Rattle.refusals.specs.Refusals.{or_next_of}
+use Rattle.refusals.proofs.Laws.{both}
+use Rattle.refusals.proofs.Said.{same_given, accepted_said}
+use Rattle.best_path.specs.Scores.{AllFinite}
+use Rattle.best_path.specs.Decoded.{decoded_path, decoded_sum}
+use Rattle.best_path.proofs.Laws.{decoded_length}
+use Rattle.best_path.proofs.Demand3.{demand_3}
+use Rattle.score_tables.proofs.Laws.{within}
+use Rattle.viterbi.specs.Promise.{SumAndLead}
+use Rattle.finished.proofs.Meant.{scores_mean}
+use Rattle.compute_scores.specs.Promise.{Given, states_of_line, transitions_of_line, scores_finished_of}
+use Rattle.label_line.specs.Promise.{scores_of_line, checked_of, answer_to, labels_after}
+use Rattle.label_line.specs.Demand3.{AnswersAreBest}
+use Rattle.label_line.proofs.Meant.{checks_mean}
 
 -- 8 was not given: every score is finite
-pub all-finite : (given : Given) → scoresFinishedOf given ≡ Accepted → AllFinite (scoresOfLine given) (given .words)
-all-finite given h =
-    let labels = given .model .labels in
-    let f = scores-mean labels (given .words) (statesOfLine given) (transitionsOfLine given) .accepted .0 h in
+pub all_finite : (given : Given) → scores_finished_of given ≡ Accepted → AllFinite (scores_of_line given) given.words
+all_finite given h =
+    let labels = given.model.labels in
+    let f = (scores_mean labels given.words (states_of_line given) (transitions_of_line given)).accepted.0 h in
     record {
-      states = λ word label w l. f .0 _ (within (given .words) labels word label w l);
-      transitions = λ previous label p l. f .1 _ (within labels labels previous label p l);
+      states = λ word label w l. f.0 _ (within given.words labels word label w l);
+      transitions = λ previous label p l. f.1 _ (within labels labels previous label p l);
     }
 
-pub answers-are-best : AnswersAreBest
-unfolding answerTo labelsAfter
-answers-are-best given before outcome kept sum l answer =
-    let s = scoresOfLine given in
-    let words = given .words in
-    let said-so = sym (kept .answers) ∙ answer in
-    let all : orNext (checkedOf given before) (scoresFinishedOf given) ≡ Accepted = accepted-said _ (record { sum = sum; lead = l }) _ said-so in
-    let accepted = both (checkedOf given before) (scoresFinishedOf given) all in
-    let fine = checks-mean given (length before) .accepted .0 (accepted .0) in
-    let best = demand-3 s words (fine .0 .low) (fine .1 .0 .low) (all-finite given (accepted .1)) in
-    let front : take words (outcome .path) ≡ decodedPath s words = rw (kept .path, accepted .0, accepted .1) (take-at (decodedPath s words) (drop words before) words (decoded-length s words (fine .1 .0 .low))) in
-    let same : decodedSum s words ≡ sum = ap (λ (found : SumAndLead). found .sum) (same-given (rw all at said-so)) in
+pub answers_are_best : AnswersAreBest
+unfolding answer_to labels_after
+answers_are_best given before outcome kept sum l answer =
+    let s = scores_of_line given in
+    let words = given.words in
+    let said_so = sym kept.answers ∙ answer in
+    let all : or_next_of (checked_of given before) (scores_finished_of given) ≡ Accepted = accepted_said _ (record { sum = sum; lead = l }) _ said_so in
+    let accepted = both (checked_of given before) (scores_finished_of given) all in
+    let fine = (checks_mean given (length before)).accepted.0 accepted.0 in
+    let best = demand_3 s words fine.0.low fine.1.0.low (all_finite given accepted.1) in
+    let front : take words outcome.path ≡ decoded_path s words = rw (kept.path, accepted.0, accepted.1) (take_at (decoded_path s words) (drop words before) words (decoded_length s words fine.1.0.low)) in
+    let same : decoded_sum s words ≡ sum = ap (λ (found : SumAndLead). found.sum) (same_given (rw all at said_so)) in
     rw (front, ← same) best

@@ -1,36 +1,36 @@
 -- What labelling a line answers means what `LabellingMeans` says. Assumes nothing.
-use mathlib.Core.Path.{_≡_, refl, sym, ap, _∙_}
-use mathlib.Core.List.{List, [], _∷_, _++_}
-use mathlib.Core.Logic.{_↔_}
-use Prim.Native.Nat.{ℕ, _<_}
+use mathlib.Core.Path.{◌≡◌, refl, sym, ap, ◌∙◌}
+use mathlib.Core.List.{List, [], ◌∷◌, ◌++◌}
+use mathlib.Core.Logic.{◌↔◌}
+use Prim.Native.Nat.{ℕ, ◌<◌}
 use lib.ListN.{length}
 use lib.Ieee.{Float}
-use Rattle·refusals.specs.declared.Checked.{Checked}
-use Rattle·refusals.specs.declared.Checked.the-variants.{Accepted}
-use Rattle·refusals.specs.Refusals.{numberedIn, refusedIn, orNext}
-use Rattle·refusals.specs.Said.{orRefused}
-use Rattle·refusals.proofs.Said.{refused-said, accepted-said}
-use Rattle·best_path.specs.Decoded.{decodedSum}
-use Rattle·best_path.specs.Lead.{lead}
-use Rattle·viterbi.specs.Promise.{SumAndLead, decoded}
-use Rattle·score_tables.specs.Rows.{one, four}
-use Rattle·refusal_rows.proofs.Renumbered.{rows-renumbered, renumbered-same, renumbered-next}
-use Rattle·line_check.specs.Meaning as checks
-use Rattle·line_check.proofs.Meant.{meaning}
-use Rattle·finished.proofs.Meant.{scores-mean}
-use Rattle·finished.proofs.Answers.{answered}
-use Rattle·compute_scores.specs.Promise.{Given, statesOfLine, transitionsOfLine, scoresFinishedOf}
-use Rattle·compute_scores.specs.Meaning.{startsOf, idsOf, numbersOf, EightIn, ScoresFinite}
-use Rattle·label_line·specs.specs.Rows.{labelCounts, labelRooms, labelChecked}
-use Rattle·label_line·specs.specs.Promise.{scoresOfLine, checkedOf, answerTo}
-use Rattle·label_line·specs.specs.Meaning.{Meaning, LabellingMeans}
-use Rattle·label_line·specs.specs.Before.{labelBefore, LabelRenumbered}
+use Rattle.refusals.specs.declared.Checked.{Checked}
+use Rattle.refusals.specs.declared.Checked.TheVariants.{Accepted}
+use Rattle.refusals.specs.Refusals.{numbered_in_of, refused_in_of, or_next_of}
+use Rattle.refusals.specs.Said.{or_refused}
+use Rattle.refusals.proofs.Said.{refused_said, accepted_said}
+use Rattle.best_path.specs.Decoded.{decoded_sum}
+use Rattle.best_path.specs.Lead.{lead}
+use Rattle.viterbi.specs.Promise.{SumAndLead, decoded}
+use Rattle.score_tables.specs.Rows.{one, four}
+use Rattle.refusal_rows.proofs.Renumbered.{rows_renumbered, renumbered_same, renumbered_next}
+use Rattle.line_check.specs.Meaning as checks
+use Rattle.line_check.proofs.Meant.{meaning}
+use Rattle.finished.proofs.Meant.{scores_mean}
+use Rattle.finished.proofs.Answers.{answered}
+use Rattle.compute_scores.specs.Promise.{Given, states_of_line, transitions_of_line, scores_finished_of}
+use Rattle.compute_scores.specs.Meaning.{starts_of, ids_of, numbers_of, EightIn, ScoresFinite}
+use Rattle.label_line.specs.Rows.{label_counts, label_rooms, label_checked}
+use Rattle.label_line.specs.Promise.{scores_of_line, checked_of, answer_to}
+use Rattle.label_line.specs.Meaning.{Meaning, LabellingMeans}
+use Rattle.label_line.specs.Before.{label_before, LabelRenumbered}
 
 -- 1, 4, 2, 12, 3, 5 and 6, for a path's buffer of this length
-pub checks-mean : (given : Given) (path : ℕ) → checks.Meaning (labelChecked given path) (given .model .labels) (given .words) (labelCounts given) (labelRooms given path) (startsOf given) (idsOf given) (numbersOf given)
-unfolding labelChecked
-checks-mean given path =
-    meaning (given .model .labels) (given .words) (labelCounts given) (labelRooms given path) (startsOf given) (idsOf given) (numbersOf given)
+pub checks_mean : (given : Given) (path : ℕ) → checks.Meaning (label_checked given path) given.model.labels given.words (label_counts given) (label_rooms given path) (starts_of given) (ids_of given) (numbers_of given)
+unfolding label_checked
+checks_mean given path =
+    meaning given.model.labels given.words (label_counts given) (label_rooms given path) (starts_of given) (ids_of given) (numbers_of given)
     tt
     tt
     (refl, (refl, (refl, tt)))
@@ -38,35 +38,35 @@ checks-mean given path =
     (refl, (refl, tt))
 
 -- nothing else moved
-pub label-renumbered : LabelRenumbered
-unfolding labelChecked
-label-renumbered given before =
-    renumbered-next (labelBefore given (length before)) (checkedOf given before) (scoresFinishedOf given) (scoresFinishedOf given)
-    (rows-renumbered (one (given .model .labels) ∷ four (given .words) ∷ []) (labelCounts given) (labelRooms given (length before)) (startsOf given ++ (idsOf given ++ numbersOf given)) [])
-    (renumbered-same (scoresFinishedOf given))
+pub label_renumbered : LabelRenumbered
+unfolding label_checked
+label_renumbered given before =
+    renumbered_next (label_before given (length before)) (checked_of given before) (scores_finished_of given) (scores_finished_of given)
+    (rows_renumbered (one given.model.labels ∷ four given.words ∷ []) (label_counts given) (label_rooms given (length before)) (starts_of given ++ (ids_of given ++ numbers_of given)) [])
+    (renumbered_same (scores_finished_of given))
 
 -- however the answer is told, as long as it tells the check's
-pub labelled-so :
+pub labelled_so :
     (given : Given) (before : List ℕ) (Refuses : (number table place : ℕ) → Type 0) (Accepts : Type 0) →
-    ((number table place : ℕ) → Refuses number table place → orNext (checkedOf given before) (scoresFinishedOf given) ≡ refusedIn number table place) →
-    ((number table place : ℕ) → 0 < number → orNext (checkedOf given before) (scoresFinishedOf given) ≡ refusedIn number table place → Refuses number table place) →
-    Accepts ↔ orNext (checkedOf given before) (scoresFinishedOf given) ≡ Accepted →
+    ((number table place : ℕ) → Refuses number table place → or_next_of (checked_of given before) (scores_finished_of given) ≡ refused_in_of number table place) →
+    ((number table place : ℕ) → 0 < number → or_next_of (checked_of given before) (scores_finished_of given) ≡ refused_in_of number table place → Refuses number table place) →
+    Accepts ↔ or_next_of (checked_of given before) (scores_finished_of given) ≡ Accepted →
     Meaning Refuses Accepts given before
-labelled-so given before Refuses Accepts to from accepted =
-    answered (checkedOf given before) (scoresFinishedOf given)
-    (given .model .labels) (given .words) (labelCounts given) (labelRooms given (length before)) (startsOf given) (idsOf given) (numbersOf given) (EightIn given) (ScoresFinite given)
-    (checks-mean given (length before))
-    (scores-mean (given .model .labels) (given .words) (statesOfLine given) (transitionsOfLine given))
+labelled_so given before Refuses Accepts to from accepted =
+    answered (checked_of given before) (scores_finished_of given)
+    given.model.labels given.words (label_counts given) (label_rooms given (length before)) (starts_of given) (ids_of given) (numbers_of given) (EightIn given) (ScoresFinite given)
+    (checks_mean given (length before))
+    (scores_mean given.model.labels given.words (states_of_line given) (transitions_of_line given))
     Refuses Accepts to from accepted
 
-pub labelling-meant : LabellingMeans
-unfolding answerTo
-labelling-meant given before outcome kept =
-    let all : Checked = orNext (checkedOf given before) (scoresFinishedOf given) in
-    let found : SumAndLead = record { sum = decodedSum (scoresOfLine given) (given .words); lead = lead (scoresOfLine given) (given .words) } in
-    labelled-so given before _ _
-    (λ number table place h. refused-said found all (numberedIn number table place) .0 (sym (kept .answers) ∙ h))
-    (λ number table place _ h. kept .answers ∙ refused-said found all (numberedIn number table place) .1 h) (
-      λ h. accepted-said found (record { sum = h .0; lead = h .1 }) all (sym (kept .answers) ∙ h .2),
-      λ h. (found .sum, found .lead, kept .answers ∙ ap (λ (c : Checked). orRefused c (decoded (found .sum) (found .lead))) h),
+pub labelling_meant : LabellingMeans
+unfolding answer_to
+labelling_meant given before outcome kept =
+    let all : Checked = or_next_of (checked_of given before) (scores_finished_of given) in
+    let found : SumAndLead = record { sum = decoded_sum (scores_of_line given) given.words; lead = lead (scores_of_line given) given.words } in
+    labelled_so given before _ _
+    (λ number table place h. (refused_said found all (numbered_in_of number table place)).0 (sym kept.answers ∙ h))
+    (λ number table place _ h. kept.answers ∙ (refused_said found all (numbered_in_of number table place)).1 h) (
+      λ h. accepted_said found (record { sum = h.0; lead = h.1 }) all (sym kept.answers ∙ h.2),
+      λ h. (found.sum, found.lead, kept.answers ∙ ap (λ (c : Checked). or_refused c (decoded found.sum found.lead)) h),
     )

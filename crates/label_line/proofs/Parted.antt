@@ -1,62 +1,62 @@
 -- The rows of labelling a line are its bounds, then the sooner of three parts; and an accepted line can be scored into buffers that have room for every line. Assumes nothing.
-use mathlib.Core.Path.{_≡_, refl}
-use mathlib.Core.List.{List, [], _∷_, _++_}
-use Prim.Native.Nat.{ℕ, _≤_}
+use mathlib.Core.Path.{◌≡◌, refl}
+use mathlib.Core.List.{List, [], ◌∷◌, ◌++◌}
+use Prim.Native.Nat.{ℕ, ◌≤◌}
 use native.Mathlib.Nat.{mul-le-mul}
-use Rattle·refusals.specs.declared.Checked.{Checked}
-use Rattle·refusals.specs.declared.Checked.the-variants.{Accepted}
-use Rattle·refusals.specs.Refusals.{orNext, sooner, first}
-use Rattle·score_tables.specs.Rows.{boundsChecked}
-use Rattle·refusal_rows.specs.Limits.{Limit, room, limitChecks, AllWithin}
-use Rattle·refusal_rows.specs.Parts.{partChecked}
-use Rattle·refusal_rows.proofs.Means.{within-parts, within-both}
-use Rattle·feature_gen.specs.Rows.{weightedRooms}
-use Rattle·feature_gen.specs.Parts.{weightedChecked}
-use Rattle·line_check.specs.Rows.{Scoring, lineRooms, scoreRooms, scoringChecked}
-use Rattle·line_check.specs.Parts.{lineChecked}
-use Rattle·line_check.proofs.Laws.{weighted-line}
-use Rattle·line_check.proofs.Meant.{scoring-means}
-use Rattle·compute_scores.specs.Promise.{Given}
-use Rattle·label_line·specs.specs.Rows.{labelChecked}
-use Rattle·label_line·proofs.proofs.Meant.{checks-mean}
+use Rattle.refusals.specs.declared.Checked.{Checked}
+use Rattle.refusals.specs.declared.Checked.TheVariants.{Accepted}
+use Rattle.refusals.specs.Refusals.{or_next_of, sooner, first}
+use Rattle.score_tables.specs.Rows.{bounds_checked}
+use Rattle.refusal_rows.specs.Limits.{Limit, room, limit_checks, AllWithin}
+use Rattle.refusal_rows.specs.Parts.{part_checked}
+use Rattle.refusal_rows.proofs.Means.{within_parts, within_both}
+use Rattle.feature_gen.specs.Rows.{weighted_rooms}
+use Rattle.feature_gen.specs.Parts.{weighted_checked}
+use Rattle.line_check.specs.Rows.{Scoring, line_rooms, score_rooms, scoring_checked}
+use Rattle.line_check.specs.Parts.{line_checked}
+use Rattle.line_check.proofs.Laws.{weighted_line}
+use Rattle.line_check.proofs.Meant.{scoring_means}
+use Rattle.compute_scores.specs.Promise.{Given}
+use Rattle.label_line.specs.Rows.{label_checked}
+use Rattle.label_line.proofs.Meant.{checks_mean}
 
 module _ (given : Given) (path : ℕ) where
   -- the path's room
-  abbrev own-room : List Limit
-  own-room = room 11 path (given .words) ∷ []
+  abbrev own_room : List Limit
+  own_room = room 11 path given.words ∷ []
 
   -- as the code goes
-  pub in-order : {bounds model line tables lent rest answer : Checked} → bounds ≡ boundsChecked (given .model .labels) (given .words) →
-      model ≡ weightedChecked (given .model) (given .weights) → line ≡ lineChecked 8 (given .words) (given .line) → tables ≡ sooner model line →
-      lent ≡ first (limitChecks own-room) → rest ≡ sooner tables lent → answer ≡ orNext bounds rest → answer ≡ labelChecked given path
-  unfolding partChecked labelChecked
-  in-order a b c d e f g = weighted-line (given .model) (given .weights) (given .words) (given .line) own-room tt tt refl a b c d e f g
+  pub in_order : {bounds model line tables lent rest answer : Checked} → bounds ≡ bounds_checked given.model.labels given.words →
+      model ≡ weighted_checked given.model given.weights → line ≡ line_checked 8 given.words given.line → tables ≡ sooner model line →
+      lent ≡ first (limit_checks own_room) → rest ≡ sooner tables lent → answer ≡ or_next_of bounds rest → answer ≡ label_checked given path
+  unfolding part_checked label_checked
+  in_order a b c d e f g = weighted_line given.model given.weights given.words given.line own_room tt tt refl a b c d e f g
 
   -- scoring into the call's own arrays
   abbrev pub own : Scoring
   own = record {
-    model = given .model;
-    weights = given .weights;
-    words = given .words;
-    line = given .line;
+    model = given.model;
+    weights = given.weights;
+    words = given.words;
+    line = given.line;
     transitions = 1024;
     states = 4096;
   }
 
   abbrev tables : List Limit
-  tables = weightedRooms (given .model) (given .weights) ++ lineRooms 8 (given .words) (given .line)
+  tables = weighted_rooms given.model given.weights ++ line_rooms 8 given.words given.line
 
   abbrev scores : List Limit
-  scores = scoreRooms (given .model .labels) (given .words) 1024 4096
+  scores = score_rooms given.model.labels given.words 1024 4096
 
   -- an accepted line can be scored, since within the bounds the arrays have room, and the path has room
-  pub accepts : labelChecked given path ≡ Accepted → (scoringChecked own ≡ Accepted) × (given .words ≤ path)
+  pub accepts : label_checked given path ≡ Accepted → (scoring_checked own ≡ Accepted) × (given.words ≤ path)
   accepts h =
-      let a = checks-mean given path .accepted .0 h in
-      let l = a .0 in
-      let w = a .1 .0 in
-      let counts = a .1 .1 .0 in
-      let rest = a .1 .1 .1 in
-      let p = within-parts tables own-room (rest .0) in
-      let s : AllWithin scores = (mul-le-mul (l .high) (l .high), (mul-le-mul (w .high) (l .high), tt)) in
-      (scoring-means own .accepted .1 (l, (w, (counts, (within-both tables scores (p .0) s, rest .1)))), p .1 .0)
+      let a = (checks_mean given path).accepted.0 h in
+      let l = a.0 in
+      let w = a.1.0 in
+      let counts = a.1.1.0 in
+      let rest = a.1.1.1 in
+      let p = within_parts tables own_room rest.0 in
+      let s : AllWithin scores = (mul-le-mul l.high l.high, (mul-le-mul w.high l.high, tt)) in
+      ((scoring_means own).accepted.1 (l, (w, (counts, (within_both tables scores p.0 s, rest.1)))), p.1.0)

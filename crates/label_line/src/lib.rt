@@ -1,16 +1,14 @@
 // Labelling a line under a model: its scores, which stay inside, then the decoded path with its sum and lead.
-ghost use mathlib.Core.Path.{_≡_};
-ghost use Prim.Native.Nat.{_*_, _≤_};
-ghost use lib.ListN.{length};
-ghost use Rattle·lines.specs.Scored.{statesOf, transitionsOf};
-ghost use Rattle·lines.specs.Entry.{lineAt, lineWas};
-ghost use Rattle·feature_gen.specs.Lent.{modelOf, modelAt, modelWas};
-ghost use Rattle·labelling.specs.Labelled.{Labelled};
-ghost use Rattle·label_line·specs.specs.Rows.{labelChecked};
-ghost use Rattle·label_line·specs.specs.Promise.{SoundLabelling, Promised};
+ghost use Rattle.std.specs.Prelude.{◌≡◌, ◌*◌, ◌≤◌, length};
+ghost use Rattle.lines.specs.Scored.{states_of, transitions_of};
+ghost use Rattle.lines.specs.Entry.{line_at, line_was};
+ghost use Rattle.feature_gen.specs.Lent.{model_of, model_at, model_was};
+ghost use Rattle.labelling.specs.Labelled.{Labelled};
+ghost use Rattle.label_line.specs.Rows.{label_checked};
+ghost use Rattle.label_line.specs.Promise.{SoundLabelling, Promised};
+
 use feature_gen::Counts;
-use labelling::MOST_STATES;
-use labelling::MOST_TRANSITIONS;
+use labelling::{MOST_STATES, MOST_TRANSITIONS};
 use refusals::Checked;
 use viterbi::Decoding;
 
@@ -33,10 +31,9 @@ pub fn check_line(
     values: &[f64],
     path: usize,
 ) -> Checked
-    ensures { λ r.
-        let m = modelWas labels counts kinds destinations sources «attribute_starts» «attribute_entries» «label_starts» «label_entries» in
-        let l = lineWas attributes begins ids values in
-        ⌜ r ≡ labelChecked (record { model = m; weights = now (weights .entry); words = words; line = l }) path ⌝ }
+    ensures { let m = model_was labels counts kinds destinations sources attribute_starts attribute_entries label_starts label_entries in
+        let l = line_was attributes begins ids values in
+        result ≡ label_checked (record { model = m; weights = weights.now; words = words; line = l }) path }
 {
     let bounds = score_tables::check_bounds(labels, words);
     let model = feature_gen::check_weighted(
@@ -79,15 +76,14 @@ fn label_in(
     states: &mut [f64],
     path: &mut [u32],
 ) -> Decoding
-    requires { let m = modelAt labels counts kinds destinations sources «attribute_starts» «attribute_entries» «label_starts» «label_entries» in
-        let line = lineAt attributes begins ids values in
-        ⌜ SoundLabelling (record { model = m; weights = now weights; words = words; line = line }) (now path) ⌝ }
-    requires { ⌜ (length (now transitions) ≡ labels * labels) × (length (now states) ≡ words * labels) ⌝ }
-    ensures { λ r.
-        let m = modelWas labels counts kinds destinations sources «attribute_starts» «attribute_entries» «label_starts» «label_entries» in
-        let line = lineWas attributes begins ids values in
-        let w = now (weights .entry) in
-        ⌜ Labelled labels words (transitionsOf m w) (statesOf m w line 0 words) (now (path .entry)) r (now (path .exit)) ⌝ }
+    requires fact { let m = model_at labels counts kinds destinations sources attribute_starts attribute_entries label_starts label_entries in
+        let line = line_at attributes begins ids values in
+        SoundLabelling (record { model = m; weights = weights.now; words = words; line = line }) path.old }
+    requires transitions_len { (length transitions.old ≡ labels * labels) × (length states.old ≡ words * labels) }
+    ensures { let m = model_was labels counts kinds destinations sources attribute_starts attribute_entries label_starts label_entries in
+        let line = line_was attributes begins ids values in
+        let w = weights.now in
+        Labelled labels words (transitions_of m w) (states_of m w line 0 words) path.old result path.new }
 {
     let width = labels as usize;
     let features = counts.features as usize;
@@ -142,15 +138,14 @@ fn label_short(
     values: &[f64],
     path: &mut [u32],
 ) -> Decoding
-    requires { let m = modelAt labels counts kinds destinations sources «attribute_starts» «attribute_entries» «label_starts» «label_entries» in
-        let line = lineAt attributes begins ids values in
-        ⌜ SoundLabelling (record { model = m; weights = now weights; words = words; line = line }) (now path) ⌝ }
-    requires { ⌜ (labels * labels ≤ 256) × (words * labels ≤ 256) ⌝ }
-    ensures { λ r.
-        let m = modelWas labels counts kinds destinations sources «attribute_starts» «attribute_entries» «label_starts» «label_entries» in
-        let line = lineWas attributes begins ids values in
-        let w = now (weights .entry) in
-        ⌜ Labelled labels words (transitionsOf m w) (statesOf m w line 0 words) (now (path .entry)) r (now (path .exit)) ⌝ }
+    requires fact { let m = model_at labels counts kinds destinations sources attribute_starts attribute_entries label_starts label_entries in
+        let line = line_at attributes begins ids values in
+        SoundLabelling (record { model = m; weights = weights.now; words = words; line = line }) path.old }
+    requires labels_bound { (labels * labels ≤ 256) × (words * labels ≤ 256) }
+    ensures { let m = model_was labels counts kinds destinations sources attribute_starts attribute_entries label_starts label_entries in
+        let line = line_was attributes begins ids values in
+        let w = weights.now in
+        Labelled labels words (transitions_of m w) (states_of m w line 0 words) path.old result path.new }
 {
     let mut transitions = [0.0; labelling::FEW];
     let mut states = [0.0; labelling::FEW];
@@ -197,14 +192,13 @@ fn label_long(
     values: &[f64],
     path: &mut [u32],
 ) -> Decoding
-    requires { let m = modelAt labels counts kinds destinations sources «attribute_starts» «attribute_entries» «label_starts» «label_entries» in
-        let line = lineAt attributes begins ids values in
-        ⌜ SoundLabelling (record { model = m; weights = now weights; words = words; line = line }) (now path) ⌝ }
-    ensures { λ r.
-        let m = modelWas labels counts kinds destinations sources «attribute_starts» «attribute_entries» «label_starts» «label_entries» in
-        let line = lineWas attributes begins ids values in
-        let w = now (weights .entry) in
-        ⌜ Labelled labels words (transitionsOf m w) (statesOf m w line 0 words) (now (path .entry)) r (now (path .exit)) ⌝ }
+    requires { let m = model_at labels counts kinds destinations sources attribute_starts attribute_entries label_starts label_entries in
+        let line = line_at attributes begins ids values in
+        SoundLabelling (record { model = m; weights = weights.now; words = words; line = line }) path.old }
+    ensures { let m = model_was labels counts kinds destinations sources attribute_starts attribute_entries label_starts label_entries in
+        let line = line_was attributes begins ids values in
+        let w = weights.now in
+        Labelled labels words (transitions_of m w) (states_of m w line 0 words) path.old result path.new }
 {
     let mut transitions = [0.0; MOST_TRANSITIONS];
     let mut states = [0.0; MOST_STATES];
@@ -251,10 +245,9 @@ pub fn label_line(
     values: &[f64],
     path: &mut [u32],
 ) -> Decoding
-    ensures { λ r.
-        let m = modelWas labels counts kinds destinations sources «attribute_starts» «attribute_entries» «label_starts» «label_entries» in
-        let line = lineWas attributes begins ids values in
-        ⌜ Promised (record { model = m; weights = now (weights .entry); words = words; line = line }) (now (path .entry)) (record { answer = r; path = now (path .exit) }) ⌝ }
+    ensures { let m = model_was labels counts kinds destinations sources attribute_starts attribute_entries label_starts label_entries in
+        let line = line_was attributes begins ids values in
+        Promised (record { model = m; weights = weights.now; words = words; line = line }) path.old (record { answer = result; path = path.new }) }
 {
     let checked = check_line(
         labels,

@@ -1,14 +1,14 @@
 // The labels of one line of flat tables: its states are scored, 8 is looked for, and the path is decoded. The call on a single
 // line and a training both go this way; the transitions, which are the same for every line, are scored beforehand.
-ghost use mathlib.Core.Path.{_≡_};
-ghost use Prim.Native.Nat.{_*_, _+_, _≤_, ℕ};
-ghost use Rattle·lines.specs.Tables.{Model};
-ghost use Rattle·lines.specs.Entry.{lineWas};
-ghost use Rattle·lines.specs.Lent.{withStates};
-ghost use Rattle·lines.specs.Sound.{SoundStates, SoundLists, SoundWords};
-ghost use Rattle·viterbi.specs.Answered.{Ready};
-ghost use Rattle·score_tables.specs.Sound.{LabelsIn, WordsIn};
-ghost use Rattle·labelling·specs.specs.Labelled.{Labelled, LabelledAt, LentTables, small};
+ghost use Rattle.std.specs.Prelude.{◌≡◌, ◌*◌, ◌+◌, ◌≤◌, ℕ};
+ghost use Rattle.lines.specs.Tables.{Model};
+ghost use Rattle.lines.specs.Entry.{line_was};
+ghost use Rattle.lines.specs.Lent.{with_states};
+ghost use Rattle.lines.specs.Sound.{SoundStates, SoundLists, SoundWords};
+ghost use Rattle.viterbi.specs.Answered.{Ready};
+ghost use Rattle.score_tables.specs.Sound.{LabelsIn, WordsIn};
+ghost use Rattle.labelling.specs.Labelled.{Labelled, LabelledAt, LentTables, small};
+
 use refusals::Checked;
 use viterbi::Decoding;
 
@@ -21,8 +21,8 @@ pub const MOST_STATES: usize = 4096;
 
 // Whether small tables are enough for a line: clearing large ones would take longer than the line.
 pub fn is_small(labels: usize, words: usize) -> bool
-    requires { ⌜ LabelsIn labels × WordsIn words ⌝ }
-    ensures { λ r. ⌜ r ≡ small labels words ⌝ }
+    requires { LabelsIn labels × WordsIn words }
+    ensures { result ≡ small labels words }
 {
     (labels * labels <= FEW) & (words * labels <= FEW)
 }
@@ -35,8 +35,8 @@ fn decode_scores(
     states: &[f64],
     path: &mut [u32],
 ) -> Decoding
-    requires { ⌜ Ready labels words (now transitions) (now states) (now path) ⌝ }
-    ensures { λ r. ⌜ Labelled labels words (now (transitions .entry)) (now (states .entry)) (now (path .entry)) r (now (path .exit)) ⌝ }
+    requires { Ready labels words transitions.now states.now path.old }
+    ensures { Labelled labels words transitions.now states.now path.old result path.new }
 {
     let finished = finished::check_scores(labels, words, transitions, states);
     if let Checked::Refused(late) = finished {
@@ -65,16 +65,15 @@ pub fn label_at(
     states: &mut [f64],
     path: &mut [u32],
 ) -> Decoding
-    requires { ⌜ SoundStates labels features (now kinds) (now destinations) (now weights) ⌝ }
-    requires { ⌜ SoundLists lists (now starts) (now entries) features ⌝ }
-    requires { ⌜ SoundWords (first + words) (now begins) (now ids) (now values) ⌝ }
-    requires { ⌜ LentTables labels words (now transitions) (now states) (now path) ⌝ }
-    ensures { λ r.
-        let w = now (weights .entry) in
-        ⌜ ((rest : Model) (size : ℕ) →
-        let m = withStates rest labels features (now (kinds .entry)) (now (destinations .entry)) lists (now (starts .entry)) (now (entries .entry)) in
-        let line = lineWas size begins ids values in
-        LabelledAt m w line first words (now (transitions .entry)) (now (path .entry)) r (now (states .exit)) (now (path .exit))) ⌝ }
+    requires sound_states { SoundStates labels features kinds.now destinations.now weights.now }
+    requires sound_lists { SoundLists lists starts.now entries.now features }
+    requires sound_words { SoundWords (first + words) begins.now ids.now values.now }
+    requires lent_tables { LentTables labels words transitions.now states.old path.old }
+    ensures { let w = weights.now in
+        ((rest : Model) (size : ℕ) →
+        let m = with_states rest labels features kinds.now destinations.now lists starts.now entries.now in
+        let line = line_was size begins ids values in
+        LabelledAt m w line first words transitions.now path.old result states.new path.new) }
 {
     compute_scores::score_line(
         labels,

@@ -1,12 +1,9 @@
 -- Document 02's layout on texts: every error with the byte that is charged, and what is no error, in one table. Assumes nothing.
-use mathlib.Core.Path.{_≡_, refl}
-use mathlib.Core.List.{List, [], _∷_, _++_, map}
-use Prim.Native.Nat.{ℕ, zero, suc}
-use lib.ListN.{length}
-use Rattle·layout·specs.specs.declared.Found.{Found}
-use Rattle·layout·specs.specs.declared.Found.the-variants.{Whole, At}
-use Rattle·layout·specs.specs.Layout.{Bytes}
-use Rattle·layout·specs.specs.Scan.{classOf, lookFrom, look}
+use Rattle.std.specs.Prelude.{◌≡◌, refl, List, [], ◌∷◌, ◌++◌, map, ℕ, zero, suc, length}
+use Rattle.layout.specs.declared.Found.{Found}
+use Rattle.layout.specs.declared.Found.TheVariants.{Whole, At}
+use Rattle.layout.specs.Layout.{Bytes}
+use Rattle.layout.specs.Scan.{class_of, look_from, look}
 
 -- a text, and what a look through it finds
 pub record Case : Type 0 where
@@ -88,8 +85,8 @@ cases =
 
 -- a look through each text finds what stands beside it
 abbrev pub AllFound : Type 0
-AllFound = map (λ (c : Case). look (c .text)) cases ≡ map (λ (c : Case). c .finds) cases
+AllFound = map (λ (c : Case). look c.text) cases ≡ map (λ (c : Case). c.finds) cases
 
-all-found : AllFound
-unfolding look lookFrom classOf
-all-found = refl
+all_found : AllFound
+unfolding look look_from class_of
+all_found = refl

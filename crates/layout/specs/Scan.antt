@@ -1,22 +1,16 @@
 -- 11 and its place: an automaton over bytes, and what it has to do with the layout. Assumes nothing.
-use mathlib.Core.Path.{_≡_}
-use mathlib.Core.Bool.{Bool, true, false, cond, _&&_}
-use mathlib.Core.List.{List, [], _∷_, _++_}
-use mathlib.Core.Logic.{_↔_}
-use Prim.Native.Nat.{ℕ, zero, suc, _+_, _≤_, _<_}
-use lib.Dec.{eqb, leb, ltb}
-use lib.ListN.{length, take}
-use Rattle·layout·specs.specs.declared.Mode.{Mode}
-use Rattle·layout·specs.specs.declared.Mode.the-variants.{Begin, Inside, Slashed, Field, Value, Digits, Bad}
-use Rattle·layout·specs.specs.declared.Class.{Class}
-use Rattle·layout·specs.specs.declared.Class.the-variants.{Tab as tab, Feed as feed, Colon as colon, Slash as slash, Minus as minus, Point as point, Digit as digit, Other as other}
-use Rattle·layout·specs.specs.declared.Found.{Found}
-use Rattle·layout·specs.specs.declared.Found.the-variants.{Whole, At}
-use Rattle·layout·specs.specs.Layout.{Bytes, WellFormed}
+use Rattle.std.specs.Prelude.{◌≡◌, Bool, true, false, cond, ◌&&◌, List, [], ◌∷◌, ◌++◌, ◌↔◌, ℕ, zero, suc, ◌+◌, ◌≤◌, ◌<◌, eqb, leb, ltb, length, take}
+use Rattle.layout.specs.declared.Mode.{Mode}
+use Rattle.layout.specs.declared.Mode.TheVariants.{Begin, Inside, Slashed, Field, Value, Digits, Bad}
+use Rattle.layout.specs.declared.Class.{Class}
+use Rattle.layout.specs.declared.Class.TheVariants.{Tab as tab, Feed as feed, Colon as colon, Slash as slash, Minus as minus, Point as point, Digit as digit, Other as other}
+use Rattle.layout.specs.declared.Found.{Found}
+use Rattle.layout.specs.declared.Found.TheVariants.{Whole, At}
+use Rattle.layout.specs.Layout.{Bytes, WellFormed}
 
 -- what a byte is to the layout
-unfoldable pub classOf : ℕ → Class
-classOf b =
+unfoldable pub class_of : ℕ → Class
+class_of b =
     cond (eqb b 9) tab
     (cond (eqb b 10) feed
     (cond (eqb b 58) colon
@@ -27,64 +21,64 @@ classOf b =
 
 -- one byte more: Begin at the start of a line, Inside a name (of an attribute or not), Slashed behind its backslash, Field behind a tab,
 -- Value behind the colon, Digits behind the minus or later, with how many digits and whether the point has been; Bad once nothing completes it
-abbrev pub endsScale : ℕ → Mode → Mode
-endsScale zero next = Bad
-endsScale (suc d) next = next
+abbrev pub ends_scale : ℕ → Mode → Mode
+ends_scale zero next = Bad
+ends_scale (suc d) next = next
 
-abbrev pub nextMode : Mode → Class → Mode
-nextMode Begin tab = Bad
-nextMode Begin feed = Begin
-nextMode Begin colon = Bad
-nextMode Begin slash = Slashed false
-nextMode Begin minus = Inside false
-nextMode Begin point = Inside false
-nextMode Begin digit = Inside false
-nextMode Begin other = Inside false
-nextMode (Inside k) tab = Field
-nextMode (Inside k) feed = Begin
-nextMode (Inside k) colon = cond k Value Bad
-nextMode (Inside k) slash = Slashed k
-nextMode (Inside k) minus = Inside k
-nextMode (Inside k) point = Inside k
-nextMode (Inside k) digit = Inside k
-nextMode (Inside k) other = Inside k
-nextMode (Slashed k) tab = Bad
-nextMode (Slashed k) feed = Bad
-nextMode (Slashed k) colon = Inside k
-nextMode (Slashed k) slash = Inside k
-nextMode (Slashed k) minus = Bad
-nextMode (Slashed k) point = Bad
-nextMode (Slashed k) digit = Bad
-nextMode (Slashed k) other = Bad
-nextMode Field tab = Bad
-nextMode Field feed = Bad
-nextMode Field colon = Bad
-nextMode Field slash = Slashed true
-nextMode Field minus = Inside true
-nextMode Field point = Inside true
-nextMode Field digit = Inside true
-nextMode Field other = Inside true
-nextMode Value tab = Bad
-nextMode Value feed = Bad
-nextMode Value colon = Bad
-nextMode Value slash = Bad
-nextMode Value minus = Digits 0 false
-nextMode Value point = Digits 0 true
-nextMode Value digit = Digits 1 false
-nextMode Value other = Bad
-nextMode (Digits d p) tab = endsScale d Field
-nextMode (Digits d p) feed = endsScale d Begin
-nextMode (Digits d p) colon = Bad
-nextMode (Digits d p) slash = Bad
-nextMode (Digits d p) minus = Bad
-nextMode (Digits d p) point = cond p Bad (Digits d true)
-nextMode (Digits d p) digit = cond (ltb d 15) (Digits (d + 1) p) Bad
-nextMode (Digits d p) other = Bad
-nextMode Bad c = Bad
+abbrev pub next_mode_of : Mode → Class → Mode
+next_mode_of Begin tab = Bad
+next_mode_of Begin feed = Begin
+next_mode_of Begin colon = Bad
+next_mode_of Begin slash = Slashed false
+next_mode_of Begin minus = Inside false
+next_mode_of Begin point = Inside false
+next_mode_of Begin digit = Inside false
+next_mode_of Begin other = Inside false
+next_mode_of (Inside k) tab = Field
+next_mode_of (Inside k) feed = Begin
+next_mode_of (Inside k) colon = cond k Value Bad
+next_mode_of (Inside k) slash = Slashed k
+next_mode_of (Inside k) minus = Inside k
+next_mode_of (Inside k) point = Inside k
+next_mode_of (Inside k) digit = Inside k
+next_mode_of (Inside k) other = Inside k
+next_mode_of (Slashed k) tab = Bad
+next_mode_of (Slashed k) feed = Bad
+next_mode_of (Slashed k) colon = Inside k
+next_mode_of (Slashed k) slash = Inside k
+next_mode_of (Slashed k) minus = Bad
+next_mode_of (Slashed k) point = Bad
+next_mode_of (Slashed k) digit = Bad
+next_mode_of (Slashed k) other = Bad
+next_mode_of Field tab = Bad
+next_mode_of Field feed = Bad
+next_mode_of Field colon = Bad
+next_mode_of Field slash = Slashed true
+next_mode_of Field minus = Inside true
+next_mode_of Field point = Inside true
+next_mode_of Field digit = Inside true
+next_mode_of Field other = Inside true
+next_mode_of Value tab = Bad
+next_mode_of Value feed = Bad
+next_mode_of Value colon = Bad
+next_mode_of Value slash = Bad
+next_mode_of Value minus = Digits 0 false
+next_mode_of Value point = Digits 0 true
+next_mode_of Value digit = Digits 1 false
+next_mode_of Value other = Bad
+next_mode_of (Digits d p) tab = ends_scale d Field
+next_mode_of (Digits d p) feed = ends_scale d Begin
+next_mode_of (Digits d p) colon = Bad
+next_mode_of (Digits d p) slash = Bad
+next_mode_of (Digits d p) minus = Bad
+next_mode_of (Digits d p) point = cond p Bad (Digits d true)
+next_mode_of (Digits d p) digit = cond (ltb d 15) (Digits (d + 1) p) Bad
+next_mode_of (Digits d p) other = Bad
+next_mode_of Bad c = Bad
 
-unfoldable pub modeAfter : Mode → Bytes → Mode
-modeAfter q [] = q
-modeAfter q (b ∷ t) = modeAfter (nextMode q (classOf b)) t
+unfoldable pub mode_after : Mode → Bytes → Mode
+mode_after q [] = q
+mode_after q (b ∷ t) = mode_after (next_mode_of q (class_of b)) t
 
 -- a text may end here
 abbrev pub accepting : Mode → Bool
@@ -107,12 +101,12 @@ alive (Digits d p) = true
 alive Bad = false
 
 -- byte by byte from place i on: the first byte that nothing completes, or the place of the end where the text may not end there
-unfoldable pub lookFrom : Mode → Bytes → ℕ → Found
-lookFrom q [] i = cond (accepting q) Whole (At i)
-lookFrom q (b ∷ t) i = cond (alive (nextMode q (classOf b))) (lookFrom (nextMode q (classOf b)) t (i + 1)) (At i)
+unfoldable pub look_from : Mode → Bytes → ℕ → Found
+look_from q [] i = cond (accepting q) Whole (At i)
+look_from q (b ∷ t) i = cond (alive (next_mode_of q (class_of b))) (look_from (next_mode_of q (class_of b)) t (i + 1)) (At i)
 
 unfoldable pub look : Bytes → Found
-look t = lookFrom Begin t 0
+look t = look_from Begin t 0
 
 -- some rest makes a well-formed text of it
 abbrev pub Completable : Bytes → Type 0

@@ -1,10 +1,11 @@
 // A whole training, over result and work tables that are exactly as long as they have to be: its beginning, its epochs, its end.
-ghost use mathlib.Core.Path.{_≡_};
-ghost use Rattle·training.specs.Epochs.{Result, trained};
-ghost use Rattle·prediction.specs.Tables.{trainingModelAt, trainingModelWas, trainingDataAt, trainingDataWas};
-ghost use Rattle·parameters.specs.Trainers.{ruleOf};
-ghost use Rattle·begin_and_end.specs.Ending.{Swept};
-ghost use Rattle·learning·specs.specs.Trainable.{Trainable};
+ghost use Rattle.std.specs.Prelude.{◌≡◌};
+ghost use Rattle.training.specs.Epochs.{Result, trained};
+ghost use Rattle.prediction.specs.Tables.{training_model_at, training_model_was, training_data_at, training_data_was};
+ghost use Rattle.parameters.specs.Trainers.{rule_of};
+ghost use Rattle.begin_and_end.specs.Ending.{Swept};
+ghost use Rattle.learning.specs.Trainable.{Trainable};
+
 use parameters::Trainer;
 use prediction::Sizes;
 use training::Training;
@@ -35,15 +36,14 @@ pub fn train(
     truly: &mut [f64],
     predicted: &mut [f64],
 ) -> Training
-    requires { let m = trainingModelAt sizes kinds destinations sources starts entries «label_starts» «label_entries» in
-        let d = trainingDataAt sizes lines begins ids values references shares in
-        ⌜ Trainable sizes m d allowed (now order) (now weights) (now beside) (now truly) (now predicted) ⌝ }
-    ensures { λ r.
-        let m = trainingModelWas sizes kinds destinations sources starts entries «label_starts» «label_entries» in
-        let d = trainingDataWas sizes lines begins ids values references shares in
-        let made : Result = record { answer = r; weights = now (weights .exit) } in
-        ⌜ made ≡ trained (ruleOf trainer) (record { epochs = allowed; epsilon = epsilon; seed = seed }) m d ⌝ }
-    ensures { λ _. ⌜ Swept (sizes .features) (sizes .instances) (now (order .exit)) (now (beside .exit)) (now (truly .exit)) (now (predicted .exit)) ⌝ }
+    requires { let m = training_model_at sizes kinds destinations sources starts entries label_starts label_entries in
+        let d = training_data_at sizes lines begins ids values references shares in
+        Trainable sizes m d allowed order.old weights.old beside.old truly.old predicted.old }
+    ensures made_after { let m = training_model_was sizes kinds destinations sources starts entries label_starts label_entries in
+        let d = training_data_was sizes lines begins ids values references shares in
+        let made : Result = record { answer = result; weights = weights.new } in
+        made ≡ trained (rule_of trainer) (record { epochs = allowed; epsilon = epsilon; seed = seed }) m d }
+    ensures swept { Swept sizes.features sizes.instances order.new beside.new truly.new predicted.new }
 {
     let features = sizes.features;
     let instances = sizes.instances;

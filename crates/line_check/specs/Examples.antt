@@ -1,25 +1,22 @@
 -- Decided points of a call on a single line, computed over a small model: what is accepted, and which number comes first. Assumes nothing.
-use mathlib.Core.Path.{_≡_, refl}
-use mathlib.Core.Bool.{true}
-use mathlib.Core.List.{List, [], _∷_, _++_}
-use Prim.Native.Nat.{ℕ}
-use lib.Ieee.{Float, nan}
-use Rattle·refusals.specs.declared.Checked.the-variants.{Accepted}
-use Rattle·refusals.specs.Refusals.{refusedAt, refusedIn, refuseIn, orNext, lowestIn}
-use Rattle·refusal_rows.specs.Limits.{inOrder, inCallOrder}
-use Rattle·refusal_rows.specs.Tests.{inTableOrder}
-use Rattle·binary64.specs.Numbers.{nought}
-use Rattle·lines.specs.Tables.{Model}
-use Rattle·feature_gen.specs.Rows.{idTests, weightTests}
-use Rattle·line_check·specs.specs.Rows.{Scoring, Counting, lineStarts, labelTests, valueTests, scoringCounts, countingCounts, scoringRooms, countingRooms, scoringChecked, countingChecked}
+use Rattle.std.specs.Prelude.{◌≡◌, refl, true, List, [], ◌∷◌, ◌++◌, ℕ, Float}
+use Rattle.std.specs.Float.{nan}
+use Rattle.refusals.specs.declared.Checked.TheVariants.{Accepted}
+use Rattle.refusals.specs.Refusals.{refused_at, refused_in_of, refuse_in_of, or_next_of, lowest_in}
+use Rattle.refusal_rows.specs.Limits.{in_order_of, in_call_order}
+use Rattle.refusal_rows.specs.Tests.{in_table_order}
+use Rattle.binary64.specs.Numbers.{nought}
+use Rattle.lines.specs.Tables.{Model}
+use Rattle.feature_gen.specs.Rows.{id_tests, weight_tests}
+use Rattle.line_check.specs.Rows.{Scoring, Counting, line_starts, label_tests, value_tests, scoring_counts, counting_counts, scoring_rooms, counting_rooms, scoring_checked, counting_checked}
 
 -- two labels, "attribute 0 .. listing State features to labels 0 and 1", whose sources may be anything, and three label lists with these entries
 abbrev small : List ℕ → Model
 small entries = record {
   labels = 2;
   features = record { count = 2; kinds = 0 ∷ 0 ∷ []; destinations = 0 ∷ 1 ∷ []; sources = 77 ∷ 77 ∷ [] };
-  attributeLists = record { count = 1; starts = 0 ∷ 2 ∷ []; size = 2; entries = 0 ∷ 1 ∷ [] };
-  labelLists = record { count = 3; starts = 0 ∷ 0 ∷ 0 ∷ 1 ∷ []; size = 1; entries = entries };
+  attribute_lists_of = record { count = 1; starts = 0 ∷ 2 ∷ []; size = 2; entries = 0 ∷ 1 ∷ [] };
+  label_lists_of = record { count = 3; starts = 0 ∷ 0 ∷ 0 ∷ 1 ∷ []; size = 1; entries = entries };
 }
 
 -- a line of so many words, which has one word with one attribute
@@ -33,33 +30,33 @@ scored entries words id value states = record {
   states = states;
 }
 
-accepted : scoringChecked (scored (0 ∷ []) 1 0 nought 2) ≡ Accepted
-unfolding scoringChecked lowestIn orNext refuseIn
+accepted : scoring_checked (scored (0 ∷ []) 1 0 nought 2) ≡ Accepted
+unfolding scoring_checked lowest_in or_next_of refuse_in_of
 accepted = refl
 
 -- "An attribute id without a list is ignored, not refused"
-no-list : scoringChecked (scored (0 ∷ []) 1 9 nought 2) ≡ Accepted
-unfolding scoringChecked lowestIn orNext refuseIn
-no-list = refl
+no_list : scoring_checked (scored (0 ∷ []) 1 9 nought 2) ≡ Accepted
+unfolding scoring_checked lowest_in or_next_of refuse_in_of
+no_list = refl
 
 -- "Everything within the counts is tested, used or not": the value of an id without a list, and the list of a label that is not one
-no-list-value : scoringChecked (scored (0 ∷ []) 1 9 nan 2) ≡ refusedIn 6 7 0
-unfolding scoringChecked lowestIn orNext refuseIn
-no-list-value = refl
+no_list_value : scoring_checked (scored (0 ∷ []) 1 9 nan 2) ≡ refused_in_of 6 7 0
+unfolding scoring_checked lowest_in or_next_of refuse_in_of
+no_list_value = refl
 
-no-label : scoringChecked (scored (2 ∷ []) 1 0 nought 2) ≡ refusedIn 5 5 0
-unfolding scoringChecked lowestIn orNext refuseIn
-no-label = refl
+no_label : scoring_checked (scored (2 ∷ []) 1 0 nought 2) ≡ refused_in_of 5 5 0
+unfolding scoring_checked lowest_in or_next_of refuse_in_of
+no_label = refl
 
 -- "4 right after 1": a T of 129, though the line's starts and the buffer are too short
-four-first : scoringChecked (scored (0 ∷ []) 129 0 nought 0) ≡ refusedAt 4 0
-unfolding scoringChecked lowestIn orNext refuseIn
-four-first = refl
+four_first : scoring_checked (scored (0 ∷ []) 129 0 nought 0) ≡ refused_at 4 0
+unfolding scoring_checked lowest_in or_next_of refuse_in_of
+four_first = refl
 
 -- a buffer too short comes before a bad id and a bad value: the states, whose position is 12
-twelve-next : scoringChecked (scored (2 ∷ []) 1 0 nan 1) ≡ refusedAt 12 12
-unfolding scoringChecked lowestIn orNext refuseIn
-twelve-next = refl
+twelve_next : scoring_checked (scored (2 ∷ []) 1 0 nan 1) ≡ refused_at 12 12
+unfolding scoring_checked lowest_in or_next_of refuse_in_of
+twelve_next = refl
 
 -- a line of one word under a label
 abbrev counted : ℕ → Float → Counting
@@ -71,35 +68,35 @@ counted label value = record {
   features = 2;
 }
 
-labelled : countingChecked (counted 1 nought) ≡ Accepted
-unfolding countingChecked lowestIn orNext refuseIn
+labelled : counting_checked (counted 1 nought) ≡ Accepted
+unfolding counting_checked lowest_in or_next_of refuse_in_of
 labelled = refl
 
 -- "label at or above L" comes before a value that is not finite
-bad-label : countingChecked (counted 2 nan) ≡ refusedIn 5 8 0
-unfolding countingChecked lowestIn orNext refuseIn
-bad-label = refl
+bad_label : counting_checked (counted 2 nan) ≡ refused_in_of 5 8 0
+unfolding counting_checked lowest_in or_next_of refuse_in_of
+bad_label = refl
 
 -- the counts are tested in the order of "Tables and bounds"
-scoring-in-order : (s : Scoring) → inOrder (scoringCounts s) ≡ true
-scoring-in-order s = refl
+scoring_in_order : (s : Scoring) → in_order_of (scoring_counts s) ≡ true
+scoring_in_order s = refl
 
-counting-in-order : (c : Counting) → inOrder (countingCounts c) ≡ true
-counting-in-order c = refl
+counting_in_order : (c : Counting) → in_order_of (counting_counts c) ≡ true
+counting_in_order c = refl
 
 -- and the rooms in the order of the call's slices
-scoring-in-call-order : (s : Scoring) → inCallOrder (scoringRooms s) ≡ true
-scoring-in-call-order s = refl
+scoring_in_call_order : (s : Scoring) → in_call_order (scoring_rooms s) ≡ true
+scoring_in_call_order s = refl
 
-counting-in-call-order : (c : Counting) → inCallOrder (countingRooms c) ≡ true
-counting-in-call-order c = refl
+counting_in_call_order : (c : Counting) → in_call_order (counting_rooms c) ≡ true
+counting_in_call_order c = refl
 
 -- and 3, 5 and 6 in the order of the tables
-scoring-tables : (s : Scoring) →
-    (inTableOrder (lineStarts (s .model) (s .words) (s .line .starts) (s .line .size)) ≡ true)
-    × (inTableOrder (idTests (s .model)) ≡ true)
-    × (inTableOrder (weightTests (s .model) (s .weights) ++ valueTests (s .line)) ≡ true)
-scoring-tables s = (refl, refl, refl)
+scoring_tables : (s : Scoring) →
+    (in_table_order (line_starts s.model s.words s.line.starts s.line.size) ≡ true)
+    × (in_table_order (id_tests s.model) ≡ true)
+    × (in_table_order (weight_tests s.model s.weights ++ value_tests s.line) ≡ true)
+scoring_tables s = (refl, refl, refl)
 
-counting-tables : (c : Counting) → inTableOrder (idTests (c .model) ++ labelTests c) ≡ true
-counting-tables c = refl
+counting_tables : (c : Counting) → in_table_order (id_tests c.model ++ label_tests c) ≡ true
+counting_tables c = refl

@@ -1,29 +1,27 @@
 -- The rows of a call on a single line in the parts that are checked apart: what the narrow checks promise. Assumes nothing.
-use mathlib.Core.List.{List, [], _∷_}
-use Prim.Native.Nat.{ℕ}
-use lib.ListN.{length}
-use Rattle·refusals.specs.declared.Checked.{Checked}
-use Rattle·refusals.specs.Refusals.{first}
-use Rattle·refusals.specs.Bounds.{theAttributes, attributeTable, referenceTable}
-use Rattle·refusal_rows.specs.Limits.{Limit, count, room, limitChecks}
-use Rattle·refusal_rows.specs.Tests.{Test, startsRise, idsBelow}
-use Rattle·refusal_rows.specs.Parts.{partChecked}
-use Rattle·lines.specs.Tables.{Words}
-use Rattle·line_check·specs.specs.Rows.{lineRooms, valueTests}
+use Rattle.std.specs.Prelude.{List, [], ◌∷◌, ℕ, length}
+use Rattle.refusals.specs.declared.Checked.{Checked}
+use Rattle.refusals.specs.Refusals.{first}
+use Rattle.refusals.specs.Bounds.{the_attributes, attribute_table, reference_table}
+use Rattle.refusal_rows.specs.Limits.{Limit, count, room, limit_checks}
+use Rattle.refusal_rows.specs.Tests.{Test, starts_rise, ids_below}
+use Rattle.refusal_rows.specs.Parts.{part_checked}
+use Rattle.lines.specs.Tables.{Words}
+use Rattle.line_check.specs.Rows.{line_rooms, value_tests}
 
 -- 2, 12, 3 and 6 of so many words in flat tables, which stand in the call from a position on: those of a line, or those of all lines of a trainer
-abbrev pub lineLimits : (at words : ℕ) → Words → List Limit
-lineLimits at words line = count theAttributes (line .size) ∷ lineRooms at words line
+abbrev pub line_limits : (at words : ℕ) → Words → List Limit
+line_limits at words line = count the_attributes line.size ∷ line_rooms at words line
 
-abbrev pub lineTests : ℕ → Words → List Test
-lineTests words line = startsRise attributeTable (line .starts) words (line .size) ∷ valueTests line
+abbrev pub line_tests : ℕ → Words → List Test
+line_tests words line = starts_rise attribute_table line.starts words line.size ∷ value_tests line
 
-unfoldable pub lineSized : (at words : ℕ) → Words → Checked
-lineSized at words line = first (limitChecks (lineLimits at words line))
+unfoldable pub line_sized : (at words : ℕ) → Words → Checked
+line_sized at words line = first (limit_checks (line_limits at words line))
 
-unfoldable pub lineChecked : (at words : ℕ) → Words → Checked
-lineChecked at words line = partChecked (lineLimits at words line) (lineTests words line)
+unfoldable pub line_checked : (at words : ℕ) → Words → Checked
+line_checked at words line = part_checked (line_limits at words line) (line_tests words line)
 
 -- 12 and 5 of a label for each of so many words, at its position
-unfoldable pub labelsChecked : (at labels words : ℕ) → List ℕ → Checked
-labelsChecked at labels words path = partChecked (room at (length path) words ∷ []) (idsBelow referenceTable path words labels ∷ [])
+unfoldable pub labels_checked : (at labels words : ℕ) → List ℕ → Checked
+labels_checked at labels words path = part_checked (room at (length path) words ∷ []) (ids_below reference_table path words labels ∷ [])

@@ -1,16 +1,13 @@
 -- Document 01, "Numbered refusals", the rows of a call on a single line, and their order: 1, 4, 2, 12, 3, 5, 6. Assumes nothing.
-use mathlib.Core.List.{List, [], _∷_, _++_}
-use Prim.Native.Nat.{ℕ, _+_, _*_}
-use lib.ListN.{length}
-use lib.Ieee.{Float}
-use Rattle·refusals.specs.declared.Checked.{Checked}
-use Rattle·refusals.specs.Refusals.{first}
-use Rattle·refusals.specs.Bounds.{theAttributes, attributeTable, referenceTable}
-use Rattle·score_tables.specs.Rows.{one, four}
-use Rattle·refusal_rows.specs.Limits.{Limit, count, room, limitChecks}
-use Rattle·refusal_rows.specs.Tests.{Test, startsRise, idsBelow, numbersFinite, checks}
-use Rattle·lines.specs.Tables.{Model, Words}
-use Rattle·feature_gen.specs.Rows.{modelCounts, modelRooms, weightedRooms, startTests, idTests, weightTests}
+use Rattle.std.specs.Prelude.{List, [], ◌∷◌, ◌++◌, ℕ, ◌+◌, ◌*◌, length, Float}
+use Rattle.refusals.specs.declared.Checked.{Checked}
+use Rattle.refusals.specs.Refusals.{first}
+use Rattle.refusals.specs.Bounds.{the_attributes, attribute_table, reference_table}
+use Rattle.score_tables.specs.Rows.{one, four}
+use Rattle.refusal_rows.specs.Limits.{Limit, count, room, limit_checks}
+use Rattle.refusal_rows.specs.Tests.{Test, starts_rise, ids_below, numbers_finite, checks}
+use Rattle.lines.specs.Tables.{Model, Words}
+use Rattle.feature_gen.specs.Rows.{model_counts, model_rooms, weighted_rooms, start_tests, id_tests, weight_tests}
 
 -- what a call that scores a line is given: T, the line's attributes by words, and how long the buffers for the scores are
 pub record Scoring : Type 0 where
@@ -32,86 +29,86 @@ pub record Counting : Type 0 where
 -- ---- 2 | "counts outside their bounds" | "the count's position in document 01's list, from 0"
 
 -- the model's counts, and the line's attributes
-abbrev pub lineCounts : Model → Words → List Limit
-lineCounts m line = modelCounts m ++ count theAttributes (line .size) ∷ []
+abbrev pub line_counts : Model → Words → List Limit
+line_counts m line = model_counts m ++ count the_attributes line.size ∷ []
 
-abbrev pub scoringCounts : Scoring → List Limit
-scoringCounts s = lineCounts (s .model) (s .line)
+abbrev pub scoring_counts : Scoring → List Limit
+scoring_counts s = line_counts s.model s.line
 
-abbrev pub countingCounts : Counting → List Limit
-countingCounts c = lineCounts (c .model) (c .line)
+abbrev pub counting_counts : Counting → List Limit
+counting_counts c = line_counts c.model c.line
 
 -- ---- 12 | "for room" | "the buffer's position among the call's buffers"
 
 -- the line: "for n lists, n+1 starts"; it begins at a position that is the call's own
-abbrev pub lineRooms : (at words : ℕ) → Words → List Limit
-lineRooms at words line =
-    room at (length (line .starts)) (words + 1)
-    ∷ room (at + 1) (length (line .ids)) (line .size)
-    ∷ room (at + 2) (length (line .values)) (line .size)
+abbrev pub line_rooms : (at words : ℕ) → Words → List Limit
+line_rooms at words line =
+    room at (length line.starts) (words + 1)
+    ∷ room (at + 1) (length line.ids) line.size
+    ∷ room (at + 2) (length line.values) line.size
     ∷ []
 
--- the buffers for the scores, behind the line: L·L transitions, T·L states
-abbrev pub scoreRooms : ℕ → ℕ → ℕ → ℕ → List Limit
-scoreRooms labels words transitions states =
+-- the buffers for the scores, behind the line: L-as-L transitions, T-as-L states
+abbrev pub score_rooms : ℕ → ℕ → ℕ → ℕ → List Limit
+score_rooms labels words transitions states =
     room 11 transitions (labels * labels)
     ∷ room 12 states (words * labels)
     ∷ []
 
-abbrev pub scoringRooms : Scoring → List Limit
-scoringRooms s =
-    weightedRooms (s .model) (s .weights)
-    ++ lineRooms 8 (s .words) (s .line)
-    ++ scoreRooms (s .model .labels) (s .words) (s .transitions) (s .states)
+abbrev pub scoring_rooms : Scoring → List Limit
+scoring_rooms s =
+    weighted_rooms s.model s.weights
+    ++ line_rooms 8 s.words s.line
+    ++ score_rooms s.model.labels s.words s.transitions s.states
 
 -- the labels, and the buffer for the counts, behind the line
-abbrev pub countRooms : Counting → List Limit
-countRooms c =
-    room 10 (length (c .path)) (c .words)
-    ∷ room 11 (c .features) (c .model .features .count)
+abbrev pub count_rooms : Counting → List Limit
+count_rooms c =
+    room 10 (length c.path) c.words
+    ∷ room 11 c.features c.model.features.count
     ∷ []
 
-abbrev pub countingRooms : Counting → List Limit
-countingRooms c =
-    modelRooms 3 (c .model)
-    ++ lineRooms 7 (c .words) (c .line)
-    ++ countRooms c
+abbrev pub counting_rooms : Counting → List Limit
+counting_rooms c =
+    model_rooms 3 c.model
+    ++ line_rooms 7 c.words c.line
+    ++ count_rooms c
 
 -- ---- 3 | "a rule of starts is broken" | "index of the first bad start": attribute lists, label lists, then the line's attributes
 
-abbrev pub lineStarts : Model → ℕ → List ℕ → ℕ → List Test
-lineStarts m words starts attributes = startTests m ++ startsRise attributeTable starts words attributes ∷ []
+abbrev pub line_starts : Model → ℕ → List ℕ → ℕ → List Test
+line_starts m words starts attributes = start_tests m ++ starts_rise attribute_table starts words attributes ∷ []
 
 -- ---- 5 | "label at or above L" | "index in its table", after the model's own rows
 
-abbrev pub labelTests : Counting → List Test
-labelTests c = idsBelow referenceTable (c .path) (c .words) (c .model .labels) ∷ []
+abbrev pub label_tests : Counting → List Test
+label_tests c = ids_below reference_table c.path c.words c.model.labels ∷ []
 
 -- ---- 6 | "a weight, value .. not finite" | "index in its table"
 
-abbrev pub valueTests : Words → List Test
-valueTests line = numbersFinite attributeTable (line .values) (line .size) ∷ []
+abbrev pub value_tests : Words → List Test
+value_tests line = numbers_finite attribute_table line.values line.size ∷ []
 
 -- ---- the order: "a call that takes T as a number tests 4 right after 1"
 
-unfoldable pub scoringChecked : Scoring → Checked
-scoringChecked s =
+unfoldable pub scoring_checked : Scoring → Checked
+scoring_checked s =
     first
-    (one (s .model .labels)
-    ∷ four (s .words)
-    ∷ limitChecks (scoringCounts s)
-    ++ limitChecks (scoringRooms s)
-    ++ checks (lineStarts (s .model) (s .words) (s .line .starts) (s .line .size))
-    ++ checks (idTests (s .model))
-    ++ checks (weightTests (s .model) (s .weights) ++ valueTests (s .line)))
+    (one s.model.labels
+    ∷ four s.words
+    ∷ limit_checks (scoring_counts s)
+    ++ limit_checks (scoring_rooms s)
+    ++ checks (line_starts s.model s.words s.line.starts s.line.size)
+    ++ checks (id_tests s.model)
+    ++ checks (weight_tests s.model s.weights ++ value_tests s.line))
 
-unfoldable pub countingChecked : Counting → Checked
-countingChecked c =
+unfoldable pub counting_checked : Counting → Checked
+counting_checked c =
     first
-    (one (c .model .labels)
-    ∷ four (c .words)
-    ∷ limitChecks (countingCounts c)
-    ++ limitChecks (countingRooms c)
-    ++ checks (lineStarts (c .model) (c .words) (c .line .starts) (c .line .size))
-    ++ checks (idTests (c .model) ++ labelTests c)
-    ++ checks (valueTests (c .line)))
+    (one c.model.labels
+    ∷ four c.words
+    ∷ limit_checks (counting_counts c)
+    ++ limit_checks (counting_rooms c)
+    ++ checks (line_starts c.model c.words c.line.starts c.line.size)
+    ++ checks (id_tests c.model ++ label_tests c)
+    ++ checks (value_tests c.line))

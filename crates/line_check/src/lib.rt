@@ -1,12 +1,13 @@
 // The checks of a call on a single line under a model: document 01's refusals 1 and 4, then the sooner of the model's check,
 // the line's, and that of what else is lent. A trainer's words and labels are checked by the same functions.
-ghost use mathlib.Core.Path.{_≡_};
-ghost use Rattle·refusals.specs.Refusals.{first};
-ghost use Rattle·refusal_rows.specs.Limits.{limitChecks};
-ghost use Rattle·feature_gen.specs.Lent.{modelWas};
-ghost use Rattle·lines.specs.Entry.{lineWas};
-ghost use Rattle·line_check·specs.specs.Rows.{scoreRooms, scoringChecked, countingChecked};
-ghost use Rattle·line_check·specs.specs.Parts.{lineSized, lineChecked, labelsChecked};
+ghost use Rattle.std.specs.Prelude.{◌≡◌};
+ghost use Rattle.refusals.specs.Refusals.{first};
+ghost use Rattle.refusal_rows.specs.Limits.{limit_checks};
+ghost use Rattle.feature_gen.specs.Lent.{model_was};
+ghost use Rattle.lines.specs.Entry.{line_was};
+ghost use Rattle.line_check.specs.Rows.{score_rooms, scoring_checked, counting_checked};
+ghost use Rattle.line_check.specs.Parts.{line_sized, line_checked, labels_checked};
+
 use feature_gen::Counts;
 use refusals::Checked;
 
@@ -21,7 +22,7 @@ fn check_sizes(
     ids: &[u32],
     values: &[f64],
 ) -> Checked
-    ensures { λ r. ⌜ r ≡ lineSized at words (lineWas attributes begins ids values) ⌝ }
+    ensures { result ≡ line_sized at words (line_was attributes begins ids values) }
 {
     let first = at as usize;
     let second = first + 1;
@@ -44,7 +45,7 @@ pub fn check_line(
     ids: &[u32],
     values: &[f64],
 ) -> Checked
-    ensures { λ r. ⌜ r ≡ lineChecked at words (lineWas attributes begins ids values) ⌝ }
+    ensures { result ≡ line_checked at words (line_was attributes begins ids values) }
 {
     let sizes = check_sizes(at, words, attributes, begins, ids, values);
     if let Checked::Refused(why) = sizes {
@@ -56,7 +57,7 @@ pub fn check_line(
 
 // 12 and 5 of a label for each of so many words, at a position of the call.
 pub fn check_labels(at: u32, labels: u32, words: u32, path: &[u32]) -> Checked
-    ensures { λ r. ⌜ r ≡ labelsChecked at labels words (now (path .entry)) ⌝ }
+    ensures { result ≡ labels_checked at labels words path.now }
 {
     let n = words as usize;
     let sizes = refusals::refuse_if(Checked::Accepted, 12, at as usize, path.len() < n);
@@ -68,7 +69,7 @@ pub fn check_labels(at: u32, labels: u32, words: u32, path: &[u32]) -> Checked
 
 // 12 of the buffers for the scores, which stand behind the model and the line.
 fn check_score_room(labels: u32, words: u32, transitions: usize, states: usize) -> Checked
-    ensures { λ r. ⌜ r ≡ first (limitChecks (scoreRooms labels words transitions states)) ⌝ }
+    ensures { result ≡ first (limit_checks (score_rooms labels words transitions states)) }
 {
     let square = score_tables::entries(labels, labels);
     let a = refusals::refuse_if(Checked::Accepted, 12, 11, transitions < square);
@@ -96,10 +97,9 @@ pub fn check_scoring(
     transitions: usize,
     states: usize,
 ) -> Checked
-    ensures { λ r.
-        let m = modelWas labels counts kinds destinations sources «attribute_starts» «attribute_entries» «label_starts» «label_entries» in
-        let l = lineWas attributes begins ids values in
-        ⌜ r ≡ scoringChecked (record { model = m; weights = now (weights .entry); words = words; line = l; transitions = transitions; states = states }) ⌝ }
+    ensures { let m = model_was labels counts kinds destinations sources attribute_starts attribute_entries label_starts label_entries in
+        let l = line_was attributes begins ids values in
+        result ≡ scoring_checked (record { model = m; weights = weights.now; words = words; line = l; transitions = transitions; states = states }) }
 {
     let bounds = score_tables::check_bounds(labels, words);
     let model = feature_gen::check_weighted(
@@ -141,10 +141,9 @@ pub fn check_counting(
     path: &[u32],
     features: usize,
 ) -> Checked
-    ensures { λ r.
-        let m = modelWas labels counts kinds destinations sources «attribute_starts» «attribute_entries» «label_starts» «label_entries» in
-        let l = lineWas attributes begins ids values in
-        ⌜ r ≡ countingChecked (record { model = m; words = words; line = l; path = now (path .entry); features = features }) ⌝ }
+    ensures { let m = model_was labels counts kinds destinations sources attribute_starts attribute_entries label_starts label_entries in
+        let l = line_was attributes begins ids values in
+        result ≡ counting_checked (record { model = m; words = words; line = l; path = path.now; features = features }) }
 {
     let bounds = score_tables::check_bounds(labels, words);
     let model = feature_gen::check_tables(

@@ -1,22 +1,17 @@
 // The feature counts of a line under labels, added up in a lent buffer: for each attribute of a word the entries of its list that are
 // of the word's label, noted first and then added; and from the second word on the entries of the previous label's list that lead
 // from that label to the word's. The loops of `extract_features`, which training uses too.
-ghost use mathlib.Core.Path.{_≡_};
-ghost use mathlib.Core.List.{[]};
-ghost use mathlib.Core.Bool.{cond};
-ghost use Prim.Native.Nat.{_-_, _≤_, _<_, _+_};
-ghost use lib.Dec.{eqb};
-ghost use lib.ListN.{length, getD, set};
-ghost use Rattle·lines.specs.Passes.{through};
-ghost use Rattle·lines.specs.Spans.{throughSpan, SoundSpan};
-ghost use Rattle·lines.specs.Sound.{SoundLists, SoundCounts, SoundWords};
-ghost use Rattle·lines.specs.Counted.{stateCount, countedAt, countedWord, transitionCount, countedTransition};
-ghost use Rattle·lines.specs.Entry.{lineOf, lineWas};
-ghost use Rattle·line_counts·specs.specs.Noted.{noteAdded, notesAdded, Notes};
-ghost use Rattle·line_counts·specs.specs.StateEntry.{stateCountsWas, addedBefore, addedAfter};
-ghost use Rattle·line_counts·specs.specs.TransitionEntry.{transitionCountsWas};
-use lines::Attribute;
-use lines::Span;
+ghost use Rattle.std.specs.Prelude.{◌≡◌, [], cond, ◌-◌, ◌≤◌, ◌<◌, ◌+◌, eqb, length, get_or, set};
+ghost use Rattle.lines.specs.Passes.{through};
+ghost use Rattle.lines.specs.Spans.{through_span, SoundSpan};
+ghost use Rattle.lines.specs.Sound.{SoundLists, SoundCounts, SoundWords};
+ghost use Rattle.lines.specs.Counted.{state_count, counted_at, counted_word, transition_count_of, counted_transition};
+ghost use Rattle.lines.specs.Entry.{line_of, line_was};
+ghost use Rattle.line_counts.specs.Noted.{note_added, notes_added, Notes};
+ghost use Rattle.line_counts.specs.StateEntry.{state_counts_was, added_before, added_after};
+ghost use Rattle.line_counts.specs.TransitionEntry.{transition_counts_was};
+
+use lines::{Attribute, Span};
 
 // How many entries are noted before they are added. Whether an entry is of the word's label cannot be foreseen, and a branch on
 // it would cost more than the note.
@@ -34,13 +29,13 @@ fn note(
     who: &mut [usize],
     what: &mut [f64],
 ) -> usize
-    requires { ⌜ e < length (now entries) ⌝ }
-    requires { ⌜ getD (now entries) e 0 < length (now destinations) ⌝ }
-    requires { ⌜ noted < length (now who) ⌝ }
-    requires { ⌜ noted < length (now what) ⌝ }
-    ensures { λ r. ⌜ now (who .exit) ≡ set (now (who .entry)) noted (getD (now (entries .entry)) e 0) ⌝ }
-    ensures { λ r. ⌜ now (what .exit) ≡ set (now (what .entry)) noted value ⌝ }
-    ensures { λ r. ⌜ r ≡ cond (eqb (getD (now (destinations .entry)) (getD (now (entries .entry)) e 0) 0) label) (noted + 1) noted ⌝ }
+    requires e_in_bounds { e < length entries.now }
+    requires e_in_bounds_2 { get_or entries.now e 0 < length destinations.now }
+    requires noted_in_bounds { noted < length who.old }
+    requires noted_in_bounds_2 { noted < length what.old }
+    ensures who_after { who.new ≡ set who.old noted (get_or entries.now e 0) }
+    ensures what_after { what.new ≡ set what.old noted value }
+    ensures value { result ≡ cond (eqb (get_or destinations.now (get_or entries.now e 0) 0) label) (noted + 1) noted }
 {
     let i = lines::at(entries, e);
     who[noted] = i;
@@ -55,11 +50,11 @@ fn note(
 
 // A note is added, where its feature is a State.
 fn add_note(kinds: &[u8], who: &[usize], what: &[f64], j: usize, counts: &mut [f64])
-    requires { ⌜ j < length (now who) ⌝ }
-    requires { ⌜ j < length (now what) ⌝ }
-    requires { ⌜ getD (now who) j 0 < length (now kinds) ⌝ }
-    requires { ⌜ getD (now who) j 0 < length (now counts) ⌝ }
-    ensures { λ _. ⌜ now (counts .exit) ≡ noteAdded (now (kinds .entry)) (now (who .entry)) (now (what .entry)) j (now (counts .entry)) ⌝ }
+    requires j_in_bounds { j < length who.now }
+    requires j_in_bounds_2 { j < length what.now }
+    requires j_in_bounds_3 { get_or who.now j 0 < length kinds.now }
+    requires j_in_bounds_4 { get_or who.now j 0 < length counts.old }
+    ensures { counts.new ≡ note_added kinds.now who.now what.now j counts.old }
 {
     let i = who[j];
     if kinds[i] == 0 {
@@ -76,10 +71,10 @@ pub fn add_notes(
     noted: usize,
     counts: &mut [f64],
 )
-    requires { ⌜ features ≤ length (now kinds) ⌝ }
-    requires { ⌜ Notes features (now who) (now what) noted ⌝ }
-    requires { ⌜ features ≤ length (now counts) ⌝ }
-    ensures { λ _. ⌜ now (counts .exit) ≡ notesAdded (now (kinds .entry)) (now (who .entry)) (now (what .entry)) noted (now (counts .entry)) ⌝ }
+    requires features_in_bounds { features ≤ length kinds.now }
+    requires notes { Notes features who.now what.now noted }
+    requires features_in_bounds_2 { features ≤ length counts.old }
+    ensures { counts.new ≡ notes_added kinds.now who.now what.now noted counts.old }
 {
     let mut j = 0;
     while j < noted {
@@ -102,17 +97,16 @@ fn count_entry(
     what: &mut [f64],
     counts: &mut [f64],
 ) -> usize
-    requires { ⌜ SoundCounts features (now kinds) (now destinations) ⌝ }
-    requires { ⌜ e < length (now entries) ⌝ }
-    requires { ⌜ getD (now entries) e 0 < features ⌝ }
-    requires { ⌜ Notes features (now who) (now what) noted ⌝ }
-    requires { ⌜ noted < length (now who) ⌝ }
-    requires { ⌜ features ≤ length (now counts) ⌝ }
-    ensures { λ r. ⌜ Notes features (now (who .exit)) (now (what .exit)) r ⌝ }
-    ensures { λ r. ⌜ r < length (now (who .exit)) ⌝ }
-    ensures { λ r.
-        let m = stateCountsWas features kinds destinations 0 [] entries in
-        ⌜ addedAfter kinds who what r counts ≡ stateCount m label value e (addedBefore kinds who what noted counts) ⌝ }
+    requires sound_counts { SoundCounts features kinds.now destinations.now }
+    requires e_in_bounds { e < length entries.now }
+    requires e_bound { get_or entries.now e 0 < features }
+    requires notes { Notes features who.old what.old noted }
+    requires noted_in_bounds { noted < length who.old }
+    requires features_in_bounds { features ≤ length counts.old }
+    ensures notes_2 { Notes features who.new what.new result }
+    ensures upper_bound { result < length who.new }
+    ensures counts_value { let m = state_counts_was features kinds destinations 0 [] entries in
+        added_after kinds who what result counts ≡ state_count m label value e (added_before kinds who what noted counts) }
 {
     let next = note(destinations, entries, label, value, e, noted, who, what);
     if next < who.len() {
@@ -136,16 +130,15 @@ pub fn count_attribute(
     what: &mut [f64],
     counts: &mut [f64],
 ) -> usize
-    requires { ⌜ SoundCounts features (now kinds) (now destinations) ⌝ }
-    requires { ⌜ SoundSpan span (now entries) features ⌝ }
-    requires { ⌜ Notes features (now who) (now what) noted ⌝ }
-    requires { ⌜ noted < length (now who) ⌝ }
-    requires { ⌜ features ≤ length (now counts) ⌝ }
-    ensures { λ r. ⌜ Notes features (now (who .exit)) (now (what .exit)) r ⌝ }
-    ensures { λ r. ⌜ r < length (now (who .exit)) ⌝ }
-    ensures { λ r.
-        let m = stateCountsWas features kinds destinations 0 [] entries in
-        ⌜ addedAfter kinds who what r counts ≡ throughSpan (stateCount m label (attribute .value)) span (addedBefore kinds who what noted counts) ⌝ }
+    requires sound_counts { SoundCounts features kinds.now destinations.now }
+    requires sound_span { SoundSpan span entries.now features }
+    requires notes { Notes features who.old what.old noted }
+    requires noted_in_bounds { noted < length who.old }
+    requires features_in_bounds { features ≤ length counts.old }
+    ensures notes_2 { Notes features who.new what.new result }
+    ensures upper_bound { result < length who.new }
+    ensures counts_value { let m = state_counts_was features kinds destinations 0 [] entries in
+        added_after kinds who what result counts ≡ through_span (state_count m label attribute.value) span (added_before kinds who what noted counts) }
 {
     let value = attribute.value;
     let last = span.last;
@@ -188,19 +181,18 @@ fn count_word(
     what: &mut [f64],
     counts: &mut [f64],
 ) -> usize
-    requires { ⌜ SoundCounts features (now kinds) (now destinations) ⌝ }
-    requires { ⌜ SoundLists lists (now starts) (now entries) features ⌝ }
-    requires { ⌜ to ≤ length (now ids) ⌝ }
-    requires { ⌜ to ≤ length (now values) ⌝ }
-    requires { ⌜ Notes features (now who) (now what) noted ⌝ }
-    requires { ⌜ noted < length (now who) ⌝ }
-    requires { ⌜ features ≤ length (now counts) ⌝ }
-    ensures { λ r. ⌜ Notes features (now (who .exit)) (now (what .exit)) r ⌝ }
-    ensures { λ r. ⌜ r < length (now (who .exit)) ⌝ }
-    ensures { λ r.
-        let m = stateCountsWas features kinds destinations lists (now (starts .entry)) entries in
-        let d = lineOf 0 [] (now (ids .entry)) (now (values .entry)) in
-        ⌜ addedAfter kinds who what r counts ≡ through (countedAt m d label) from (to - from) (addedBefore kinds who what noted counts) ⌝ }
+    requires sound_counts { SoundCounts features kinds.now destinations.now }
+    requires sound_lists { SoundLists lists starts.now entries.now features }
+    requires to_in_bounds { to ≤ length ids.now }
+    requires to_in_bounds_2 { to ≤ length values.now }
+    requires notes { Notes features who.old what.old noted }
+    requires noted_in_bounds { noted < length who.old }
+    requires features_in_bounds { features ≤ length counts.old }
+    ensures notes_2 { Notes features who.new what.new result }
+    ensures upper_bound { result < length who.new }
+    ensures counts_value { let m = state_counts_was features kinds destinations lists starts.now entries in
+        let d = line_of 0 [] ids.now values.now in
+        added_after kinds who what result counts ≡ through (counted_at m d label) from (to - from) (added_before kinds who what noted counts) }
 {
     let mut n = noted;
     if from < to {
@@ -247,15 +239,14 @@ pub fn count_words(
     labels: &[u32],
     counts: &mut [f64],
 )
-    requires { ⌜ SoundCounts features (now kinds) (now destinations) ⌝ }
-    requires { ⌜ SoundLists lists (now starts) (now entries) features ⌝ }
-    requires { ⌜ SoundWords (first + words) (now begins) (now ids) (now values) ⌝ }
-    requires { ⌜ words ≤ length (now labels) ⌝ }
-    requires { ⌜ features ≤ length (now counts) ⌝ }
-    ensures { λ _.
-        let m = stateCountsWas features kinds destinations lists (now (starts .entry)) entries in
-        let d = lineWas 0 begins ids values in
-        ⌜ now (counts .exit) ≡ through (countedWord m d first (now (labels .entry))) 0 words (now (counts .entry)) ⌝ }
+    requires sound_counts { SoundCounts features kinds.now destinations.now }
+    requires sound_lists { SoundLists lists starts.now entries.now features }
+    requires sound_words { SoundWords (first + words) begins.now ids.now values.now }
+    requires words_in_bounds { words ≤ length labels.now }
+    requires features_in_bounds { features ≤ length counts.old }
+    ensures { let m = state_counts_was features kinds destinations lists starts.now entries in
+        let d = line_was 0 begins ids values in
+        counts.new ≡ through (counted_word m d first labels.now) 0 words counts.old }
 {
     let mut who = [0usize; NOTES];
     let mut what = [0.0; NOTES];
@@ -300,14 +291,13 @@ fn transition_count(
     e: usize,
     counts: &mut [f64],
 )
-    requires { ⌜ SoundCounts features (now kinds) (now destinations) ⌝ }
-    requires { ⌜ features ≤ length (now sources) ⌝ }
-    requires { ⌜ e < length (now entries) ⌝ }
-    requires { ⌜ getD (now entries) e 0 < features ⌝ }
-    requires { ⌜ features ≤ length (now counts) ⌝ }
-    ensures { λ _.
-        let m = transitionCountsWas features kinds destinations sources 0 [] entries in
-        ⌜ now (counts .exit) ≡ transitionCount m previous label e (now (counts .entry)) ⌝ }
+    requires sound_counts { SoundCounts features kinds.now destinations.now }
+    requires features_in_bounds { features ≤ length sources.now }
+    requires e_in_bounds { e < length entries.now }
+    requires e_bound { get_or entries.now e 0 < features }
+    requires features_in_bounds_2 { features ≤ length counts.old }
+    ensures { let m = transition_counts_was features kinds destinations sources 0 [] entries in
+        counts.new ≡ transition_count_of m previous label e counts.old }
 {
     let i = lines::at(entries, e);
     if destinations[i] == label {
@@ -332,13 +322,12 @@ fn count_label(
     span: Span,
     counts: &mut [f64],
 )
-    requires { ⌜ SoundCounts features (now kinds) (now destinations) ⌝ }
-    requires { ⌜ features ≤ length (now sources) ⌝ }
-    requires { ⌜ SoundSpan span (now entries) features ⌝ }
-    requires { ⌜ features ≤ length (now counts) ⌝ }
-    ensures { λ _.
-        let m = transitionCountsWas features kinds destinations sources 0 [] entries in
-        ⌜ now (counts .exit) ≡ throughSpan (transitionCount m previous label) span (now (counts .entry)) ⌝ }
+    requires sound_counts { SoundCounts features kinds.now destinations.now }
+    requires features_in_bounds { features ≤ length sources.now }
+    requires sound_span { SoundSpan span entries.now features }
+    requires features_in_bounds_2 { features ≤ length counts.old }
+    ensures { let m = transition_counts_was features kinds destinations sources 0 [] entries in
+        counts.new ≡ through_span (transition_count_of m previous label) span counts.old }
 {
     let last = span.last;
     let mut e = span.first;
@@ -371,14 +360,13 @@ pub fn count_transitions(
     labels: &[u32],
     counts: &mut [f64],
 )
-    requires { ⌜ SoundCounts features (now kinds) (now destinations) ⌝ }
-    requires { ⌜ features ≤ length (now sources) ⌝ }
-    requires { ⌜ SoundLists lists (now starts) (now entries) features ⌝ }
-    requires { ⌜ words ≤ length (now labels) ⌝ }
-    requires { ⌜ features ≤ length (now counts) ⌝ }
-    ensures { λ _.
-        let m = transitionCountsWas features kinds destinations sources lists (now (starts .entry)) entries in
-        ⌜ now (counts .exit) ≡ through (countedTransition m (now (labels .entry))) 1 (words - 1) (now (counts .entry)) ⌝ }
+    requires sound_counts { SoundCounts features kinds.now destinations.now }
+    requires features_in_bounds { features ≤ length sources.now }
+    requires sound_lists { SoundLists lists starts.now entries.now features }
+    requires words_in_bounds { words ≤ length labels.now }
+    requires features_in_bounds_2 { features ≤ length counts.old }
+    ensures { let m = transition_counts_was features kinds destinations sources lists starts.now entries in
+        counts.new ≡ through (counted_transition m labels.now) 1 (words - 1) counts.old }
 {
     let mut word = 1;
     while word < words {

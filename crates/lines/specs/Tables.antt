@@ -1,9 +1,7 @@
 -- What a model and its lines are, as flat tables. Assumes nothing.
-use mathlib.Core.List.{List}
-use Prim.Native.Nat.{ℕ}
-use lib.ListN.{getD}
-use lib.Ieee.{Float, nan}
-use Rattle·lines·specs.specs.declared.Attribute.{Attribute}
+use Rattle.std.specs.Prelude.{List, ℕ, get_or, Float}
+use Rattle.std.specs.Float.{nan}
+use Rattle.lines.specs.declared.Attribute.{Attribute}
 
 -- "A feature has kind, source, destination and weight": the weights lie in a table of their own, which counting and training are not lent
 pub record Features : Type 0 where
@@ -22,8 +20,8 @@ pub record Lists : Type 0 where
 pub record Model : Type 0 where
   pub labels : ℕ
   pub features : Features
-  pub attributeLists : Lists
-  pub labelLists : Lists
+  pub attribute_lists_of : Lists
+  pub label_lists_of : Lists
 
 -- "a word a list of attributes": for each word where its attributes begin, for each attribute its id and its value
 pub record Words : Type 0 where
@@ -33,8 +31,8 @@ pub record Words : Type 0 where
   pub values : List Float
 
 -- "An attribute is an id with a value"
-abbrev pub attributeAt : Words → ℕ → Attribute
-attributeAt words a = record { id = getD (words .ids) a 0; value = getD (words .values) a nan }
+abbrev pub attribute_at : Words → ℕ → Attribute
+attribute_at words a = record { id = get_or words.ids a 0; value = get_or words.values a nan }
 
 -- "kinds State 0 and Transition 1"
 abbrev pub State : ℕ

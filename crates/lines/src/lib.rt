@@ -1,12 +1,11 @@
 // The tables of a model and of lines, what the scores and the feature counts of a line are, and the laws of these definitions.
 // Of code only what scoring and counting share: the attribute that they hand on, and how an attribute and the places of its list
 // are read. The loops over these are in compute_scores and extract_features.
-ghost use mathlib.Core.Path.{_≡_};
-ghost use Prim.Native.Nat.{_≤_, _<_, min};
-ghost use lib.ListN.{length, getD};
-ghost use Rattle·lines·specs.specs.Spans.{attributeBefore, spanOf};
+ghost use Rattle.std.specs.Prelude.{◌≡◌, ◌≤◌, ◌<◌, min, length, get_or};
+ghost use Rattle.lines.specs.Spans.{attribute_before_of, span_of};
 
 // "An attribute is an id with a value."
+#[derive(Drop)]
 pub struct Attribute {
     pub id: u32,
     pub value: f64,
@@ -14,6 +13,7 @@ pub struct Attribute {
 
 // Instances, words in all and attributes in all, which are numbers of their own beside the tables.
 #[repr(C)]
+#[derive(Drop)]
 pub struct Totals {
     pub instances: u32,
     pub words: u32,
@@ -21,6 +21,7 @@ pub struct Totals {
 }
 
 // The places of a list among the entries: from the first up to the last, which is not one of them.
+#[derive(Drop)]
 pub struct Span {
     pub first: usize,
     pub last: usize,
@@ -28,8 +29,8 @@ pub struct Span {
 
 // The number at a place, as an index.
 pub fn at(table: &[u32], i: usize) -> usize
-    requires { ⌜ i < length (now table) ⌝ }
-    ensures { λ r. ⌜ r ≡ getD (now (table .entry)) i 0 ⌝ }
+    requires { i < length table.now }
+    ensures { result ≡ get_or table.now i 0 }
 {
     table[i] as usize
 }
@@ -37,10 +38,10 @@ pub fn at(table: &[u32], i: usize) -> usize
 // The attribute at a place, or the last before the end where the place is past that: a loop that looks one attribute ahead stays
 // in the table, and does so without a branch.
 pub fn attribute_before(ids: &[u32], values: &[f64], end: usize, a: usize) -> Attribute
-    requires { ⌜ 0 < end ⌝ }
-    requires { ⌜ end ≤ length (now ids) ⌝ }
-    requires { ⌜ end ≤ length (now values) ⌝ }
-    ensures { λ r. ⌜ r ≡ attributeBefore (now (ids .entry)) (now (values .entry)) end a ⌝ }
+    requires end_nonzero { 0 < end }
+    requires end_in_bounds { end ≤ length ids.now }
+    requires end_in_bounds_2 { end ≤ length values.now }
+    ensures { result ≡ attribute_before_of ids.now values.now end a }
 {
     let i = smaller(a, end - 1);
     Attribute {
@@ -51,15 +52,15 @@ pub fn attribute_before(ids: &[u32], values: &[f64], end: usize, a: usize) -> At
 
 // The smaller of two numbers.
 pub fn smaller(a: usize, b: usize) -> usize
-    ensures { λ r. ⌜ r ≡ min a b ⌝ }
+    ensures { result ≡ min a b }
 {
     if a < b { a } else { b }
 }
 
 // The places of a list, of so many; none where there is no such list.
 pub fn list_span(lists: usize, starts: &[u32], list: usize) -> Span
-    requires { ⌜ lists < length (now starts) ⌝ }
-    ensures { λ r. ⌜ r ≡ spanOf lists (now (starts .entry)) list ⌝ }
+    requires { lists < length starts.now }
+    ensures { result ≡ span_of lists starts.now list }
 {
     if list < lists {
         return Span {
@@ -72,8 +73,8 @@ pub fn list_span(lists: usize, starts: &[u32], list: usize) -> Span
 
 // The places of an attribute's list: "An attribute id without a list is ignored".
 pub fn attribute_span(lists: usize, starts: &[u32], attribute: Attribute) -> Span
-    requires { ⌜ lists < length (now starts) ⌝ }
-    ensures { λ r. ⌜ r ≡ spanOf lists (now (starts .entry)) (attribute .id) ⌝ }
+    requires { lists < length starts.now }
+    ensures { result ≡ span_of lists starts.now attribute.id }
 {
     list_span(lists, starts, attribute.id as usize)
 }

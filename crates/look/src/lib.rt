@@ -1,16 +1,14 @@
 // The look through a text for 11, window by window. Through a name the plain-character step and the after-backslash step call each
 // other as the remaining bytes fall; a window has at most 64 bytes, so that no text can exhaust the stack.
-ghost use mathlib.Core.Bool.{true, false};
-ghost use mathlib.Core.Path.{_≡_};
-ghost use Prim.Native.Nat.{_+_, _<_, _≤_};
-ghost use lib.ListN.{length};
-ghost use Rattle·layout.specs.Scan.{look, alive};
-ghost use Rattle·look·specs.specs.Windows.{Window, nameMode, Passed, WalkedTo};
-ghost use Rattle·look·specs.specs.Turns.{Onward, Turned};
-use layout::Found;
-use layout::Mode;
+ghost use Rattle.std.specs.Prelude.{true, false, ◌≡◌, ◌+◌, ◌<◌, ◌≤◌, length};
+ghost use Rattle.layout.specs.Scan.{look, alive};
+ghost use Rattle.look.specs.Windows.{Window, name_mode, Passed, WalkedTo};
+ghost use Rattle.look.specs.Turns.{Onward, Turned};
+
+use layout::{Found, Mode};
 
 // Where a walk stopped, and in which of its two states.
+#[derive(Drop)]
 pub struct Stop {
     pub at: usize,
     pub slashed: bool,
@@ -18,8 +16,8 @@ pub struct Stop {
 
 // Over a run of plain characters, which need no step each: to the first byte that is none, or to the end of the window.
 fn plain_run(text: &[u8], at: usize, end: usize) -> usize
-    requires { ⌜ Window (now text) at end ⌝ }
-    ensures { λ r. ⌜ Passed (now (text .entry)) at end r ⌝ }
+    requires { Window text.now at end }
+    ensures { Passed text.now at end result }
 {
     let mut i = at;
     while i < end {
@@ -36,9 +34,10 @@ fn plain_run(text: &[u8], at: usize, end: usize) -> usize
 }
 
 // From a place inside a name.
+#[cycle(behind_plain)]
 fn plain(text: &[u8], at: usize, end: usize) -> Stop
-    requires { ⌜ Window (now text) at end ⌝ }
-    ensures { λ r. ⌜ WalkedTo (now (text .entry)) false at end r ⌝ }
+    requires { Window text.now at end }
+    ensures { WalkedTo text.now false at end result }
 {
     if at == end {
         return Stop {
@@ -60,9 +59,10 @@ fn plain(text: &[u8], at: usize, end: usize) -> Stop
 }
 
 // From the place behind a backslash.
+#[cycle(behind_plain)]
 fn behind(text: &[u8], at: usize, end: usize) -> Stop
-    requires { ⌜ Window (now text) at end ⌝ }
-    ensures { λ r. ⌜ WalkedTo (now (text .entry)) true at end r ⌝ }
+    requires { Window text.now at end }
+    ensures { WalkedTo text.now true at end result }
 {
     if at == end {
         return Stop {
@@ -81,6 +81,7 @@ fn behind(text: &[u8], at: usize, end: usize) -> Stop
 }
 
 // How far a look has come.
+#[derive(Drop)]
 pub struct Reached {
     pub at: usize,
     pub mode: Mode,
@@ -88,16 +89,16 @@ pub struct Reached {
 
 // Where a window that begins here ends.
 fn window_end(at: usize, n: usize) -> usize
-    requires { ⌜ at < n ⌝ }
-    ensures { λ r. ⌜ (at < r) × (r ≤ n) ⌝ }
-    ensures { λ r. ⌜ r ≤ at + 64 ⌝ }
+    requires { at < n }
+    ensures lower_bound { (at < result) × (result ≤ n) }
+    ensures upper_bound { result ≤ at + 64 }
 {
     if n - at < 64 { n } else { at + 64 }
 }
 
 // Where a walk through a name stopped.
 fn in_mode(at: usize, slashed: bool, attribute: bool) -> Reached
-    ensures { λ r. ⌜ (r .at ≡ at) × (r .mode ≡ nameMode slashed attribute) ⌝ }
+    ensures { (result.at ≡ at) × (result.mode ≡ name_mode slashed attribute) }
 {
     if slashed {
         Reached {
@@ -114,8 +115,8 @@ fn in_mode(at: usize, slashed: bool, attribute: bool) -> Reached
 
 // To the end of a name, where the place is in one.
 fn through_name(text: &[u8], at: usize, end: usize, mode: Mode) -> Reached
-    requires { ⌜ Window (now text) at end ⌝ }
-    ensures { λ r. ⌜ Onward (now (text .entry)) mode at end r ⌝ }
+    requires { Window text.now at end }
+    ensures { Onward text.now mode at end result }
 {
     match mode {
         Mode::Inside(k) => {
@@ -137,8 +138,8 @@ fn through_name(text: &[u8], at: usize, end: usize, mode: Mode) -> Reached
 
 // A window: through a name, then one byte.
 fn turn(text: &[u8], at: usize, mode: Mode) -> Reached
-    requires { ⌜ (at < length (now text)) × (alive mode ≡ true) ⌝ }
-    ensures { λ r. ⌜ Turned (now (text .entry)) mode at r ⌝ }
+    requires { (at < length text.now) × (alive mode ≡ true) }
+    ensures { Turned text.now mode at result }
 {
     let end = window_end(at, text.len());
     let w = through_name(text, at, end, mode);
@@ -162,7 +163,7 @@ fn turn(text: &[u8], at: usize, mode: Mode) -> Reached
 
 // 11: well-formed, or the first byte after which no well-formed text is possible, or the length at the end.
 pub fn look_through(text: &[u8]) -> Found
-    ensures { λ r. ⌜ r ≡ look (now (text .entry)) ⌝ }
+    ensures { result ≡ look text.now }
 {
     let mut at = 0usize;
     let mut mode = Mode::Begin;

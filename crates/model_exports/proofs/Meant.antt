@@ -1,51 +1,51 @@
 -- What C is told of a checked model and of weights that are set means what `Meaning` says. Assumes nothing.
 use mathlib.Core.Path.{refl}
-use mathlib.Core.List.{[], _∷_}
+use mathlib.Core.List.{[], ◌∷◌}
 use Prim.Native.Nat.{ℕ}
 use lib.ListN.{length}
-use Rattle·refusals.specs.declared.Checked.{Checked}
-use Rattle·refusals.specs.Said.{Said}
-use Rattle·refusal_rows.proofs.Groups.{above-zero}
-use Rattle·feature_gen.specs.Rows.{modelChecked}
-use Rattle·feature_gen.specs.CheckModel as model
-use Rattle·feature_gen.proofs.Meant as models
-use Rattle·set_weights.specs.SetWeights.{newChecked}
-use Rattle·set_weights.specs.SetWeights as weights
-use Rattle·set_weights.proofs.Meant as settings
-use Rattle·answers.specs.Numbers.{numbers}
-use Rattle·answers.proofs.Told.{gives-refusal, refusal-given, zero-accepted}
-use Rattle·model_exports·specs.specs.Meaning.{ChecksMean, SetsMean}
+use Rattle.refusals.specs.declared.Checked.{Checked}
+use Rattle.refusals.specs.Said.{Said}
+use Rattle.refusal_rows.proofs.Groups.{above_zero}
+use Rattle.feature_gen.specs.Rows.{model_checked}
+use Rattle.feature_gen.specs.CheckModel as model
+use Rattle.feature_gen.proofs.Meant as models
+use Rattle.set_weights.specs.SetWeights.{new_checked}
+use Rattle.set_weights.specs.SetWeights as weights
+use Rattle.set_weights.proofs.Meant as settings
+use Rattle.answers.specs.Numbers.{numbers}
+use Rattle.answers.proofs.Told.{gives_refusal, refusal_given, zero_accepted}
+use Rattle.model_exports.specs.Meaning.{ChecksMean, SetsMean}
 
 -- the number, the table and the place that C gets
 abbrev number : Said Unit → ℕ
-number s = numbers s .number
+number s = (numbers s).number
 
 abbrev table : Said Unit → ℕ
-table s = numbers s .table
+table s = (numbers s).table
 
 abbrev place : Said Unit → ℕ
-place s = numbers s .place
+place s = (numbers s).place
 
-pub checks-mean : ChecksMean
-unfolding model.answerTo
-checks-mean given answer kept =
-    let checked : Checked = modelChecked (given .model) (given .weights) in
-    let m = models.models-mean (given .model) (given .weights) in
-    rw (kept .answers)
+pub checks_mean : ChecksMean
+unfolding model.answer_to
+checks_mean given answer kept =
+    let checked : Checked = model_checked given.model given.weights in
+    let m = models.models_mean given.model given.weights in
+    rw kept.answers
     (models.told
-    (gives-refusal number table place tt refl (λ why. refl) (λ why. refl) (λ why. refl) checked)
-    (refusal-given number table place tt refl (λ why. refl) (λ why. refl) (λ why. refl) checked)
-    (zero-accepted number table place tt refl (λ why. refl) (λ why. refl) (λ why. refl) checked (λ n t p h. above-zero (1 ∷ 2 ∷ 12 ∷ 3 ∷ 5 ∷ 6 ∷ []) n tt (m .only n t p h)))
+    (gives_refusal number table place tt refl (λ why. refl) (λ why. refl) (λ why. refl) checked)
+    (refusal_given number table place tt refl (λ why. refl) (λ why. refl) (λ why. refl) checked)
+    (zero_accepted number table place tt refl (λ why. refl) (λ why. refl) (λ why. refl) checked (λ n t p h. above_zero (1 ∷ 2 ∷ 12 ∷ 3 ∷ 5 ∷ 6 ∷ []) n tt (m.only n t p h)))
     m)
 
-pub sets-mean : SetsMean
-unfolding weights.answerTo
-sets-mean given before outcome kept =
-    let checked : Checked = newChecked given (length before) in
-    let m = settings.new-weights-mean given (length before) in
-    rw (kept .answers)
+pub sets_mean : SetsMean
+unfolding weights.answer_to
+sets_mean given before outcome kept =
+    let checked : Checked = new_checked given (length before) in
+    let m = settings.new_weights_mean given (length before) in
+    rw kept.answers
     (settings.told
-    (gives-refusal number table place tt refl (λ why. refl) (λ why. refl) (λ why. refl) checked)
-    (refusal-given number table place tt refl (λ why. refl) (λ why. refl) (λ why. refl) checked)
-    (zero-accepted number table place tt refl (λ why. refl) (λ why. refl) (λ why. refl) checked (λ n t p h. above-zero (2 ∷ 12 ∷ 6 ∷ []) n tt (m .only n t p h)))
+    (gives_refusal number table place tt refl (λ why. refl) (λ why. refl) (λ why. refl) checked)
+    (refusal_given number table place tt refl (λ why. refl) (λ why. refl) (λ why. refl) checked)
+    (zero_accepted number table place tt refl (λ why. refl) (λ why. refl) (λ why. refl) checked (λ n t p h. above_zero (2 ∷ 12 ∷ 6 ∷ []) n tt (m.only n t p h)))
     m)

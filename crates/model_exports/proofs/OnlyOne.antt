@@ -1,17 +1,17 @@
 -- No two different outcomes satisfy one promise. Assumes nothing.
-use mathlib.Core.Path.{_≡_, sym, _∙_}
+use mathlib.Core.Path.{◌≡◌, sym, ◌∙◌}
 use mathlib.Core.List.{List}
 use lib.Ieee.{Float}
-use Rattle·feature_gen.specs.CheckModel.{Given}
-use Rattle·set_weights.specs.SetWeights.{Setting}
-use Rattle·answers.specs.declared.checks.Refused.{Refused}
-use Rattle·model_exports·specs.specs.Model.{Outcome, Checks, Sets}
+use Rattle.feature_gen.specs.CheckModel.{Given}
+use Rattle.set_weights.specs.SetWeights.{Setting}
+use Rattle.answers.specs.declared.checks.Refused.{Refused}
+use Rattle.model_exports.specs.Model.{Outcome, Checks, Sets}
 
-pub one-check : (given : Given) (a b : Refused) → Checks given a → Checks given b → a ≡ b
-one-check given a b p q = p .answers ∙ sym (q .answers)
+pub one_check : (given : Given) (a b : Refused) → Checks given a → Checks given b → a ≡ b
+one_check given a b p q = p.answers ∙ sym q.answers
 
-pub one-setting : (given : Setting) (before : List Float) (a b : Outcome) → Sets given before a → Sets given before b → a ≡ b
-one-setting given before a b p q =
-    let e : a .answer ≡ b .answer = p .answers ∙ sym (q .answers) in
-    let w : a .weights ≡ b .weights = p .weights ∙ sym (q .weights) in
+pub one_setting : (given : Setting) (before : List Float) (a b : Outcome) → Sets given before a → Sets given before b → a ≡ b
+one_setting given before a b p q =
+    let e : a.answer ≡ b.answer = p.answers ∙ sym q.answers in
+    let w : a.weights ≡ b.weights = p.weights ∙ sym q.weights in
     λ i. record { answer = e i; weights = w i }

@@ -1,12 +1,13 @@
 // The check of a model, and its weights, for programs in C and Rust. Each is thin: one call of the crate feature_gen, and its
 // answer as numbers.
-ghost use Rattle·feature_gen.specs.Lent.{modelWas};
-ghost use Rattle·model_exports·specs.specs.Model.{Checks, Sets};
+ghost use Rattle.feature_gen.specs.Lent.{model_was};
+ghost use Rattle.model_exports.specs.Model.{Checks, Sets};
+
 use answers::checks::Refused;
 use feature_gen::Counts;
 
 // Whether a model is one that document 01 accepts.
-#[no_mangle]
+#[unsafe(no_mangle)]
 pub extern "C" fn bodkinbloom_check_model(
     labels: u32,
     counts: Counts,
@@ -19,9 +20,8 @@ pub extern "C" fn bodkinbloom_check_model(
     label_starts: &[u32],
     label_entries: &[u32],
 ) -> Refused
-    ensures { λ r.
-        let model = modelWas labels counts kinds destinations sources «attribute_starts» «attribute_entries» «label_starts» «label_entries» in
-        ⌜ Checks (record { model = model; weights = now (weights .entry) }) r ⌝ }
+    ensures { let model = model_was labels counts kinds destinations sources attribute_starts attribute_entries label_starts label_entries in
+        Checks (record { model = model; weights = weights.now }) result }
 {
     let answer = feature_gen::check_model(
         labels,
@@ -39,13 +39,13 @@ pub extern "C" fn bodkinbloom_check_model(
 }
 
 // Every feature gets a new weight, in the front of `weights`.
-#[no_mangle]
+#[unsafe(no_mangle)]
 pub extern "C" fn bodkinbloom_set_weights(
     features: u32,
     new: &[f64],
     weights: &mut [f64],
 ) -> Refused
-    ensures { λ r. ⌜ Sets (record { features = features; new = now (new .entry) }) (now (weights .entry)) (record { answer = r; weights = now (weights .exit) }) ⌝ }
+    ensures { Sets (record { features = features; new = new.now }) weights.old (record { answer = result; weights = weights.new }) }
 {
     let answer = set_weights::set_weights(features, new, weights);
     answers::checks::numbers_of_check(answer)

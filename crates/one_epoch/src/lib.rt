@@ -1,14 +1,14 @@
 // An epoch's visits, in the order of the shuffle.
-ghost use Rattle·training.specs.Visits.{visited};
-ghost use Rattle·training.specs.Epochs.{epochOver};
-ghost use Rattle·prediction.specs.Tables.{trainingModelAt, trainingModelWas, trainingDataAt, trainingDataWas};
-ghost use Rattle·parameters.specs.Trainers.{ruleOf};
-ghost use Rattle·updates.specs.Updating.{stateOf, Agreed};
-ghost use Rattle·one_epoch·specs.specs.Visited.{Ahead, CountedIn};
+ghost use Rattle.training.specs.Visits.{visited};
+ghost use Rattle.training.specs.Epochs.{epoch_over};
+ghost use Rattle.prediction.specs.Tables.{training_model_at, training_model_was, training_data_at, training_data_was};
+ghost use Rattle.parameters.specs.Trainers.{rule_of};
+ghost use Rattle.updates.specs.Updating.{state_of, Agreed};
+ghost use Rattle.one_epoch.specs.Visited.{Ahead, CountedIn};
+
 use parameters::Trainer;
 use prediction::Sizes;
-use training::Progress;
-use training::Visit;
+use training::{Progress, Visit};
 
 // An epoch's visits: the first that is refused ends it.
 pub fn epoch(
@@ -34,16 +34,15 @@ pub fn epoch(
     truly: &mut [f64],
     predicted: &mut [f64],
 ) -> Progress
-    requires { let m = trainingModelAt sizes kinds destinations sources starts entries «label_starts» «label_entries» in
-        let d = trainingDataAt sizes lines begins ids values references shares in
-        ⌜ Ahead sizes m d (now order) s (now weights) (now beside) (now truly) (now predicted) ⌝ }
-    ensures { λ r.
-        let m = trainingModelWas sizes kinds destinations sources starts entries «label_starts» «label_entries» in
-        let d = trainingDataWas sizes lines begins ids values references shares in
-        let before = stateOf s (now (weights .entry)) (now (beside .entry)) in
-        let after = stateOf r (now (weights .exit)) (now (beside .exit)) in
-        ⌜ Agreed after (epochOver (visited (ruleOf trainer) m d) (now (order .entry)) (sizes .instances) before) ⌝ }
-    ensures { λ r. ⌜ CountedIn (sizes .instances) s r ⌝ }
+    requires { let m = training_model_at sizes kinds destinations sources starts entries label_starts label_entries in
+        let d = training_data_at sizes lines begins ids values references shares in
+        Ahead sizes m d order.now s weights.old beside.old truly.old predicted.old }
+    ensures fact { let m = training_model_was sizes kinds destinations sources starts entries label_starts label_entries in
+        let d = training_data_was sizes lines begins ids values references shares in
+        let before = state_of s weights.old beside.old in
+        let after = state_of result weights.new beside.new in
+        Agreed after (epoch_over (visited (rule_of trainer) m d) order.now sizes.instances before) }
+    ensures counted_in { CountedIn sizes.instances s result }
 {
     let n = sizes.instances;
     let mut progress = Progress {

@@ -1,9 +1,9 @@
 // The parameters of the three trainers, the trainer that they stand for, and refusal 7: "each trainer tests only its own".
-ghost use mathlib.Core.Path.{_≡_};
-ghost use mathlib.Core.List.{[], _∷_};
-ghost use Rattle·refusals.specs.Refusals.{firstFrom};
-ghost use Rattle·parameters·specs.specs.Trainers.{on, ruleOf, ruleFor, settingsIn, settingsFor};
-ghost use Rattle·parameters·specs.specs.Parameters.{negative, notAboveZero, epochs, epsilon, sevens, passivesOwn, arowsOwn, ownOf};
+ghost use Rattle.std.specs.Prelude.{◌≡◌, [], ◌∷◌};
+ghost use Rattle.refusals.specs.Refusals.{first_from};
+ghost use Rattle.parameters.specs.Trainers.{on, rule_of, rule_for, settings_in, settings_for};
+ghost use Rattle.parameters.specs.Parameters.{negative, not_above_zero, epochs, epsilon, sevens, passives_own, arows_own, own_of};
+
 use refusals::Checked;
 
 pub const MOST_EPOCHS: u32 = 1000;
@@ -11,6 +11,7 @@ pub const MOST_EPOCHS: u32 = 1000;
 pub const LAST_VARIANT: u32 = 2;
 
 #[repr(C)]
+#[derive(Drop)]
 pub struct Perceptron {
     pub epochs: u32,
     pub epsilon: f64,
@@ -19,6 +20,7 @@ pub struct Perceptron {
 
 // Variants 0 Pa, 1 PaI, 2 PaII. Of the two switches 0 is off and all else on.
 #[repr(C)]
+#[derive(Drop)]
 pub struct Passive {
     pub epochs: u32,
     pub epsilon: f64,
@@ -30,6 +32,7 @@ pub struct Passive {
 }
 
 #[repr(C)]
+#[derive(Drop)]
 pub struct Arow {
     pub epochs: u32,
     pub epsilon: f64,
@@ -39,6 +42,7 @@ pub struct Arow {
 }
 
 // Which trainer is called, and with which parameters.
+#[derive(Drop)]
 pub enum Method {
     AveragedPerceptron(Perceptron),
     PassiveAggressive(Passive),
@@ -46,6 +50,7 @@ pub enum Method {
 }
 
 // The epochs allowed, epsilon and the seed, which every method has.
+#[derive(Drop)]
 pub struct Settings {
     pub epochs: u32,
     pub epsilon: f64,
@@ -53,6 +58,7 @@ pub struct Settings {
 }
 
 // A trainer with its own parameters; variants 0 Pa, 1 PaI, 2 PaII.
+#[derive(Drop)]
 pub enum Trainer {
     Perceptron,
     Passive {
@@ -69,14 +75,14 @@ pub enum Trainer {
 
 // A switch that comes as a number.
 fn is_on(switch: u32) -> bool
-    ensures { λ r. ⌜ r ≡ on switch ⌝ }
+    ensures { result ≡ on switch }
 {
     switch != 0
 }
 
 // The trainer that a method stands for.
 pub fn trainer_of(method: Method) -> Trainer
-    ensures { λ r. ⌜ ruleOf r ≡ ruleFor method ⌝ }
+    ensures { rule_of result ≡ rule_for method }
 {
     match method {
         Method::AveragedPerceptron(_) => Trainer::Perceptron,
@@ -95,7 +101,7 @@ pub fn trainer_of(method: Method) -> Trainer
 
 // What every method has.
 pub fn settings_of(method: Method) -> Settings
-    ensures { λ r. ⌜ settingsIn r ≡ settingsFor method ⌝ }
+    ensures { settings_in result ≡ settings_for method }
 {
     match method {
         Method::AveragedPerceptron(p) => Settings {
@@ -118,21 +124,21 @@ pub fn settings_of(method: Method) -> Settings
 
 // Below 0, or not finite: −0 is neither.
 fn is_negative(x: f64) -> bool
-    ensures { λ r. ⌜ r ≡ negative x ⌝ }
+    ensures { result ≡ negative x }
 {
     (x < 0.0) | !binary64::is_finite(x)
 }
 
 // Not above 0, or not finite.
 fn is_not_above_zero(x: f64) -> bool
-    ensures { λ r. ⌜ r ≡ notAboveZero x ⌝ }
+    ensures { result ≡ not_above_zero x }
 {
     !(0.0 < x) | !binary64::is_finite(x)
 }
 
 // Epochs and epsilon, which every trainer has.
 fn check_shared(answer: Checked, rounds: u32, stop: f64) -> Checked
-    ensures { λ r. ⌜ r ≡ firstFrom answer (sevens (epochs rounds ∷ epsilon stop ∷ [])) ⌝ }
+    ensures { result ≡ first_from answer (sevens (epochs rounds ∷ epsilon stop ∷ [])) }
 {
     let one = refusals::refuse_if(answer, 7, 1, refusals::is_outside(1, MOST_EPOCHS, rounds));
     refusals::refuse_if(one, 7, 2, is_negative(stop))
@@ -140,7 +146,7 @@ fn check_shared(answer: Checked, rounds: u32, stop: f64) -> Checked
 
 // C is tested for every variant, as in the Rust's setter.
 fn check_passive(answer: Checked, parameters: Passive) -> Checked
-    ensures { λ r. ⌜ r ≡ firstFrom answer (sevens (passivesOwn parameters)) ⌝ }
+    ensures { result ≡ first_from answer (sevens (passives_own parameters)) }
 {
     let two = check_shared(answer, parameters.epochs, parameters.epsilon);
     let three = refusals::refuse_if(two, 7, 3, is_not_above_zero(parameters.c));
@@ -148,7 +154,7 @@ fn check_passive(answer: Checked, parameters: Passive) -> Checked
 }
 
 fn check_arow(answer: Checked, parameters: Arow) -> Checked
-    ensures { λ r. ⌜ r ≡ firstFrom answer (sevens (arowsOwn parameters)) ⌝ }
+    ensures { result ≡ first_from answer (sevens (arows_own parameters)) }
 {
     let two = check_shared(answer, parameters.epochs, parameters.epsilon);
     let three = refusals::refuse_if(two, 7, 3, is_not_above_zero(parameters.variance));
@@ -157,7 +163,7 @@ fn check_arow(answer: Checked, parameters: Arow) -> Checked
 
 // 7: each method's own.
 pub fn check_parameters(answer: Checked, method: Method) -> Checked
-    ensures { λ r. ⌜ r ≡ firstFrom answer (sevens (ownOf method)) ⌝ }
+    ensures { result ≡ first_from answer (sevens (own_of method)) }
 {
     match method {
         Method::AveragedPerceptron(p) => check_shared(answer, p.epochs, p.epsilon),

@@ -1,38 +1,36 @@
 // The passive-aggressive update: weights and, with averaging, running sums after a visit whose labels differ, and what it
 // adds to the epoch's loss.
-ghost use mathlib.Core.Bool.{cond, false};
-ghost use mathlib.Core.Path.{_≡_};
-ghost use Prim.Native.Nat.{_+_, _-_, _<_, _≤_, ℕ};
-ghost use lib.ListN.{length, set};
-ghost use Rattle·lines.specs.Passes.{through};
-ghost use Rattle·binary64.specs.Numbers.{nought, whole};
-ghost use Rattle·training.specs.Rules.{squared, pulled, stepOf, _⊕_, _⊖_, passive};
-ghost use Rattle·training_tables.specs.Tables.{Both, Held, Moved, Updated};
-ghost use Rattle·passive_aggressive·specs.specs.Noted.{differing, foursAdded, FourNotes};
-ghost use lib.Ieee.{lt};
-ghost use Rattle·roots.specs.Root.{nearestRoot};
+ghost use Rattle.std.specs.Prelude.{cond, false, ◌≡◌, ◌+◌, ◌-◌, ◌<◌, ◌≤◌, ℕ, length, set};
+ghost use Rattle.lines.specs.Passes.{through};
+ghost use Rattle.binary64.specs.Numbers.{nought, whole};
+ghost use Rattle.training.specs.Rules.{squared, pulled, step_of, ◌⊕◌, ◌⊖◌, passive};
+ghost use Rattle.training_tables.specs.Tables.{Both, Held, Moved, Updated};
+ghost use Rattle.passive_aggressive.specs.Noted.{differing, fours_added, FourNotes};
+ghost use Rattle.std.specs.Float.Ieee.{lt};
+ghost use Rattle.roots.specs.Root.{nearest_root};
+
 use training_tables::Outcome;
 
 // What is asked of the true path beside the predicted one's score: the root of the number of wrong labels where the switch is
 // on, else 1.
 fn margin(sensitive: bool, wrong: u32) -> f64
-    requires { ⌜ wrong ≤ 128 ⌝ }
-    ensures { λ r. ⌜ r ≡ cond sensitive (nearestRoot wrong) (whole 1) ⌝ }
+    requires { wrong ≤ 128 }
+    ensures { result ≡ cond sensitive (nearest_root wrong) (whole 1) }
 {
     if sensitive { roots::root(wrong) } else { 1.0 }
 }
 
 // How far the predicted path's score is above the true one's, and the margin.
 pub fn cost_of(sensitive: bool, wrong: u32, reached: f64, wanted: f64) -> f64
-    requires { ⌜ wrong ≤ 128 ⌝ }
-    ensures { λ r. ⌜ r ≡ (reached ⊖ wanted) ⊕ cond sensitive (nearestRoot wrong) (whole 1) ⌝ }
+    requires { wrong ≤ 128 }
+    ensures { result ≡ (reached ⊖ wanted) ⊕ cond sensitive (nearest_root wrong) (whole 1) }
 {
     reached - wanted + margin(sensitive, wrong)
 }
 
 // The step by its variant: 0 Pa, 1 PaI, 2 PaII.
 pub fn step_of(variant: u32, c: f64, cost: f64, norm: f64) -> f64
-    ensures { λ r. ⌜ r ≡ stepOf variant c cost norm ⌝ }
+    ensures { result ≡ step_of variant c cost norm }
 {
     if variant == 0 {
         return cost / norm;
@@ -45,7 +43,7 @@ pub fn step_of(variant: u32, c: f64, cost: f64, norm: f64) -> f64
 
 // No step where no feature tells the two paths apart.
 pub fn tau_of(variant: u32, c: f64, cost: f64, norm: f64) -> f64
-    ensures { λ r. ⌜ r ≡ cond (lt nought norm) (stepOf variant c cost norm) nought ⌝ }
+    ensures { result ≡ cond (lt nought norm) (step_of variant c cost norm) nought }
 {
     if 0.0 < norm {
         step_of(variant, c, cost, norm)
@@ -59,8 +57,8 @@ const NOTES: usize = 32;
 
 // The differences of counts from one feature up to another, squared and added to a sum.
 fn add_up(sum: f64, truly: &[f64], predicted: &[f64], first: usize, last: usize) -> f64
-    requires { ⌜ Both last (length (now truly)) (length (now predicted)) ⌝ }
-    ensures { λ r. ⌜ r ≡ through (squared (now (truly .entry)) (now (predicted .entry))) first (last - first) sum ⌝ }
+    requires { Both last (length truly.now) (length predicted.now) }
+    ensures { result ≡ through (squared truly.now predicted.now) first (last - first) sum }
 {
     let mut s = sum;
     let mut i = first;
@@ -74,8 +72,8 @@ fn add_up(sum: f64, truly: &[f64], predicted: &[f64], first: usize, last: usize)
 
 // The counts of one of the four features from here on differ.
 fn differ(truly: &[f64], predicted: &[f64], first: usize) -> bool
-    requires { ⌜ Both (first + 4) (length (now truly)) (length (now predicted)) ⌝ }
-    ensures { λ r. ⌜ r ≡ through (differing (now (truly .entry)) (now (predicted .entry))) first 4 false ⌝ }
+    requires { Both (first + 4) (length truly.now) (length predicted.now) }
+    ensures { result ≡ through (differing truly.now predicted.now) first 4 false }
 {
     let last = first + 4;
     let mut any = false;
@@ -89,10 +87,10 @@ fn differ(truly: &[f64], predicted: &[f64], first: usize) -> bool
 
 // Four features are noted: the note stays where their counts differ, and otherwise the next one takes its place.
 fn note(truly: &[f64], predicted: &[f64], first: usize, noted: usize, who: &mut [usize]) -> usize
-    requires { ⌜ Both (first + 4) (length (now truly)) (length (now predicted)) ⌝ }
-    requires { ⌜ noted < length (now who) ⌝ }
-    ensures { λ r. ⌜ now (who .exit) ≡ set (now (who .entry)) noted first ⌝ }
-    ensures { λ r. ⌜ r ≡ cond (through (differing (now (truly .entry)) (now (predicted .entry))) first 4 false) (noted + 1) noted ⌝ }
+    requires both { Both (first + 4) (length truly.now) (length predicted.now) }
+    requires noted_in_bounds { noted < length who.old }
+    ensures who_after { who.new ≡ set who.old noted first }
+    ensures value { result ≡ cond (through (differing truly.now predicted.now) first 4 false) (noted + 1) noted }
 {
     who[noted] = first;
     if differ(truly, predicted, first) {
@@ -111,9 +109,9 @@ fn settle(
     noted: usize,
     sum: f64,
 ) -> f64
-    requires { ⌜ Both features (length (now truly)) (length (now predicted)) ⌝ }
-    requires { ⌜ FourNotes features (now who) noted ⌝ }
-    ensures { λ r. ⌜ r ≡ foursAdded (now (truly .entry)) (now (predicted .entry)) (now (who .entry)) noted sum ⌝ }
+    requires both { Both features (length truly.now) (length predicted.now) }
+    requires four_notes { FourNotes features who.now noted }
+    ensures { result ≡ fours_added truly.now predicted.now who.now noted sum }
 {
     let mut s = sum;
     let mut j = 0usize;
@@ -128,8 +126,8 @@ fn settle(
 // The differences of counts, squared and added up. The instance's weight is not in them. A sum waits for the one before it,
 // and the counts of few features differ: so the others are passed over, by fours.
 pub fn norm(features: usize, truly: &[f64], predicted: &[f64]) -> f64
-    requires { ⌜ Both features (length (now truly)) (length (now predicted)) ⌝ }
-    ensures { λ r. ⌜ r ≡ through (squared (now (truly .entry)) (now (predicted .entry))) 0 features nought ⌝ }
+    requires { Both features (length truly.now) (length predicted.now) }
+    ensures { result ≡ through (squared truly.now predicted.now) 0 features nought }
 {
     let mut who = [0usize; NOTES];
     let mut noted = 0usize;
@@ -159,8 +157,8 @@ pub fn pull(
     weights: &mut [f64],
     sums: &mut [f64],
 ) -> bool
-    requires { ⌜ Held features (length (now truly)) (length (now predicted)) (length (now weights)) (length (now sums)) ⌝ }
-    ensures { λ r. ⌜ Moved features (pulled (now (truly .entry)) (now (predicted .entry)) averaging tau counter) (record { weights = now (weights .entry); beside = now (sums .entry) }) (record { weights = now (weights .exit); beside = now (sums .exit) }) r ⌝ }
+    requires { Held features (length truly.now) (length predicted.now) (length weights.old) (length sums.old) }
+    ensures { Moved features (pulled truly.now predicted.now averaging tau counter) (record { weights = weights.entry.now; beside = sums.old }) (record { weights = weights.exit.now; beside = sums.new }) result }
 {
     let mut all = true;
     let mut i = 0usize;
@@ -194,12 +192,12 @@ pub fn update(
     weights: &mut [f64],
     sums: &mut [f64],
 ) -> Outcome
-    requires { ⌜ (wrong ≤ 128) × Held features (length (now truly)) (length (now predicted)) (length (now weights)) (length (now sums)) ⌝ }
-    ensures { λ r. ⌜ ((words : ℕ) →
+    requires { (wrong ≤ 128) × Held features (length truly.now) (length predicted.now) (length weights.old) (length sums.old) }
+    ensures { (words : ℕ) →
         Updated (passive variant c sensitive averaging) features
-        (record { words = words; wrong = wrong; truly = now (truly .entry); predicted = now (predicted .entry); trueScore = wanted; predictedScore = reached; weight = weight; counter = counter })
-        (record { weights = now (weights .entry); beside = now (sums .entry) })
-        (record { weights = now (weights .exit); beside = now (sums .exit) }) r) ⌝ }
+        (record { words = words; wrong = wrong; truly = truly.now; predicted = predicted.now; true_score = wanted; predicted_score = reached; weight = weight; counter = counter })
+        (record { weights = weights.entry.now; beside = sums.old })
+        (record { weights = weights.exit.now; beside = sums.new }) result }
 {
     let cost = cost_of(sensitive, wrong, reached, wanted);
     let norm = norm(features, truly, predicted);

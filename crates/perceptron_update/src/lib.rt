@@ -1,11 +1,10 @@
 // The averaged perceptron's update: weights and running sums after a visit whose labels differ, and what it adds to the
 // epoch's loss.
-ghost use mathlib.Core.Path.{_≡_};
-ghost use lib.ListN.{length};
-ghost use lib.Ieee.{Float};
-ghost use Rattle·binary64.specs.Numbers.{whole};
-ghost use Rattle·training.specs.Rules.{pushed, perceptron, _⊗_, _⊘_};
-ghost use Rattle·training_tables.specs.Tables.{Held, Moved, Updated};
+ghost use Rattle.std.specs.Prelude.{◌≡◌, length, Float};
+ghost use Rattle.binary64.specs.Numbers.{whole};
+ghost use Rattle.training.specs.Rules.{pushed, perceptron, ◌⊗◌, ◌⊘◌};
+ghost use Rattle.training_tables.specs.Tables.{Held, Moved, Updated};
+
 use training_tables::Outcome;
 
 // Each feature's difference of counts, weighted, goes to its weight and, times the counter, to its running sum. The answer
@@ -19,8 +18,8 @@ pub fn push(
     weights: &mut [f64],
     sums: &mut [f64],
 ) -> bool
-    requires { ⌜ Held features (length (now truly)) (length (now predicted)) (length (now weights)) (length (now sums)) ⌝ }
-    ensures { λ r. ⌜ Moved features (pushed (now (truly .entry)) (now (predicted .entry)) weight counter) (record { weights = now (weights .entry); beside = now (sums .entry) }) (record { weights = now (weights .exit); beside = now (sums .exit) }) r ⌝ }
+    requires { Held features (length truly.now) (length predicted.now) (length weights.old) (length sums.old) }
+    ensures { Moved features (pushed truly.now predicted.now weight counter) (record { weights = weights.entry.now; beside = sums.old }) (record { weights = weights.exit.now; beside = sums.new }) result }
 {
     let mut all = true;
     let mut i = 0usize;
@@ -38,7 +37,7 @@ pub fn push(
 
 // The loss: the share of wrong labels, weighted.
 pub fn share(wrong: u32, words: u32, weight: f64) -> f64
-    ensures { λ r. ⌜ r ≡ (whole wrong ⊘ whole words) ⊗ weight ⌝ }
+    ensures { result ≡ (whole wrong ⊘ whole words) ⊗ weight }
 {
     wrong as f64 / words as f64 * weight
 }
@@ -55,12 +54,12 @@ pub fn update(
     weights: &mut [f64],
     sums: &mut [f64],
 ) -> Outcome
-    requires { ⌜ Held features (length (now truly)) (length (now predicted)) (length (now weights)) (length (now sums)) ⌝ }
-    ensures { λ r. ⌜ ((trueScore predictedScore : Float) →
+    requires { Held features (length truly.now) (length predicted.now) (length weights.old) (length sums.old) }
+    ensures { (true_score predicted_score : Float) →
         Updated perceptron features
-        (record { words = words; wrong = wrong; truly = now (truly .entry); predicted = now (predicted .entry); trueScore = trueScore; predictedScore = predictedScore; weight = weight; counter = counter })
-        (record { weights = now (weights .entry); beside = now (sums .entry) })
-        (record { weights = now (weights .exit); beside = now (sums .exit) }) r) ⌝ }
+        (record { words = words; wrong = wrong; truly = truly.now; predicted = predicted.now; true_score = true_score; predicted_score = predicted_score; weight = weight; counter = counter })
+        (record { weights = weights.entry.now; beside = sums.old })
+        (record { weights = weights.exit.now; beside = sums.new }) result }
 {
     let all = push(features, weight, counter, truly, predicted, weights, sums);
     let loss = share(wrong, words, weight);

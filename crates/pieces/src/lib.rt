@@ -1,17 +1,15 @@
 // The pieces of a training text that is known to be well-formed, one after another: empty lines, labels, attributes. A cursor stands
 // where a piece begins. Nothing is stored: a piece is told by its places in the text.
-ghost use mathlib.Core.Path.{_≡_};
-ghost use mathlib.Core.Bool.{true, false};
-ghost use Prim.Native.Nat.{ℕ, _+_, _≤_};
-ghost use lib.ListN.{length};
-ghost use lib.Seq.{slice};
-ghost use Rattle·layout.specs.Layout.{Bytes};
-ghost use Rattle·byte_buffers.specs.Stored.{RoomFor, Put};
-ghost use Rattle·pieces·specs.specs.PieceText.{lineKind};
-ghost use Rattle·pieces·specs.specs.Standing.{endsName, endsField, Named, SomeName, Fielded, SomePieceAhead, Finds, Follows, AtStart};
-ghost use Rattle·pieces·specs.specs.Unescaped.{isSkipped, unescaped};
+ghost use Rattle.std.specs.Prelude.{◌≡◌, true, false, ℕ, ◌+◌, ◌≤◌, length};
+ghost use Rattle.std.proofs.Math.Seq.{slice};
+ghost use Rattle.layout.specs.Layout.{Bytes};
+ghost use Rattle.byte_buffers.specs.Stored.{RoomFor, Put};
+ghost use Rattle.pieces.specs.PieceText.{line_kind_of};
+ghost use Rattle.pieces.specs.Standing.{ends_name_of, ends_field_of, Named, SomeName, Fielded, SomePieceAhead, Finds, Follows, AtStart};
+ghost use Rattle.pieces.specs.Unescaped.{is_skipped, unescaped};
 
 // An empty line, a word's label, an attribute.
+#[derive(Drop)]
 pub enum Kind {
     Blank,
     Label,
@@ -19,12 +17,14 @@ pub enum Kind {
 }
 
 // Where a piece begins, and whether it is an attribute; past the text's end behind the last.
+#[derive(Drop)]
 pub struct Cursor {
     pub at: usize,
     pub field: bool,
 }
 
 // Where a piece stands: its name from `from` to `split`, its colon and scale from there to `to`.
+#[derive(Drop)]
 pub struct Span {
     pub kind: Kind,
     pub from: usize,
@@ -34,22 +34,22 @@ pub struct Span {
 
 // A bare byte that ends a name.
 fn ends_name(b: u8) -> bool
-    ensures { λ r. ⌜ r ≡ endsName b ⌝ }
+    ensures { result ≡ ends_name_of b }
 {
     (b == 9) | (b == 10) | (b == 58)
 }
 
 // A byte that ends a field.
 fn ends_field(b: u8) -> bool
-    ensures { λ r. ⌜ r ≡ endsField b ⌝ }
+    ensures { result ≡ ends_field_of b }
 {
     (b == 9) | (b == 10)
 }
 
 // Where the name that begins here ends: at a bare tab, line feed or colon, or at the end of the text.
 pub fn name_end(text: &[u8], at: usize) -> usize
-    requires { ⌜ SomeName (now text) at ⌝ }
-    ensures { λ r. ⌜ ((to : ℕ) (name : Bytes) → Named (now (text .entry)) at to name → r ≡ to) ⌝ }
+    requires { SomeName text.now at }
+    ensures { (to : ℕ) (name : Bytes) → Named text.now at to name → result ≡ to }
 {
     let mut i = at;
     while i < text.len() {
@@ -68,7 +68,7 @@ pub fn name_end(text: &[u8], at: usize) -> usize
 
 // Where the field that goes on here ends: at a tab, a line feed or the end of the text.
 fn scale_end(text: &[u8], at: usize) -> usize
-    ensures { λ r. ⌜ ((to : ℕ) → Fielded (now (text .entry)) at to → r ≡ to) ⌝ }
+    ensures { (to : ℕ) → Fielded text.now at to → result ≡ to }
 {
     let mut i = at;
     while i < text.len() {
@@ -83,7 +83,7 @@ fn scale_end(text: &[u8], at: usize) -> usize
 
 // The cursor at the start of a text.
 pub fn start(text: &[u8]) -> Cursor
-    ensures { λ r. ⌜ AtStart (now (text .entry)) r ⌝ }
+    ensures { AtStart text.now result }
 {
     Cursor {
         at: 0,
@@ -93,15 +93,15 @@ pub fn start(text: &[u8]) -> Cursor
 
 // What a line begins with: nothing, or a label.
 fn line_kind(empty: bool) -> Kind
-    ensures { λ r. ⌜ r ≡ lineKind empty ⌝ }
+    ensures { result ≡ line_kind_of empty }
 {
     if empty { Kind::Blank } else { Kind::Label }
 }
 
 // The piece at the cursor.
 pub fn piece_at(text: &[u8], cursor: Cursor) -> Span
-    requires { ⌜ SomePieceAhead (now text) cursor ⌝ }
-    ensures { λ r. ⌜ Finds (now (text .entry)) cursor r ⌝ }
+    requires { SomePieceAhead text.now cursor }
+    ensures { Finds text.now cursor result }
 {
     let at = cursor.at;
     let split = name_end(text, at);
@@ -123,8 +123,8 @@ pub fn piece_at(text: &[u8], cursor: Cursor) -> Span
 
 // The cursor behind a piece that ends here. A text that is read has at most 4,294,967,295 bytes, so one place more always fits.
 pub fn after(text: &[u8], to: usize) -> Cursor
-    requires { ⌜ to ≤ 4294967295 ⌝ }
-    ensures { λ r. ⌜ Follows (now (text .entry)) to r ⌝ }
+    requires { to ≤ 4294967295 }
+    ensures { Follows text.now to result }
 {
     let at = to + 1;
     if to < text.len() {
@@ -142,15 +142,15 @@ pub fn after(text: &[u8], to: usize) -> Cursor
 
 // Whether a byte of an escaped name goes: a backslash that stands behind none.
 fn skips(b: u8, slashed: bool) -> bool
-    ensures { λ r. ⌜ r ≡ isSkipped slashed b ⌝ }
+    ensures { result ≡ is_skipped slashed b }
 {
     (b == 92) & !slashed
 }
 
 // How many bytes the name between two places has without its backslashes.
 pub fn unescaped_length(text: &[u8], from: usize, to: usize) -> usize
-    requires { ⌜ (from ≤ to) × (to ≤ length (now text)) ⌝ }
-    ensures { λ r. ⌜ r ≡ length (unescaped (slice from to (now (text .entry)))) ⌝ }
+    requires { (from ≤ to) × (to ≤ length text.now) }
+    ensures { result ≡ length (unescaped (slice from to text.now)) }
 {
     let mut i = from;
     let mut count = 0usize;
@@ -170,9 +170,9 @@ pub fn unescaped_length(text: &[u8], from: usize, to: usize) -> usize
 
 // The name between two places without its backslashes, written from `at` on; the place after it.
 pub fn unescape(text: &[u8], from: usize, to: usize, out: &mut [u8], at: usize) -> usize
-    requires { ⌜ (from ≤ to) × (to ≤ length (now text)) ⌝ }
-    requires { ⌜ RoomFor (unescaped (slice from to (now text))) (now out) at ⌝ }
-    ensures { λ r. ⌜ Put (unescaped (slice from to (now (text .entry)))) (now (out .entry)) at r (now (out .exit)) ⌝ }
+    requires from_le_to { (from ≤ to) × (to ≤ length text.now) }
+    requires room_for { RoomFor (unescaped (slice from to text.now)) out.old at }
+    ensures { Put (unescaped (slice from to text.now)) out.old at result out.new }
 {
     let mut i = from;
     let mut k = at;

@@ -1,14 +1,14 @@
 // What a visit does before it learns: it labels an instance with the present weights and has the labels judged.
-ghost use mathlib.Core.Path.{_≡_};
-ghost use Prim.Native.Nat.{_*_, _≤_};
-ghost use lib.ListN.{length};
-ghost use Rattle·lines.specs.Scored.{statesOf, transitionsOf};
-ghost use Rattle·feature_gen.specs.Sound.{SoundModel};
-ghost use Rattle·prediction·specs.specs.Tables.{trainingModelAt, trainingModelWas, wordsAt, wordsWas, SoundInstance};
-ghost use Rattle·judging.specs.Judged.{Judged};
+ghost use Rattle.std.specs.Prelude.{◌≡◌, ◌*◌, ◌≤◌, length};
+ghost use Rattle.lines.specs.Scored.{states_of, transitions_of};
+ghost use Rattle.feature_gen.specs.Sound.{SoundModel};
+ghost use Rattle.prediction.specs.Tables.{training_model_at, training_model_was, words_at, words_was, SoundInstance};
+ghost use Rattle.judging.specs.Judged.{Judged};
+
 use judging::Prediction;
 
 // The counts of a trainer's tables.
+#[derive(Drop)]
 pub struct Sizes {
     pub labels: usize,
     pub features: usize,
@@ -42,15 +42,14 @@ fn predict_in(
     states: &mut [f64],
     path: &mut [u32],
 ) -> Prediction
-    requires { ⌜ SoundModel (trainingModelAt sizes kinds destinations sources starts entries «label_starts» «label_entries») ⌝ }
-    requires { ⌜ SoundInstance (sizes .labels) (wordsAt sizes begins ids values) first words (now references) ⌝ }
-    requires { ⌜ (length (now weights) ≡ sizes .features) × (length (now path) ≡ words) ⌝ }
-    requires { ⌜ (length (now transitions) ≡ sizes .labels * sizes .labels) × (length (now states) ≡ words * sizes .labels) ⌝ }
-    ensures { λ r.
-        let m = trainingModelWas sizes kinds destinations sources starts entries «label_starts» «label_entries» in
-        let line = wordsWas sizes begins ids values in
-        let w = now (weights .entry) in
-        ⌜ Judged (sizes .labels) words (transitionsOf m w) (statesOf m w line first words) (now (references .entry)) (now (path .exit)) r ⌝ }
+    requires sound_model { SoundModel (training_model_at sizes kinds destinations sources starts entries label_starts label_entries) }
+    requires sound_instance { SoundInstance sizes.labels (words_at sizes begins ids values) first words references.now }
+    requires weights_len { (length weights.now ≡ sizes.features) × (length path.old ≡ words) }
+    requires transitions_len { (length transitions.old ≡ sizes.labels * sizes.labels) × (length states.old ≡ words * sizes.labels) }
+    ensures { let m = training_model_was sizes kinds destinations sources starts entries label_starts label_entries in
+        let line = words_was sizes begins ids values in
+        let w = weights.now in
+        Judged sizes.labels words (transitions_of m w) (states_of m w line first words) references.now path.new result }
 {
     let labels = sizes.labels;
     let features = sizes.features;
@@ -106,15 +105,14 @@ fn predict_short(
     references: &[u32],
     path: &mut [u32],
 ) -> Prediction
-    requires { ⌜ SoundModel (trainingModelAt sizes kinds destinations sources starts entries «label_starts» «label_entries») ⌝ }
-    requires { ⌜ SoundInstance (sizes .labels) (wordsAt sizes begins ids values) first words (now references) ⌝ }
-    requires { ⌜ (length (now weights) ≡ sizes .features) × (length (now path) ≡ words) ⌝ }
-    requires { ⌜ (sizes .labels * sizes .labels ≤ 256) × (words * sizes .labels ≤ 256) ⌝ }
-    ensures { λ r.
-        let m = trainingModelWas sizes kinds destinations sources starts entries «label_starts» «label_entries» in
-        let line = wordsWas sizes begins ids values in
-        let w = now (weights .entry) in
-        ⌜ Judged (sizes .labels) words (transitionsOf m w) (statesOf m w line first words) (now (references .entry)) (now (path .exit)) r ⌝ }
+    requires sound_model { SoundModel (training_model_at sizes kinds destinations sources starts entries label_starts label_entries) }
+    requires sound_instance { SoundInstance sizes.labels (words_at sizes begins ids values) first words references.now }
+    requires weights_len { (length weights.now ≡ sizes.features) × (length path.old ≡ words) }
+    requires labels_bound { (sizes.labels * sizes.labels ≤ 256) × (words * sizes.labels ≤ 256) }
+    ensures { let m = training_model_was sizes kinds destinations sources starts entries label_starts label_entries in
+        let line = words_was sizes begins ids values in
+        let w = weights.now in
+        Judged sizes.labels words (transitions_of m w) (states_of m w line first words) references.now path.new result }
 {
     let mut transitions = [0.0; labelling::FEW];
     let mut states = [0.0; labelling::FEW];
@@ -161,14 +159,13 @@ fn predict_long(
     references: &[u32],
     path: &mut [u32],
 ) -> Prediction
-    requires { ⌜ SoundModel (trainingModelAt sizes kinds destinations sources starts entries «label_starts» «label_entries») ⌝ }
-    requires { ⌜ SoundInstance (sizes .labels) (wordsAt sizes begins ids values) first words (now references) ⌝ }
-    requires { ⌜ (length (now weights) ≡ sizes .features) × (length (now path) ≡ words) ⌝ }
-    ensures { λ r.
-        let m = trainingModelWas sizes kinds destinations sources starts entries «label_starts» «label_entries» in
-        let line = wordsWas sizes begins ids values in
-        let w = now (weights .entry) in
-        ⌜ Judged (sizes .labels) words (transitionsOf m w) (statesOf m w line first words) (now (references .entry)) (now (path .exit)) r ⌝ }
+    requires sound_model { SoundModel (training_model_at sizes kinds destinations sources starts entries label_starts label_entries) }
+    requires sound_instance { SoundInstance sizes.labels (words_at sizes begins ids values) first words references.now }
+    requires weights_len { (length weights.now ≡ sizes.features) × (length path.old ≡ words) }
+    ensures { let m = training_model_was sizes kinds destinations sources starts entries label_starts label_entries in
+        let line = words_was sizes begins ids values in
+        let w = weights.now in
+        Judged sizes.labels words (transitions_of m w) (states_of m w line first words) references.now path.new result }
 {
     let mut transitions = [0.0; labelling::MOST_TRANSITIONS];
     let mut states = [0.0; labelling::MOST_STATES];
@@ -215,14 +212,13 @@ pub fn predict(
     references: &[u32],
     path: &mut [u32],
 ) -> Prediction
-    requires { ⌜ SoundModel (trainingModelAt sizes kinds destinations sources starts entries «label_starts» «label_entries») ⌝ }
-    requires { ⌜ SoundInstance (sizes .labels) (wordsAt sizes begins ids values) first words (now references) ⌝ }
-    requires { ⌜ (length (now weights) ≡ sizes .features) × (length (now path) ≡ words) ⌝ }
-    ensures { λ r.
-        let m = trainingModelWas sizes kinds destinations sources starts entries «label_starts» «label_entries» in
-        let line = wordsWas sizes begins ids values in
-        let w = now (weights .entry) in
-        ⌜ Judged (sizes .labels) words (transitionsOf m w) (statesOf m w line first words) (now (references .entry)) (now (path .exit)) r ⌝ }
+    requires sound_model { SoundModel (training_model_at sizes kinds destinations sources starts entries label_starts label_entries) }
+    requires sound_instance { SoundInstance sizes.labels (words_at sizes begins ids values) first words references.now }
+    requires weights_len { (length weights.now ≡ sizes.features) × (length path.old ≡ words) }
+    ensures { let m = training_model_was sizes kinds destinations sources starts entries label_starts label_entries in
+        let line = words_was sizes begins ids values in
+        let w = weights.now in
+        Judged sizes.labels words (transitions_of m w) (states_of m w line first words) references.now path.new result }
 {
     if labelling::is_small(sizes.labels, words) {
         predict_short(

@@ -1,121 +1,121 @@
 -- The sizes of sequences: what the tables need by them, and that a survey whose counts are within their bounds has them. Assumes nothing.
-use mathlib.Core.Path.{_≡_, refl, sym, ap, subst, _∙_}
-use mathlib.Core.List.{List, [], _∷_, map, flatten}
-use Prim.Native.Nat.{ℕ, suc, _+_, _≤_}
-use native.Mathlib.Nat.{le-trans}
+use mathlib.Core.Path.{◌≡◌, refl, sym, ap, subst, ◌∙◌}
+use mathlib.Core.List.{List, [], ◌∷◌, map, flatten}
+use Prim.Native.Nat.{ℕ, suc, ◌+◌, ◌≤◌}
+use native.Mathlib.Nat.{le_trans}
 use native.Mathlib.Omega.{arith}
 use lib.ListN.{length, take, replicate, length-map, length-replicate}
-use lib.Seq.{take-all}
-use Rattle·binary64.specs.Numbers.{whole}
-use Rattle·refusals.specs.declared.Checked.the-variants.{Accepted}
-use Rattle·refusal_rows.specs.Limits.{Limit, room, AllWithin}
-use Rattle·layout.specs.Layout.{Bytes, TextAttribute, Word, WellFormed, sequences}
-use Rattle·scales.specs.Value.{valueOf}
-use Rattle·text_tables.specs.Distinct.{idIn, distinct}
-use Rattle·text_tables.specs.Tables.{startsFrom, tables, allWords, allAttributes, labelsOf, namesOf, scalesOf}
-use Rattle·text_tables.specs.InText.{InText}
-use Rattle·text_tables.proofs.InText.{fits-in-text}
-use Rattle·survey.specs.declared.NameSums.{NameSums}
-use Rattle·survey.specs.declared.Survey.{Survey}
-use Rattle·text_check.specs.declared.Lengths.{Lengths}
-use Rattle·text_check.specs.Rows.{textCounts, textRooms, textSized}
-use Rattle·text_check.proofs.Meant.{text-checks-mean}
-use Rattle·text_check.specs.Told.{CountsFront, TellsSequences, FewSurvey, TextSurveyed}
-use Rattle·read_text·specs.specs.Promise.{sizesOf}
-use Rattle·read_text·specs.specs.Sizes.{sizesRooms}
-use Rattle·read_text·specs.specs.Steps.{sizesIn, SmallSurvey}
+use lib.Seq.{take_all}
+use Rattle.binary64.specs.Numbers.{whole}
+use Rattle.refusals.specs.declared.Checked.TheVariants.{Accepted}
+use Rattle.refusal_rows.specs.Limits.{Limit, room, AllWithin}
+use Rattle.layout.specs.Layout.{Bytes, TextAttribute, Word, WellFormed, sequences}
+use Rattle.scales.specs.Value.{value_of}
+use Rattle.text_tables.specs.Distinct.{id_in, distinct}
+use Rattle.text_tables.specs.Tables.{starts_from, tables, all_words, all_attributes, labels_of, names_of, scales_of}
+use Rattle.text_tables.specs.InText.{InText}
+use Rattle.text_tables.proofs.InText.{fits_in_text}
+use Rattle.survey.specs.declared.NameSums.{NameSums}
+use Rattle.survey.specs.declared.Survey.{Survey}
+use Rattle.text_check.specs.declared.Lengths.{Lengths}
+use Rattle.text_check.specs.Rows.{text_counts, text_rooms, text_sized}
+use Rattle.text_check.proofs.Meant.{text_checks_mean}
+use Rattle.text_check.specs.Told.{CountsFront, TellsSequences, FewSurvey, TextSurveyed}
+use Rattle.read_text.specs.Promise.{sizes_for}
+use Rattle.read_text.specs.Sizes.{sizes_rooms}
+use Rattle.read_text.specs.Steps.{sizes_in_of, SmallSurvey}
 
 -- ---- how long the tables are
 
-starts-length : (at : ℕ) (ns : List ℕ) → length ns + 1 ≡ length (startsFrom at ns)
-unfolding startsFrom
-starts-length at [] = refl
-starts-length at (n ∷ ns) = (omega arith) ∙ ap suc (starts-length (at + n) ns)
+starts_length : (at : ℕ) (ns : List ℕ) → length ns + 1 ≡ length (starts_from at ns)
+unfolding starts_from
+starts_length at [] = refl
+starts_length at (n ∷ ns) = (omega arith) ∙ ap suc (starts_length (at + n) ns)
 
-one-more : {A : Type 0} (f : A → ℕ) (xs : List A) → length xs + 1 ≡ length (startsFrom 0 (map f xs))
-one-more f xs = ap (λ (k : ℕ). k + 1) (sym (length-map xs f)) ∙ starts-length 0 (map f xs)
+one_more : {A : Type 0} (f : A → ℕ) (xs : List A) → length xs + 1 ≡ length (starts_from 0 (map f xs))
+one_more f xs = ap (λ (k : ℕ). k + 1) (sym (length-map xs f)) ∙ starts_length 0 (map f xs)
 
-pub rooms-are : (ss : List (List Word)) (have : Lengths) → sizesRooms (sizesOf ss) have ≡ textRooms (tables ss) have
+pub rooms_are : (ss : List (List Word)) (have : Lengths) → sizes_rooms (sizes_for ss) have ≡ text_rooms (tables ss) have
 unfolding tables
-rooms-are ss have =
-    let words : List Word = allWords ss in
-    let attributes : List TextAttribute = allAttributes words in
-    let lines = one-more (λ (x : List Word). length x) ss in
-    let begins = one-more (λ (x : Word). length (x .attributes)) words in
-    let ids : length attributes ≡ length (map (idIn (distinct (namesOf attributes))) (namesOf attributes)) =
-    sym (length-map attributes (λ (x : TextAttribute). x .name)) ∙ sym (length-map (namesOf attributes) (idIn (distinct (namesOf attributes)))) in
-    let values : length attributes ≡ length (map valueOf (scalesOf attributes)) = sym (length-map attributes (λ (x : TextAttribute). x .scale)) ∙ sym (length-map (scalesOf attributes) valueOf) in
-    let references : length words ≡ length (map (idIn (distinct (labelsOf words))) (labelsOf words)) =
-    sym (length-map words (λ (x : Word). x .label)) ∙ sym (length-map (labelsOf words) (idIn (distinct (labelsOf words)))) in
+rooms_are ss have =
+    let words : List Word = all_words ss in
+    let attributes : List TextAttribute = all_attributes words in
+    let lines = one_more (λ (x : List Word). length x) ss in
+    let begins = one_more (λ (x : Word). length x.attributes) words in
+    let ids : length attributes ≡ length (map (id_in (distinct (names_of attributes))) (names_of attributes)) =
+    sym (length-map attributes (λ (x : TextAttribute). x.name)) ∙ sym (length-map (names_of attributes) (id_in (distinct (names_of attributes)))) in
+    let values : length attributes ≡ length (map value_of (scales_of attributes)) = sym (length-map attributes (λ (x : TextAttribute). x.scale)) ∙ sym (length-map (scales_of attributes) value_of) in
+    let references : length words ≡ length (map (id_in (distinct (labels_of words))) (labels_of words)) =
+    sym (length-map words (λ (x : Word). x.label)) ∙ sym (length-map (labels_of words) (id_in (distinct (labels_of words)))) in
     let weights : length ss ≡ length (replicate (length ss) (whole 1)) = sym (length-replicate (length ss) (whole 1)) in
-    let label-starts = one-more length (distinct (labelsOf words)) in
-    let name-starts = one-more length (distinct (namesOf attributes)) in
-    let scale-starts = ap (λ (k : ℕ). k + 1) (sym (length-map attributes (λ (x : TextAttribute). x .scale))) ∙ one-more length (scalesOf attributes) in
+    let label_starts_lem = one_more length (distinct (labels_of words)) in
+    let name_starts_lem = one_more length (distinct (names_of attributes)) in
+    let scale_starts_lem = ap (λ (k : ℕ). k + 1) (sym (length-map attributes (λ (x : TextAttribute). x.scale))) ∙ one_more length (scales_of attributes) in
     λ i.
-    room 1 (have .lines) (lines i)
-    ∷ room 2 (have .begins) (begins i)
-    ∷ room 3 (have .ids) (ids i)
-    ∷ room 4 (have .values) (values i)
-    ∷ room 5 (have .references) (references i)
-    ∷ room 6 (have .weights) (weights i)
-    ∷ room 7 (have .«label_starts») (label-starts i)
-    ∷ room 8 (have .«label_bytes») (length (flatten (distinct (labelsOf words))))
-    ∷ room 9 (have .«name_starts») (name-starts i)
-    ∷ room 10 (have .«name_bytes») (length (flatten (distinct (namesOf attributes))))
-    ∷ room 11 (have .«scale_starts») (scale-starts i)
-    ∷ room 12 (have .«scale_bytes») (length (flatten (scalesOf attributes)))
+    room 1 have.lines (lines i)
+    ∷ room 2 have.begins (begins i)
+    ∷ room 3 have.ids (ids i)
+    ∷ room 4 have.values (values i)
+    ∷ room 5 have.references (references i)
+    ∷ room 6 have.weights (weights i)
+    ∷ room 7 have.label_starts (label_starts_lem i)
+    ∷ room 8 have.label_bytes (length (flatten (distinct (labels_of words))))
+    ∷ room 9 have.name_starts (name_starts_lem i)
+    ∷ room 10 have.name_bytes (length (flatten (distinct (names_of attributes))))
+    ∷ room 11 have.scale_starts (scale_starts_lem i)
+    ∷ room 12 have.scale_bytes (length (flatten (scales_of attributes)))
     ∷ []
 
 -- ---- a survey has counted all names
 
 pub record CountsAll (names : List Bytes) (known : NameSums) : Type 0 where
-  pub count : known .count ≡ length names
-  pub bytes : known .bytes ≡ length (flatten names)
+  pub count : known.count ≡ length names
+  pub bytes : known.bytes ≡ length (flatten names)
 
-counts-all : {most : ℕ} {names : List Bytes} {known : NameSums} → length names ≤ most → CountsFront most names known → CountsAll names known
-counts-all {most} {names} {known} few c =
-    let f : take most names ≡ names = take-all most names few in
-    record { count = c .count ∙ ap length f; bytes = c .bytes ∙ ap (λ (ns : List Bytes). length (flatten ns)) f }
+counts_all : {most : ℕ} {names : List Bytes} {known : NameSums} → length names ≤ most → CountsFront most names known → CountsAll names known
+counts_all {most} {names} {known} few c =
+    let f : take most names ≡ names = take_all most names few in
+    record { count = c.count ∙ ap length f; bytes = c.bytes ∙ ap (λ (ns : List Bytes). length (flatten ns)) f }
 
-module _ (ss : List (List Word)) (s : Survey) (g : TellsSequences ss s) (w : AllWithin (textCounts ss)) where
-  pub labels-counted : CountsAll (distinct (labelsOf (allWords ss))) (s .labels)
-  labels-counted = counts-all (let few = w .0 in omega (arith, few)) (g .labels)
+module _ (ss : List (List Word)) (s : Survey) (g : TellsSequences ss s) (w : AllWithin (text_counts ss)) where
+  pub labels_counted : CountsAll (distinct (labels_of (all_words ss))) s.labels
+  labels_counted = counts_all (let few = w.0 in omega (arith, few)) g.labels
 
-  pub names-counted : CountsAll (distinct (namesOf (allAttributes (allWords ss)))) (s .names)
-  names-counted = counts-all (let few = w .1 .0 in omega (arith, few)) (g .names)
+  pub names_counted : CountsAll (distinct (names_of (all_attributes (all_words ss)))) s.names
+  names_counted = counts_all (let few = w.1.0 in omega (arith, few)) g.names
 
-  pub sizes-told : sizesIn s ≡ sizesOf ss
-  sizes-told =
-      let l = labels-counted in
-      let n = names-counted in
+  pub sizes_told : sizes_in_of s ≡ sizes_for ss
+  sizes_told =
+      let l = labels_counted in
+      let n = names_counted in
       λ i. record {
-        labels = l .count i;
-        names = n .count i;
-        instances = g .sequences i;
-        words = g .words i;
-        attributes = g .attributes i;
-        «label_bytes» = l .bytes i;
-        «name_bytes» = n .bytes i;
-        «scale_bytes» = g .scales i;
+        labels = l.count i;
+        names = n.count i;
+        instances = g.sequences i;
+        words = g.words i;
+        attributes = g.attributes i;
+        label_bytes = l.bytes i;
+        name_bytes = n.bytes i;
+        scale_bytes = g.scales i;
       }
 
 -- nothing that is counted is above the text's bytes
-pub survey-small : {text : Bytes} {s : Survey} (h : WellFormed text) → length text ≤ 4294967295 → TextSurveyed (sequences (h .lines)) s → AllWithin (textCounts (sequences (h .lines))) → SmallSurvey s
-survey-small {text} {s} h small g w =
-    let ss : List (List Word) = sequences (h .lines) in
-    let f : InText ss (length text) = subst (λ (t : Bytes). InText ss (length t)) (h .made) (fits-in-text (h .lines) (h .sound)) in
-    let l = labels-counted ss s (g .tells) w in
-    let n = names-counted ss s (g .tells) w in
+pub survey_small : {text : Bytes} {s : Survey} (h : WellFormed text) → length text ≤ 4294967295 → TextSurveyed (sequences h.lines) s → AllWithin (text_counts (sequences h.lines)) → SmallSurvey s
+survey_small {text} {s} h small g w =
+    let ss : List (List Word) = sequences h.lines in
+    let f : InText ss (length text) = subst (λ (t : Bytes). InText ss (length t)) h.made (fits_in_text h.lines h.sound) in
+    let l = labels_counted ss s g.tells w in
+    let n = names_counted ss s g.tells w in
     record {
-      few = g .few;
-      labelBytes = omega (arith, l .bytes, f .labelBytes, small);
-      nameBytes = omega (arith, n .bytes, f .nameBytes, small);
-      scaleBytes = omega (arith, g .tells .scales, f .scaleBytes, small);
+      few = g.few;
+      label_bytes_of = omega (arith, l.bytes, f.label_bytes_of, small);
+      name_bytes_of = omega (arith, n.bytes, f.name_bytes_of, small);
+      scale_bytes_of = omega (arith, g.tells.scales, f.scale_bytes_of, small);
     }
 
 -- sizes that are accepted are of counts within their bounds
-pub sized-within : (bytes : ℕ) (ss : List (List Word)) → textSized bytes ss ≡ Accepted → AllWithin (textCounts ss)
-sized-within bytes ss e = text-checks-mean bytes ss none .0 .accepted .0 e .0 .0 .1
+pub sized_within : (bytes : ℕ) (ss : List (List Word)) → text_sized bytes ss ≡ Accepted → AllWithin (text_counts ss)
+sized_within bytes ss e = ((text_checks_mean bytes ss none).0.accepted.0 e).0.0.1
   where
     none : Lengths
-    none = record { lines = 0; begins = 0; ids = 0; values = 0; references = 0; weights = 0; «label_starts» = 0; «label_bytes» = 0; «name_starts» = 0; «name_bytes» = 0; «scale_starts» = 0; «scale_bytes» = 0 }
+    none = record { lines = 0; begins = 0; ids = 0; values = 0; references = 0; weights = 0; label_starts = 0; label_bytes = 0; name_starts = 0; name_bytes = 0; scale_starts = 0; scale_bytes = 0 }

@@ -1,56 +1,56 @@
 -- The promises of reading and of the sizes mean what `Meaning` says. Assumes nothing.
-use mathlib.Core.Path.{_≡_, refl, sym, ap, subst, _∙_}
-use mathlib.Core.List.{List, [], _∷_}
-use mathlib.Core.Logic.{_↔_, _⊎_, inl, inr}
+use mathlib.Core.Path.{◌≡◌, refl, sym, ap, subst, ◌∙◌}
+use mathlib.Core.List.{List, [], ◌∷◌}
+use mathlib.Core.Logic.{◌↔◌, ◌⊎◌, inl, inr}
 use Prim.Native.Nat.{ℕ}
 use native.Mathlib.Omega.{arith}
 use lib.ListN.{length}
-use Rattle·refusals.specs.declared.Refusal.{Refusal}
-use Rattle·refusals.specs.declared.Checked.{Checked}
-use Rattle·refusals.specs.declared.Checked.the-variants.{Accepted, Refused}
-use Rattle·refusals.specs.Refusals.{numbered, refusedIn}
-use Rattle·refusals.specs.Said.{Said, accepted, refused, orRefused}
-use Rattle·refusals.specs.Meaning.{FirstBad}
-use Rattle·refusals.proofs.Said.{apart, same-given, same-refusal, refused-said, accepted-said}
-use Rattle·refusal_rows.specs.Tests.{AllGood}
-use Rattle·refusal_rows.specs.Limits.{Limit, AllWithin, Fitting, FirstBroken}
-use Rattle·refusal_rows.specs.Given.{OneOf}
-use Rattle·layout.specs.Layout.{Bytes, Word, WellFormed, sequences}
-use Rattle·layout.specs.Scan.{PlaceOf}
-use Rattle·layout.proofs.Runs.{none-empty}
-use Rattle·text_tables.specs.Tables.{tables}
-use Rattle·text_tables.specs.Tally.{AboveAt}
-use Rattle·text_check.specs.Rows.{allCounts, textRooms, sequenceTests, textSized}
-use Rattle·text_check.specs.Meaning.{GivenInOrder}
-use Rattle·text_check.proofs.Meant.{text-checks-mean, long-means}
-use Rattle·text_check.specs.declared.Lengths.{Lengths}
-use Rattle·read_text·specs.specs.declared.TextSizes.{TextSizes}
-use Rattle·read_text·specs.specs.declared.TextReading.{TextReading}
-use Rattle·read_text·specs.specs.Promise.{said, sizesOf, lengthsOf, checkedOf}
-use Rattle·read_text·specs.specs.Meaning.{sequencesOf, TextAnswerMeans, PromiseMeans, SizesMean}
-use Rattle·read_text·proofs.proofs.Unique.{either}
+use Rattle.refusals.specs.declared.Refusal.{Refusal}
+use Rattle.refusals.specs.declared.Checked.{Checked}
+use Rattle.refusals.specs.declared.Checked.TheVariants.{Accepted, Refused}
+use Rattle.refusals.specs.Refusals.{numbered, refused_in_of}
+use Rattle.refusals.specs.Said.{Said, accepted, refused, or_refused}
+use Rattle.refusals.specs.Meaning.{FirstBad}
+use Rattle.refusals.proofs.Said.{apart, same_given, same_refusal, refused_said, accepted_said}
+use Rattle.refusal_rows.specs.Tests.{AllGood}
+use Rattle.refusal_rows.specs.Limits.{Limit, AllWithin, Fitting, FirstBroken}
+use Rattle.refusal_rows.specs.Given.{OneOf}
+use Rattle.layout.specs.Layout.{Bytes, Word, WellFormed, sequences}
+use Rattle.layout.specs.Scan.{PlaceOf}
+use Rattle.layout.proofs.Runs.{none_empty}
+use Rattle.text_tables.specs.Tables.{tables}
+use Rattle.text_tables.specs.Tally.{AboveAt}
+use Rattle.text_check.specs.Rows.{all_counts, text_rooms, sequence_tests, text_sized}
+use Rattle.text_check.specs.Meaning.{GivenInOrder}
+use Rattle.text_check.proofs.Meant.{text_checks_mean, long_means}
+use Rattle.text_check.specs.declared.Lengths.{Lengths}
+use Rattle.read_text.specs.declared.TextSizes.{TextSizes}
+use Rattle.read_text.specs.declared.TextReading.{TextReading}
+use Rattle.read_text.specs.Promise.{said, sizes_for, lengths_of, checked_of}
+use Rattle.read_text.specs.Meaning.{sequences_of, TextAnswerMeans, PromiseMeans, SizesMean}
+use Rattle.read_text.proofs.Unique.{either}
 
 -- an answer that is 11 of a malformed text, and of the sequences of a well-formed one what a check says
 module _ (text : Bytes) (answer : TextReading) (check : List (List Word) → Checked) (counts rooms : List (List Word) → List Limit)
     (malformed : (place : ℕ) → PlaceOf text place → said answer ≡ refused (numbered 11 place))
-    (says : (h : WellFormed text) → said answer ≡ orRefused (check (sequencesOf h)) (accepted (sizesOf (sequencesOf h))))
+    (says : (h : WellFormed text) → said answer ≡ or_refused (check (sequences_of h)) (accepted (sizes_for (sequences_of h))))
     (means : (ss : List (List Word)) → GivenInOrder (check ss) (counts ss) (rooms ss) ss) where
   -- of a well-formed text a refusal is that of the checks
-  check-refused : (h : WellFormed text) (why : Refusal) → said answer ≡ refused why → check (sequencesOf h) ≡ Refused why
-  check-refused h why e = refused-said (sizesOf (sequencesOf h)) (check (sequencesOf h)) why .0 (sym (says h) ∙ e)
+  check_refused : (h : WellFormed text) (why : Refusal) → said answer ≡ refused why → check (sequences_of h) ≡ Refused why
+  check_refused h why e = (refused_said (sizes_for (sequences_of h)) (check (sequences_of h)) why).0 (sym (says h) ∙ e)
 
-  said-refused : (h : WellFormed text) (why : Refusal) → check (sequencesOf h) ≡ Refused why → said answer ≡ refused why
-  said-refused h why e = says h ∙ refused-said (sizesOf (sequencesOf h)) (check (sequencesOf h)) why .1 e
+  said_refused : (h : WellFormed text) (why : Refusal) → check (sequences_of h) ≡ Refused why → said answer ≡ refused why
+  said_refused h why e = says h ∙ (refused_said (sizes_for (sequences_of h)) (check (sequences_of h)) why).1 e
 
   -- of a malformed one it is 11
-  eleven-only : (place : ℕ) → PlaceOf text place → (why : Refusal) → said answer ≡ refused why → numbered 11 place ≡ why
-  eleven-only place g why e = same-refusal (sym (malformed place g) ∙ e)
+  eleven_only : (place : ℕ) → PlaceOf text place → (why : Refusal) → said answer ≡ refused why → numbered 11 place ≡ why
+  eleven_only place g why e = same_refusal (sym (malformed place g) ∙ e)
 
-  not-malformed : (place other number : ℕ) → PlaceOf text place → said answer ≡ refused (numbered number other) → 11 ≡ number
-  not-malformed place other number g e = ap (λ (w : Refusal). w .number) (eleven-only place g (numbered number other) e)
+  not_malformed : (place other number : ℕ) → PlaceOf text place → said answer ≡ refused (numbered number other) → 11 ≡ number
+  not_malformed place other number g e = ap (λ (w : Refusal). w.number) (eleven_only place g (numbered number other) e)
 
-  eleven-given : (place : ℕ) → said answer ≡ refused (numbered 11 place) → PlaceOf text place
-  eleven-given place e = go (either text)
+  eleven_given : (place : ℕ) → said answer ≡ refused (numbered 11 place) → PlaceOf text place
+  eleven_given place e = go (either text)
     where
       none : OneOf (2 ∷ 12 ∷ 4 ∷ []) 11 → ⊥
       none (inl f) = omega (arith, f)
@@ -59,115 +59,115 @@ module _ (text : Bytes) (answer : TextReading) (check : List (List Word) → Che
       none (inr (inr (inr f))) = f
 
       go : WellFormed text ⊎ ((place : ℕ) × PlaceOf text place) → PlaceOf text place
-      go (inl h) = absurd (none (means (sequencesOf h) .only (numbered 11 place) (check-refused h (numbered 11 place) e)))
-      go (inr (r, g)) = subst (PlaceOf text) (ap (λ (w : Refusal). w .place) (eleven-only r g (numbered 11 place) e)) g
+      go (inl h) = absurd (none ((means (sequences_of h)).only (numbered 11 place) (check_refused h (numbered 11 place) e)))
+      go (inr (r, g)) = subst (PlaceOf text) (ap (λ (w : Refusal). w.place) (eleven_only r g (numbered 11 place) e)) g
 
   -- a refusal by the checks tells of no table
-  own-number : (why : Refusal) (number : ℕ) → why .number ≡ number → Refused why ≡ refusedIn number (why .table) (why .place)
-  own-number why number e = ap (λ (n : ℕ). refusedIn n (why .table) (why .place)) e
+  own_number : (why : Refusal) (number : ℕ) → why.number ≡ number → Refused why ≡ refused_in_of number why.table why.place
+  own_number why number e = ap (λ (n : ℕ). refused_in_of n why.table why.place) e
 
-  no-table : (h : WellFormed text) (why : Refusal) → check (sequencesOf h) ≡ Refused why → OneOf (2 ∷ 12 ∷ 4 ∷ []) (why .number) → why .table ≡ 0
-  no-table h why c (inl e) = means (sequencesOf h) .two (why .table) (why .place) .0 (c ∙ own-number why 2 e) .0
-  no-table h why c (inr (inl e)) = means (sequencesOf h) .twelve (why .table) (why .place) .0 (c ∙ own-number why 12 e) .1 .0
-  no-table h why c (inr (inr (inl e))) =
-      long-means (sequencesOf h) (none-empty (h .lines)) (why .table) (why .place) .0 (means (sequencesOf h) .four (why .table) (why .place) .0 (c ∙ own-number why 4 e) .1) .0
-  no-table h why c (inr (inr (inr f))) = absurd f
+  no_table : (h : WellFormed text) (why : Refusal) → check (sequences_of h) ≡ Refused why → OneOf (2 ∷ 12 ∷ 4 ∷ []) why.number → why.table ≡ 0
+  no_table h why c (inl e) = (((means (sequences_of h)).two why.table why.place).0 (c ∙ own_number why 2 e)).0
+  no_table h why c (inr (inl e)) = (((means (sequences_of h)).twelve why.table why.place).0 (c ∙ own_number why 12 e)).1.0
+  no_table h why c (inr (inr (inl e))) =
+      ((long_means (sequences_of h) (none_empty h.lines) why.table why.place).0 (((means (sequences_of h)).four why.table why.place).0 (c ∙ own_number why 4 e)).1).0
+  no_table h why c (inr (inr (inr f))) = absurd f
 
-  only-these : (why : Refusal) → said answer ≡ refused why → OneOf (2 ∷ 12 ∷ 4 ∷ 11 ∷ []) (why .number) × (why .table ≡ 0)
-  only-these why e = go (either text)
+  only_these : (why : Refusal) → said answer ≡ refused why → OneOf (2 ∷ 12 ∷ 4 ∷ 11 ∷ []) why.number × (why.table ≡ 0)
+  only_these why e = go (either text)
     where
-      wider : OneOf (2 ∷ 12 ∷ 4 ∷ []) (why .number) → OneOf (2 ∷ 12 ∷ 4 ∷ 11 ∷ []) (why .number)
+      wider : OneOf (2 ∷ 12 ∷ 4 ∷ []) why.number → OneOf (2 ∷ 12 ∷ 4 ∷ 11 ∷ []) why.number
       wider (inl f) = inl f
       wider (inr (inl f)) = inr (inl f)
       wider (inr (inr (inl f))) = inr (inr (inl f))
       wider (inr (inr (inr f))) = absurd f
 
-      go : WellFormed text ⊎ ((place : ℕ) × PlaceOf text place) → OneOf (2 ∷ 12 ∷ 4 ∷ 11 ∷ []) (why .number) × (why .table ≡ 0)
+      go : WellFormed text ⊎ ((place : ℕ) × PlaceOf text place) → OneOf (2 ∷ 12 ∷ 4 ∷ 11 ∷ []) why.number × (why.table ≡ 0)
       go (inl h) =
-          let c = check-refused h why e in
-          let o = means (sequencesOf h) .only why c in
-          (wider o, no-table h why c o)
+          let c = check_refused h why e in
+          let o = (means (sequences_of h)).only why c in
+          (wider o, no_table h why c o)
       go (inr (r, g)) =
-          let same = eleven-only r g why e in
-          (inr (inr (inr (inl (sym (ap (λ (w : Refusal). w .number) same))))), sym (ap (λ (w : Refusal). w .table) same))
+          let same = eleven_only r g why e in
+          (inr (inr (inr (inl (sym (ap (λ (w : Refusal). w.number) same))))), sym (ap (λ (w : Refusal). w.table) same))
 
-  two-given : (place : ℕ) → said answer ≡ refused (numbered 2 place) → (h : WellFormed text) × FirstBroken (counts (sequencesOf h)) place
-  two-given place e = go (either text)
+  two_given : (place : ℕ) → said answer ≡ refused (numbered 2 place) → (h : WellFormed text) × FirstBroken (counts (sequences_of h)) place
+  two_given place e = go (either text)
     where
-      go : WellFormed text ⊎ ((place : ℕ) × PlaceOf text place) → (h : WellFormed text) × FirstBroken (counts (sequencesOf h)) place
-      go (inl h) = (h, means (sequencesOf h) .two 0 place .0 (check-refused h (numbered 2 place) e) .1)
-      go (inr (r, g)) = let n = not-malformed r place 2 g e in absurd (omega (arith, n))
+      go : WellFormed text ⊎ ((place : ℕ) × PlaceOf text place) → (h : WellFormed text) × FirstBroken (counts (sequences_of h)) place
+      go (inl h) = (h, (((means (sequences_of h)).two 0 place).0 (check_refused h (numbered 2 place) e)).1)
+      go (inr (r, g)) = let n = not_malformed r place 2 g e in absurd (omega (arith, n))
 
   abbrev Short : ℕ → Type 0
-  Short place = (h : WellFormed text) × AllWithin (counts (sequencesOf h)) × FirstBroken (rooms (sequencesOf h)) place
+  Short place = (h : WellFormed text) × AllWithin (counts (sequences_of h)) × FirstBroken (rooms (sequences_of h)) place
 
-  twelve-given : (place : ℕ) → said answer ≡ refused (numbered 12 place) → Short place
-  twelve-given place e = go (either text)
+  twelve_given : (place : ℕ) → said answer ≡ refused (numbered 12 place) → Short place
+  twelve_given place e = go (either text)
     where
       go : WellFormed text ⊎ ((place : ℕ) × PlaceOf text place) → Short place
-      go (inl h) = let f = means (sequencesOf h) .twelve 0 place .0 (check-refused h (numbered 12 place) e) in (h, f .0, f .1 .1)
-      go (inr (r, g)) = let n = not-malformed r place 12 g e in absurd (omega (arith, n))
+      go (inl h) = let f = ((means (sequences_of h)).twelve 0 place).0 (check_refused h (numbered 12 place) e) in (h, f.0, f.1.1)
+      go (inr (r, g)) = let n = not_malformed r place 12 g e in absurd (omega (arith, n))
 
   abbrev Fits : List (List Word) → Type 0
   Fits ss = Fitting (counts ss) (rooms ss)
 
   abbrev Long : ℕ → Type 0
-  Long place = (h : WellFormed text) × Fits (sequencesOf h) × FirstBad (AboveAt (sequencesOf h)) (length (sequencesOf h)) place
+  Long place = (h : WellFormed text) × Fits (sequences_of h) × FirstBad (AboveAt (sequences_of h)) (length (sequences_of h)) place
 
-  four-given : (place : ℕ) → said answer ≡ refused (numbered 4 place) → Long place
-  four-given place e = go (either text)
+  four_given : (place : ℕ) → said answer ≡ refused (numbered 4 place) → Long place
+  four_given place e = go (either text)
     where
       go : WellFormed text ⊎ ((place : ℕ) × PlaceOf text place) → Long place
       go (inl h) =
-          let f = means (sequencesOf h) .four 0 place .0 (check-refused h (numbered 4 place) e) in
-          (h, f .0, long-means (sequencesOf h) (none-empty (h .lines)) 0 place .0 (f .1) .1)
-      go (inr (r, g)) = let n = not-malformed r place 4 g e in absurd (omega (arith, n))
+          let f = ((means (sequences_of h)).four 0 place).0 (check_refused h (numbered 4 place) e) in
+          (h, f.0, ((long_means (sequences_of h) (none_empty h.lines) 0 place).0 f.1).1)
+      go (inr (r, g)) = let n = not_malformed r place 4 g e in absurd (omega (arith, n))
 
   abbrev Taken : TextSizes → Type 0
-  Taken sizes = (h : WellFormed text) × Fits (sequencesOf h) × AllGood (sequenceTests (sequencesOf h)) × (sizes ≡ sizesOf (sequencesOf h))
+  Taken sizes = (h : WellFormed text) × Fits (sequences_of h) × AllGood (sequence_tests (sequences_of h)) × (sizes ≡ sizes_for (sequences_of h))
 
-  taken-given : (sizes : TextSizes) → said answer ≡ accepted sizes → Taken sizes
-  taken-given sizes e = go (either text)
+  taken_given : (sizes : TextSizes) → said answer ≡ accepted sizes → Taken sizes
+  taken_given sizes e = go (either text)
     where
       go : WellFormed text ⊎ ((place : ℕ) × PlaceOf text place) → Taken sizes
       go (inl h) =
-          let own : TextSizes = sizesOf (sequencesOf h) in
-          let c : check (sequencesOf h) ≡ Accepted = accepted-said own sizes (check (sequencesOf h)) (sym (says h) ∙ e) in
-          let f = means (sequencesOf h) .accepted .0 c in
-          (h, f .0, f .1, same-given (sym e ∙ says h ∙ ap (λ (c : Checked). orRefused c (accepted own)) c))
+          let own : TextSizes = sizes_for (sequences_of h) in
+          let c : check (sequences_of h) ≡ Accepted = accepted_said own sizes (check (sequences_of h)) (sym (says h) ∙ e) in
+          let f = (means (sequences_of h)).accepted.0 c in
+          (h, f.0, f.1, same_given (sym e ∙ says h ∙ ap (λ (c : Checked). or_refused c (accepted own)) c))
       go (inr (r, g)) = absurd (apart (sym e ∙ malformed r g))
 
-  answer-means : TextAnswerMeans text counts rooms answer
-  answer-means = record {
-    eleven = λ place. (eleven-given place, malformed place);
-    two = λ place. (two-given place, λ f. said-refused (f .0) (numbered 2 place) (means (sequencesOf (f .0)) .two 0 place .1 (refl, f .1)));
-    twelve = λ place. (twelve-given place, λ f. said-refused (f .0) (numbered 12 place) (means (sequencesOf (f .0)) .twelve 0 place .1 (f .1, (refl, f .2))));
+  answer_means : TextAnswerMeans text counts rooms answer
+  answer_means = record {
+    eleven = λ place. (eleven_given place, malformed place);
+    two = λ place. (two_given place, λ f. said_refused f.0 (numbered 2 place) (((means (sequences_of f.0)).two 0 place).1 (refl, f.1)));
+    twelve = λ place. (twelve_given place, λ f. said_refused f.0 (numbered 12 place) (((means (sequences_of f.0)).twelve 0 place).1 (f.1, (refl, f.2))));
     four = λ place. (
-      four-given place,
+      four_given place,
       λ f.
-          let ss = sequencesOf (f .0) in
-          said-refused (f .0) (numbered 4 place) (means ss .four 0 place .1 (f .1, long-means ss (none-empty (f .0 .lines)) 0 place .1 (refl, f .2))),
+          let ss = sequences_of f.0 in
+          said_refused f.0 (numbered 4 place) (((means ss).four 0 place).1 (f.1, (long_means ss (none_empty f.0.lines) 0 place).1 (refl, f.2))),
     );
-    only = only-these;
+    only = only_these;
     taken = λ sizes. (
-      taken-given sizes,
+      taken_given sizes,
       λ f.
-          says (f .0)
-          ∙ ap (λ (c : Checked). orRefused c (accepted (sizesOf (sequencesOf (f .0))))) (means (sequencesOf (f .0)) .accepted .1 (f .1, f .2))
-          ∙ ap accepted (sym (f .3)),
+          says f.0
+          ∙ ap (λ (c : Checked). or_refused c (accepted (sizes_for (sequences_of f.0)))) ((means (sequences_of f.0)).accepted.1 (f.1, f.2))
+          ∙ ap accepted (sym f.3),
     );
   }
 
-pub promise-means : PromiseMeans
-promise-means text before outcome p =
-    answer-means text (outcome .answer) (λ ss. checkedOf text ss before) (allCounts (length text)) (λ ss. textRooms (tables ss) (lengthsOf before)) (λ place g. p .malformed place g .answers)
-    (λ h. p .whole (h .lines) (h .sound) (h .made) .answers)
-    (λ ss. text-checks-mean (length text) ss (lengthsOf before) .1)
+pub promise_means : PromiseMeans
+promise_means text before outcome p =
+    answer_means text outcome.answer (λ ss. checked_of text ss before) (all_counts (length text)) (λ ss. text_rooms (tables ss) (lengths_of before)) (λ place g. (p.malformed place g).answers)
+    (λ h. (p.whole h.lines h.sound h.made).answers)
+    (λ ss. (text_checks_mean (length text) ss (lengths_of before)).1)
 
-pub sizes-mean : SizesMean
-sizes-mean text answer p =
-    answer-means text answer (textSized (length text)) (allCounts (length text)) (λ ss. []) (p .malformed) (λ h. p .whole (h .lines) (h .sound) (h .made))
-    (λ ss. text-checks-mean (length text) ss none .0)
+pub sizes_mean : SizesMean
+sizes_mean text answer p =
+    answer_means text answer (text_sized (length text)) (all_counts (length text)) (λ ss. []) p.malformed (λ h. p.whole h.lines h.sound h.made)
+    (λ ss. (text_checks_mean (length text) ss none).0)
   where
     none : Lengths
-    none = record { lines = 0; begins = 0; ids = 0; values = 0; references = 0; weights = 0; «label_starts» = 0; «label_bytes» = 0; «name_starts» = 0; «name_bytes» = 0; «scale_starts» = 0; «scale_bytes» = 0 }
+    none = record { lines = 0; begins = 0; ids = 0; values = 0; references = 0; weights = 0; label_starts = 0; label_bytes = 0; name_starts = 0; name_bytes = 0; scale_starts = 0; scale_bytes = 0 }

@@ -1,57 +1,57 @@
 -- No two different answers satisfy the promise of the sizes, and some answer does; and what they tell of reading. Assumes nothing.
-use mathlib.Core.Path.{_≡_, refl, sym, ap, subst, _∙_}
+use mathlib.Core.Path.{◌≡◌, refl, sym, ap, subst, ◌∙◌}
 use mathlib.Core.List.{List}
-use mathlib.Core.Logic.{_↔_, _⊎_, inl, inr}
+use mathlib.Core.Logic.{◌↔◌, ◌⊎◌, inl, inr}
 use Prim.Native.Nat.{ℕ}
 use lib.ListN.{length}
-use Rattle·refusals.specs.declared.Checked.{Checked}
-use Rattle·refusals.specs.declared.Checked.the-variants.{Accepted, Refused}
-use Rattle·refusals.specs.Refusals.{numbered, refusedAt, orNext, first, firstFrom}
-use Rattle·refusals.specs.Said.{Said, accepted, refused, orRefused}
-use Rattle·refusals.proofs.Said.{apart, same-given, accepted-said, refused-said}
-use Rattle·refusals.proofs.Laws.{alone, accepted-all}
-use Rattle·refusals.proofs.Ranks.{from-first}
-use Rattle·refusal_rows.specs.Limits.{Limit, limitChecks, AllWithin, FirstBroken}
-use Rattle·refusal_rows.specs.Tests.{checks}
-use Rattle·refusal_rows.proofs.Means.{limits-mean}
-use Rattle·layout.specs.Layout.{Bytes, Word, Line, WellFormed, sequences}
-use Rattle·layout.specs.Scan.{PlaceOf}
-use Rattle·layout.proofs.Read.{one-one}
-use Rattle·text_tables.specs.Tables.{tables}
-use Rattle·text_check.specs.declared.Lengths.{Lengths}
-use Rattle·text_check.specs.Rows.{allCounts, textRooms, sequenceTests, textSized, textChecked}
-use Rattle·text_check.proofs.Meant.{text-checks-mean}
-use Rattle·read_text·specs.specs.declared.TextSizes.{TextSizes}
-use Rattle·read_text·specs.specs.declared.TextReading.{TextReading}
-use Rattle·read_text·specs.specs.Promise.{Buffers, Outcome, said, sizesOf, lengthsOf, checkedOf, Promised}
-use Rattle·read_text·specs.specs.Sizes.{sizedOf, SizesPromised, OnlyOneSizes, SomeSizes, sizesRooms, SizesSuffice, SizesTell, SizesAgree}
-use Rattle·read_text·proofs.proofs.Unique.{told, either, readingOf, said-back, same-place}
-use Rattle·read_text·proofs.proofs.Figures.{rooms-are}
+use Rattle.refusals.specs.declared.Checked.{Checked}
+use Rattle.refusals.specs.declared.Checked.TheVariants.{Accepted, Refused}
+use Rattle.refusals.specs.Refusals.{numbered, refused_at, or_next_of, first, first_from}
+use Rattle.refusals.specs.Said.{Said, accepted, refused, or_refused}
+use Rattle.refusals.proofs.Said.{apart, same_given, accepted_said, refused_said}
+use Rattle.refusals.proofs.Laws.{alone, accepted_all}
+use Rattle.refusals.proofs.Ranks.{from_first}
+use Rattle.refusal_rows.specs.Limits.{Limit, limit_checks, AllWithin, FirstBroken}
+use Rattle.refusal_rows.specs.Tests.{checks}
+use Rattle.refusal_rows.proofs.Means.{limits_mean}
+use Rattle.layout.specs.Layout.{Bytes, Word, Line, WellFormed, sequences}
+use Rattle.layout.specs.Scan.{PlaceOf}
+use Rattle.layout.proofs.Read.{one_one}
+use Rattle.text_tables.specs.Tables.{tables}
+use Rattle.text_check.specs.declared.Lengths.{Lengths}
+use Rattle.text_check.specs.Rows.{all_counts, text_rooms, sequence_tests, text_sized, text_checked}
+use Rattle.text_check.proofs.Meant.{text_checks_mean}
+use Rattle.read_text.specs.declared.TextSizes.{TextSizes}
+use Rattle.read_text.specs.declared.TextReading.{TextReading}
+use Rattle.read_text.specs.Promise.{Buffers, Outcome, said, sizes_for, lengths_of, checked_of, Promised}
+use Rattle.read_text.specs.Sizes.{sized_of, SizesPromised, OnlyOneSizes, SomeSizes, sizes_rooms, SizesSuffice, SizesTell, SizesAgree}
+use Rattle.read_text.proofs.Unique.{told, either, reading_of, said_back, same_place}
+use Rattle.read_text.proofs.Figures.{rooms_are}
 
-pub one-sizes : OnlyOneSizes
-one-sizes text a b p q = go (either text)
+pub one_sizes : OnlyOneSizes
+one_sizes text a b p q = go (either text)
   where
     go : WellFormed text ⊎ ((place : ℕ) × PlaceOf text place) → a ≡ b
-    go (inl h) = told a b (p .whole (h .lines) (h .sound) (h .made) ∙ sym (q .whole (h .lines) (h .sound) (h .made)))
-    go (inr (place, g)) = told a b (p .malformed place g ∙ sym (q .malformed place g))
+    go (inl h) = told a b (p.whole h.lines h.sound h.made ∙ sym (q.whole h.lines h.sound h.made))
+    go (inr (place, g)) = told a b (p.malformed place g ∙ sym (q.malformed place g))
 
-pub some-sizes : SomeSizes
-some-sizes text = go (either text)
+pub some_sizes : SomeSizes
+some_sizes text = go (either text)
   where
     go : WellFormed text ⊎ ((place : ℕ) × PlaceOf text place) → (answer : TextReading) × SizesPromised text answer
     go (inl h) = (
-      readingOf (sizedOf text (sequences (h .lines))),
+      reading_of (sized_of text (sequences h.lines)),
       record {
-        malformed = λ place g. absurd (g .malformed h);
+        malformed = λ place g. absurd (g.malformed h);
         whole = λ ls sound e.
-            said-back (sizedOf text (sequences (h .lines))) ∙ ap (λ (ms : List Line). sizedOf text (sequences ms)) (one-one (h .lines) ls (h .sound) sound (h .made ∙ sym e));
+            said_back (sized_of text (sequences h.lines)) ∙ ap (λ (ms : List Line). sized_of text (sequences ms)) (one_one h.lines ls h.sound sound (h.made ∙ sym e));
       },
     )
     go (inr (p, g)) = (
       TextReading.Refused (numbered 11 p),
       record {
-        malformed = λ r k. ap (λ (n : ℕ). refused (numbered 11 n)) (same-place text p r g k);
-        whole = λ ls sound e. absurd (g .malformed (record { lines = ls; sound = sound; made = e }));
+        malformed = λ r k. ap (λ (n : ℕ). refused (numbered 11 n)) (same_place text p r g k);
+        whole = λ ls sound e. absurd (g.malformed (record { lines = ls; sound = sound; made = e }));
       },
     )
 
@@ -59,126 +59,126 @@ some-sizes text = go (either text)
 
 module _ (bytes : ℕ) (ss : List (List Word)) (have : Lengths) where
   abbrev rows : List Limit
-  rows = textRooms (tables ss) have
+  rows = text_rooms (tables ss) have
 
   -- what is accepted with tables is accepted without
-  wider : textChecked bytes ss have ≡ Accepted → textSized bytes ss ≡ Accepted
+  wider : text_checked bytes ss have ≡ Accepted → text_sized bytes ss ≡ Accepted
   wider e =
-      let m = text-checks-mean bytes ss have in
-      let f = m .1 .accepted .0 e in
-      m .0 .accepted .1 ((f .0 .0, tt), f .1)
+      let m = text_checks_mean bytes ss have in
+      let f = m.1.accepted.0 e in
+      m.0.accepted.1 ((f.0.0, tt), f.1)
 
-  rooms : textChecked bytes ss have ≡ Accepted → AllWithin rows
-  rooms e = text-checks-mean bytes ss have .1 .accepted .0 e .0 .1
+  rooms : text_checked bytes ss have ≡ Accepted → AllWithin rows
+  rooms e = ((text_checks_mean bytes ss have).1.accepted.0 e).0.1
 
-  narrower : textSized bytes ss ≡ Accepted → AllWithin rows → textChecked bytes ss have ≡ Accepted
+  narrower : text_sized bytes ss ≡ Accepted → AllWithin rows → text_checked bytes ss have ≡ Accepted
   narrower e r =
-      let m = text-checks-mean bytes ss have in
-      let f = m .0 .accepted .0 e in
-      m .1 .accepted .1 ((f .0 .0, r), f .1)
+      let m = text_checks_mean bytes ss have in
+      let f = m.0.accepted.0 e in
+      m.1.accepted.1 ((f.0.0, r), f.1)
 
   -- 12 at the first table without room, where the sizes are accepted
-  lacking : textSized bytes ss ≡ Accepted → (place : ℕ) → textChecked bytes ss have ≡ refusedAt 12 place ↔ FirstBroken rows place
+  lacking : text_sized bytes ss ≡ Accepted → (place : ℕ) → text_checked bytes ss have ≡ refused_at 12 place ↔ FirstBroken rows place
   lacking e place =
-      let m = text-checks-mean bytes ss have in
-      let t = m .1 .twelve 0 place in
-      (λ h. t .0 h .1 .1, λ f. t .1 (m .0 .accepted .0 e .0 .0, (refl, f)))
+      let m = text_checks_mean bytes ss have in
+      let t = m.1.twelve 0 place in
+      (λ h. (t.0 h).1.1, λ f. t.1 ((m.0.accepted.0 e).0.0, (refl, f)))
 
   -- with room for all the two say the same
-  same-checks : AllWithin rows → textChecked bytes ss have ≡ textSized bytes ss
-  unfolding textChecked textSized
-  same-checks r =
-      let t : first (limitChecks rows) ≡ Accepted = accepted-all (limitChecks rows) (limits-mean rows .1 r) in
-      let so-far : Checked = first (limitChecks (allCounts bytes ss)) in
-      ap (λ (c : Checked). firstFrom c (checks (sequenceTests ss))) (from-first so-far (limitChecks rows) ∙ ap (orNext so-far) t ∙ alone so-far)
+  same_checks : AllWithin rows → text_checked bytes ss have ≡ text_sized bytes ss
+  unfolding text_checked text_sized
+  same_checks r =
+      let t : first (limit_checks rows) ≡ Accepted = accepted_all (limit_checks rows) ((limits_mean rows).1 r) in
+      let so_far : Checked = first (limit_checks (all_counts bytes ss)) in
+      ap (λ (c : Checked). first_from c (checks (sequence_tests ss))) (from_first so_far (limit_checks rows) ∙ ap (or_next_of so_far) t ∙ alone so_far)
 
 -- ---- what an answer with sizes tells
 
 -- a check of the sequences accepted, and these are their sizes
 record Accepts (text : Bytes) (check : List (List Word) → Checked) (sizes : TextSizes) : Type 0 where
   formed : WellFormed text
-  checked : check (sequences (formed .lines)) ≡ Accepted
-  sizes-are : sizes ≡ sizesOf (sequences (formed .lines))
+  checked : check (sequences formed.lines) ≡ Accepted
+  sizes_are : sizes ≡ sizes_for (sequences formed.lines)
 
 accepts : (text : Bytes) (check : List (List Word) → Checked) (sizes : TextSizes) (answer : TextReading) → answer ≡ TextReading.Read sizes
     → ((place : ℕ) → PlaceOf text place → said answer ≡ refused (numbered 11 place))
-    → ((h : WellFormed text) → said answer ≡ orRefused (check (sequences (h .lines))) (accepted (sizesOf (sequences (h .lines))))) → Accepts text check sizes
+    → ((h : WellFormed text) → said answer ≡ or_refused (check (sequences h.lines)) (accepted (sizes_for (sequences h.lines)))) → Accepts text check sizes
 accepts text check sizes answer e malformed says = go (either text)
   where
     go : WellFormed text ⊎ ((place : ℕ) × PlaceOf text place) → Accepts text check sizes
     go (inl h) =
-        let own : TextSizes = sizesOf (sequences (h .lines)) in
-        let f : accepted sizes ≡ orRefused (check (sequences (h .lines))) (accepted own) = sym (ap said e) ∙ says h in
-        let c = accepted-said own sizes (check (sequences (h .lines))) (sym f) in
-        record { formed = h; checked = c; sizes-are = same-given (f ∙ ap (λ (k : Checked). orRefused k (accepted own)) c) }
+        let own : TextSizes = sizes_for (sequences h.lines) in
+        let f : accepted sizes ≡ or_refused (check (sequences h.lines)) (accepted own) = sym (ap said e) ∙ says h in
+        let c = accepted_said own sizes (check (sequences h.lines)) (sym f) in
+        record { formed = h; checked = c; sizes_are = same_given (f ∙ ap (λ (k : Checked). or_refused k (accepted own)) c) }
     go (inr (place, g)) = absurd (apart (sym (ap said e) ∙ malformed place g))
 
 module _ (text : Bytes) (before : Buffers) (outcome : Outcome) (answer : TextReading) (p : Promised text before outcome) (q : SizesPromised text answer) where
-  reads : (h : WellFormed text) → said (outcome .answer) ≡ orRefused (checkedOf text (sequences (h .lines)) before) (accepted (sizesOf (sequences (h .lines))))
-  reads h = p .whole (h .lines) (h .sound) (h .made) .answers
+  reads : (h : WellFormed text) → said outcome.answer ≡ or_refused (checked_of text (sequences h.lines) before) (accepted (sizes_for (sequences h.lines)))
+  reads h = (p.whole h.lines h.sound h.made).answers
 
-  sizes-of : (h : WellFormed text) → said answer ≡ sizedOf text (sequences (h .lines))
-  sizes-of h = q .whole (h .lines) (h .sound) (h .made)
+  sizes_of : (h : WellFormed text) → said answer ≡ sized_of text (sequences h.lines)
+  sizes_of h = q.whole h.lines h.sound h.made
 
-  sized : (sizes : TextSizes) → answer ≡ TextReading.Read sizes → Accepts text (textSized (length text)) sizes
-  sized sizes e = accepts text (textSized (length text)) sizes answer e (q .malformed) sizes-of
+  sized : (sizes : TextSizes) → answer ≡ TextReading.Read sizes → Accepts text (text_sized (length text)) sizes
+  sized sizes e = accepts text (text_sized (length text)) sizes answer e q.malformed sizes_of
 
-  read : (sizes : TextSizes) → outcome .answer ≡ TextReading.Read sizes → Accepts text (λ ss. checkedOf text ss before) sizes
-  read sizes e = accepts text (λ ss. checkedOf text ss before) sizes (outcome .answer) e (λ place g. p .malformed place g .answers) reads
+  read : (sizes : TextSizes) → outcome.answer ≡ TextReading.Read sizes → Accepts text (λ ss. checked_of text ss before) sizes
+  read sizes e = accepts text (λ ss. checked_of text ss before) sizes outcome.answer e (λ place g. (p.malformed place g).answers) reads
 
   abbrev Roomy : TextSizes → Type 0
-  Roomy sizes = AllWithin (sizesRooms sizes (lengthsOf before))
+  Roomy sizes = AllWithin (sizes_rooms sizes (lengths_of before))
 
   -- the rooms by the sizes are those of the tables
-  rooms-by : (sizes : TextSizes) (ss : List (List Word)) → sizes ≡ sizesOf ss → sizesRooms sizes (lengthsOf before) ≡ textRooms (tables ss) (lengthsOf before)
-  rooms-by sizes ss e = ap (λ (z : TextSizes). sizesRooms z (lengthsOf before)) e ∙ rooms-are ss (lengthsOf before)
+  rooms_by : (sizes : TextSizes) (ss : List (List Word)) → sizes ≡ sizes_for ss → sizes_rooms sizes (lengths_of before) ≡ text_rooms (tables ss) (lengths_of before)
+  rooms_by sizes ss e = ap (λ (z : TextSizes). sizes_rooms z (lengths_of before)) e ∙ rooms_are ss (lengths_of before)
 
-  has-room : (sizes : TextSizes) → outcome .answer ≡ TextReading.Read sizes → Roomy sizes
-  has-room sizes e =
+  has_room : (sizes : TextSizes) → outcome.answer ≡ TextReading.Read sizes → Roomy sizes
+  has_room sizes e =
       let a = read sizes e in
-      let ss : List (List Word) = sequences (a .formed .lines) in
-      subst AllWithin (sym (rooms-by sizes ss (a .sizes-are))) (rooms (length text) ss (lengthsOf before) (a .checked))
+      let ss : List (List Word) = sequences a.formed.lines in
+      subst AllWithin (sym (rooms_by sizes ss a.sizes_are)) (rooms (length text) ss (lengths_of before) a.checked)
 
-  is-read : (sizes : TextSizes) → answer ≡ TextReading.Read sizes → Roomy sizes → outcome .answer ≡ TextReading.Read sizes
-  is-read sizes e r =
+  is_read : (sizes : TextSizes) → answer ≡ TextReading.Read sizes → Roomy sizes → outcome.answer ≡ TextReading.Read sizes
+  is_read sizes e r =
       let a = sized sizes e in
-      let ss : List (List Word) = sequences (a .formed .lines) in
-      let c = narrower (length text) ss (lengthsOf before) (a .checked) (subst AllWithin (rooms-by sizes ss (a .sizes-are)) r) in
-      told (outcome .answer) (TextReading.Read sizes)
-      (reads (a .formed) ∙ ap (λ (k : Checked). orRefused k (accepted (sizesOf ss))) c ∙ ap accepted (sym (a .sizes-are)))
+      let ss : List (List Word) = sequences a.formed.lines in
+      let c = narrower (length text) ss (lengths_of before) a.checked (subst AllWithin (rooms_by sizes ss a.sizes_are) r) in
+      told outcome.answer (TextReading.Read sizes)
+      (reads a.formed ∙ ap (λ (k : Checked). or_refused k (accepted (sizes_for ss))) c ∙ ap accepted (sym a.sizes_are))
 
-  is-short : (sizes : TextSizes) → answer ≡ TextReading.Read sizes → (place : ℕ) → said (outcome .answer) ≡ refused (numbered 12 place) ↔ FirstBroken (sizesRooms sizes (lengthsOf before)) place
-  is-short sizes e place =
+  is_short : (sizes : TextSizes) → answer ≡ TextReading.Read sizes → (place : ℕ) → said outcome.answer ≡ refused (numbered 12 place) ↔ FirstBroken (sizes_rooms sizes (lengths_of before)) place
+  is_short sizes e place =
       let a = sized sizes e in
-      let ss : List (List Word) = sequences (a .formed .lines) in
-      let l = lacking (length text) ss (lengthsOf before) (a .checked) place in
-      let t = refused-said (sizesOf ss) (checkedOf text ss before) (numbered 12 place) in
-      let same = rooms-by sizes ss (a .sizes-are) in (
-        λ h. subst (λ (limits : List Limit). FirstBroken limits place) (sym same) (l .0 (t .0 (sym (reads (a .formed)) ∙ h))),
-        λ f. reads (a .formed) ∙ t .1 (l .1 (subst (λ (limits : List Limit). FirstBroken limits place) same f)),
+      let ss : List (List Word) = sequences a.formed.lines in
+      let l = lacking (length text) ss (lengths_of before) a.checked place in
+      let t = refused_said (sizes_for ss) (checked_of text ss before) (numbered 12 place) in
+      let same = rooms_by sizes ss a.sizes_are in (
+        λ h. subst (λ (limits : List Limit). FirstBroken limits place) (sym same) (l.0 (t.0 (sym (reads a.formed) ∙ h))),
+        λ f. reads a.formed ∙ t.1 (l.1 (subst (λ (limits : List Limit). FirstBroken limits place) same f)),
       )
 
-  same-sizes : (sizes : TextSizes) → outcome .answer ≡ TextReading.Read sizes → answer ≡ TextReading.Read sizes
-  same-sizes sizes e =
+  same_sizes : (sizes : TextSizes) → outcome.answer ≡ TextReading.Read sizes → answer ≡ TextReading.Read sizes
+  same_sizes sizes e =
       let a = read sizes e in
-      let ss : List (List Word) = sequences (a .formed .lines) in
-      let c = wider (length text) ss (lengthsOf before) (a .checked) in
+      let ss : List (List Word) = sequences a.formed.lines in
+      let c = wider (length text) ss (lengths_of before) a.checked in
       told answer (TextReading.Read sizes)
-      (sizes-of (a .formed) ∙ ap (λ (k : Checked). orRefused k (accepted (sizesOf ss))) c ∙ ap accepted (sym (a .sizes-are)))
+      (sizes_of a.formed ∙ ap (λ (k : Checked). or_refused k (accepted (sizes_for ss))) c ∙ ap accepted (sym a.sizes_are))
 
-pub sizes-tell : SizesTell
-sizes-tell text before outcome answer p q = record {
-  enough = λ sizes e. (has-room text before outcome answer p q sizes, is-read text before outcome answer p q sizes e);
-  short = is-short text before outcome answer p q;
-  same = same-sizes text before outcome answer p q;
+pub sizes_tell : SizesTell
+sizes_tell text before outcome answer p q = record {
+  enough = λ sizes e. (has_room text before outcome answer p q sizes, is_read text before outcome answer p q sizes e);
+  short = is_short text before outcome answer p q;
+  same = same_sizes text before outcome answer p q;
 }
 
-pub sizes-agree : SizesAgree
-sizes-agree text before outcome answer p q room = go (either text)
+pub sizes_agree : SizesAgree
+sizes_agree text before outcome answer p q room = go (either text)
   where
-    go : WellFormed text ⊎ ((place : ℕ) × PlaceOf text place) → outcome .answer ≡ answer
+    go : WellFormed text ⊎ ((place : ℕ) × PlaceOf text place) → outcome.answer ≡ answer
     go (inl h) =
-        let ss : List (List Word) = sequences (h .lines) in
-        let c = same-checks (length text) ss (lengthsOf before) (room (h .lines) (h .sound) (h .made)) in
-        told (outcome .answer) answer (p .whole (h .lines) (h .sound) (h .made) .answers ∙ ap (λ (k : Checked). orRefused k (accepted (sizesOf ss))) c ∙ sym (q .whole (h .lines) (h .sound) (h .made)))
-    go (inr (place, g)) = told (outcome .answer) answer (p .malformed place g .answers ∙ sym (q .malformed place g))
+        let ss : List (List Word) = sequences h.lines in
+        let c = same_checks (length text) ss (lengths_of before) (room h.lines h.sound h.made) in
+        told outcome.answer answer ((p.whole h.lines h.sound h.made).answers ∙ ap (λ (k : Checked). or_refused k (accepted (sizes_for ss))) c ∙ sym (q.whole h.lines h.sound h.made))
+    go (inr (place, g)) = told outcome.answer answer ((p.malformed place g).answers ∙ sym (q.malformed place g))

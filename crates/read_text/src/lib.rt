@@ -1,18 +1,19 @@
 // The reader of a training text, and the sizes of one. 11 of the text comes first, then 2 of its length; then it is surveyed, and
 // 2, 12 and 4 come from the figures; only then is anything filled.
-ghost use mathlib.Core.Path.{_≡_};
-ghost use Rattle·layout.specs.Layout.{WellFormed, sequences};
-ghost use Rattle·read_text·specs.specs.Promise.{ReadOf, Promised, said};
-ghost use Rattle·read_text·specs.specs.Sizes.{sizedOf, SizesPromised};
-ghost use Rattle·read_text·specs.specs.Lent.{buffersWere, buffersAre};
-ghost use Rattle·text_bytes.specs.Bytes.{Readable};
-ghost use Rattle·read_text·specs.specs.Steps.{sizesIn, SmallSurvey, FreeSlots, SurveyMade};
-use refusals::Checked;
-use refusals::Refusal;
+ghost use Rattle.std.specs.Prelude.{◌≡◌};
+ghost use Rattle.layout.specs.Layout.{WellFormed, sequences};
+ghost use Rattle.read_text.specs.Promise.{ReadOf, Promised, said};
+ghost use Rattle.read_text.specs.Sizes.{sized_of, SizesPromised};
+ghost use Rattle.read_text.specs.Lent.{buffers_were, buffers_are};
+ghost use Rattle.text_bytes.specs.Bytes.{Readable};
+ghost use Rattle.read_text.specs.Steps.{sizes_in_of, SmallSurvey, FreeSlots, SurveyMade};
+
+use refusals::{Checked, Refusal};
 use survey::Survey;
 use text_check::Lengths;
 
 // How many names, instances, words and attributes were read, and how many bytes the names and the scales have.
+#[derive(Drop)]
 pub struct TextSizes {
     pub labels: u32,
     pub names: u32,
@@ -24,6 +25,7 @@ pub struct TextSizes {
     pub scale_bytes: u32,
 }
 
+#[derive(Drop)]
 pub enum TextReading {
     Read(TextSizes),
     Refused(Refusal),
@@ -31,8 +33,8 @@ pub enum TextReading {
 
 // The figures of a survey as an answer.
 fn sizes_in(survey: Survey) -> TextSizes
-    requires { ⌜ SmallSurvey survey ⌝ }
-    ensures { λ r. ⌜ r ≡ sizesIn survey ⌝ }
+    requires { SmallSurvey survey }
+    ensures { result ≡ sizes_in_of survey }
 {
     let figures = survey.figures;
     let labels = survey.labels;
@@ -69,11 +71,10 @@ fn fill_checked(
     scale_starts: &mut [u32],
     scales: &mut [u8],
 ) -> TextReading
-    requires { ⌜ SurveyMade (now text) (now labels) (now slots) (now positions) survey ⌝ }
-    ensures { λ r.
-        let before = buffersWere «line_starts» «word_starts» ids values references «instance_weights» «label_name_starts» «label_names» «attribute_name_starts» «attribute_names» «scale_starts» scales in
-        let after = buffersAre «line_starts» «word_starts» ids values references «instance_weights» «label_name_starts» «label_names» «attribute_name_starts» «attribute_names» «scale_starts» scales in
-        ⌜ ((h : WellFormed (now (text .entry))) → ReadOf (now (text .entry)) (sequences (h .lines)) before (record { answer = r; after = after })) ⌝ }
+    requires { SurveyMade text.now labels.now slots.now positions.now survey }
+    ensures { let before = buffers_were line_starts word_starts ids values references instance_weights label_name_starts label_names attribute_name_starts attribute_names scale_starts scales in
+        let after = buffers_are line_starts word_starts ids values references instance_weights label_name_starts label_names attribute_name_starts attribute_names scale_starts scales in
+        ((h : WellFormed text.now) → ReadOf text.now (sequences h.lines) before (record { answer = result; after = after })) }
 {
     let have = Lengths {
         lines: line_starts.len(),
@@ -135,11 +136,10 @@ fn read_with(
     scale_starts: &mut [u32],
     scales: &mut [u8],
 ) -> TextReading
-    requires { ⌜ Readable (now text) × FreeSlots (now slots) ⌝ }
-    ensures { λ r.
-        let before = buffersWere «line_starts» «word_starts» ids values references «instance_weights» «label_name_starts» «label_names» «attribute_name_starts» «attribute_names» «scale_starts» scales in
-        let after = buffersAre «line_starts» «word_starts» ids values references «instance_weights» «label_name_starts» «label_names» «attribute_name_starts» «attribute_names» «scale_starts» scales in
-        ⌜ ((h : WellFormed (now (text .entry))) → ReadOf (now (text .entry)) (sequences (h .lines)) before (record { answer = r; after = after })) ⌝ }
+    requires { Readable text.now × FreeSlots slots.old }
+    ensures { let before = buffers_were line_starts word_starts ids values references instance_weights label_name_starts label_names attribute_name_starts attribute_names scale_starts scales in
+        let after = buffers_are line_starts word_starts ids values references instance_weights label_name_starts label_names attribute_name_starts attribute_names scale_starts scales in
+        ((h : WellFormed text.now) → ReadOf text.now (sequences h.lines) before (record { answer = result; after = after })) }
 {
     let mut labels = [0u32; 33];
     let mut positions = [0u32; 65536];
@@ -181,10 +181,9 @@ pub fn read_text(
     scale_starts: &mut [u32],
     scales: &mut [u8],
 ) -> TextReading
-    ensures { λ r.
-        let before = buffersWere «line_starts» «word_starts» ids values references «instance_weights» «label_name_starts» «label_names» «attribute_name_starts» «attribute_names» «scale_starts» scales in
-        let after = buffersAre «line_starts» «word_starts» ids values references «instance_weights» «label_name_starts» «label_names» «attribute_name_starts» «attribute_names» «scale_starts» scales in
-        ⌜ Promised (now (text .entry)) before (record { answer = r; after = after }) ⌝ }
+    ensures { let before = buffers_were line_starts word_starts ids values references instance_weights label_name_starts label_names attribute_name_starts attribute_names scale_starts scales in
+        let after = buffers_are line_starts word_starts ids values references instance_weights label_name_starts label_names attribute_name_starts attribute_names scale_starts scales in
+        Promised text.now before (record { answer = result; after = after }) }
 {
     let checked = text_bytes::check_bytes(text);
     if let Checked::Refused(why) = checked {
@@ -211,8 +210,8 @@ pub fn read_text(
 
 // 2 and 4 of a well-formed text that is not too long, or its sizes.
 fn sizes_readable(text: &[u8]) -> TextReading
-    requires { ⌜ Readable (now text) ⌝ }
-    ensures { λ r. ⌜ ((h : WellFormed (now (text .entry))) → said r ≡ sizedOf (now (text .entry)) (sequences (h .lines))) ⌝ }
+    requires { Readable text.now }
+    ensures { (h : WellFormed text.now) → said result ≡ sized_of text.now (sequences h.lines) }
 {
     let survey = text_check::survey_alone(text);
     let checked = text_check::check_sizes(survey);
@@ -224,7 +223,7 @@ fn sizes_readable(text: &[u8]) -> TextReading
 
 // The sizes of a text; or the refusal.
 pub fn text_sizes(text: &[u8]) -> TextReading
-    ensures { λ r. ⌜ SizesPromised (now (text .entry)) r ⌝ }
+    ensures { SizesPromised text.now result }
 {
     let checked = text_bytes::check_bytes(text);
     if let Checked::Refused(why) = checked {

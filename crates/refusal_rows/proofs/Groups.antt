@@ -1,24 +1,24 @@
 -- A call's rows in groups of one number each: the number is given exactly when the groups before are fine, and with the tables and places that its own group says. Assumes nothing.
-use mathlib.Core.Path.{_≡_, refl, sym, _∙_, ap}
-use mathlib.Core.Bool.{Bool, true, false, not, _&&_}
-use mathlib.Core.List.{List, [], _∷_, _++_, append-nil, append-assoc}
-use mathlib.Core.Logic.{_↔_, _⊎_, inl, inr, ⊎-elim}
-use Prim.Native.Nat.{ℕ, _<_}
+use mathlib.Core.Path.{◌≡◌, refl, sym, ◌∙◌, ap}
+use mathlib.Core.Bool.{Bool, true, false, not, ◌&&◌}
+use mathlib.Core.List.{List, [], ◌∷◌, ◌++◌, append-nil, append_assoc}
+use mathlib.Core.Logic.{◌↔◌, ◌⊎◌, inl, inr, ⊎_elim}
+use Prim.Native.Nat.{ℕ, ◌<◌}
 use native.Mathlib.Omega.{arith}
 use borrow.Author.Tests.{eqb-true, eqb-false}
 use lib.Dec.{T, eqb, ltb, ltb→lt}
-use Rattle·refusals.specs.declared.Refusal.{Refusal}
-use Rattle·refusals.specs.declared.Checked.{Checked}
-use Rattle·refusals.specs.declared.Checked.the-variants.{Accepted, Refused}
-use Rattle·refusals.specs.Refusals.{refusedIn, first}
-use Rattle·refusals.specs.Meaning.{AllAccepted, FirstRefused}
-use Rattle·refusals.proofs.Laws.{all-accepted, accepted-all, first-refused, table-of, place-of}
-use Rattle·score_tables.specs.Meaning.{Row}
-use Rattle·score_tables.proofs.Order.{Never, not-row, parted, why, given, foremost}
-use Rattle·refusal_rows·specs.specs.Given.{AtZero, BrokenAt, OneOf}
-use Rattle·refusal_rows·specs.specs.Limits.{Limit, limitChecks, AllWithin}
-use Rattle·refusal_rows·specs.specs.Tests.{Test, checks, AllGood, FirstBadOf}
-use Rattle·refusal_rows·proofs.proofs.Means.{allUnder, limits-mean, first-broken, never-broken, Numbered, all-mean, first-means, never-means}
+use Rattle.refusals.specs.declared.Refusal.{Refusal}
+use Rattle.refusals.specs.declared.Checked.{Checked}
+use Rattle.refusals.specs.declared.Checked.TheVariants.{Accepted, Refused}
+use Rattle.refusals.specs.Refusals.{refused_in_of, first}
+use Rattle.refusals.specs.Meaning.{AllAccepted, FirstRefused}
+use Rattle.refusals.proofs.Laws.{all_accepted, accepted_all, first_refused, table_of_lem, place_of_lem}
+use Rattle.score_tables.specs.Meaning.{Row}
+use Rattle.score_tables.proofs.Order.{Never, not_row, parted, why, given, foremost}
+use Rattle.refusal_rows.specs.Given.{AtZero, BrokenAt, OneOf}
+use Rattle.refusal_rows.specs.Limits.{Limit, limit_checks, AllWithin}
+use Rattle.refusal_rows.specs.Tests.{Test, checks, AllGood, FirstBadOf}
+use Rattle.refusal_rows.proofs.Means.{all_under, limits_mean, first_broken, never_broken, Numbered, all_mean, first_means, never_means}
 
 -- the rows of one number: when they all accept, and when they refuse with a table and a place
 pub record Group : Type 1 where
@@ -31,12 +31,12 @@ pub record Group : Type 1 where
   pub other : (k : ℕ) → (number ≡ k → ⊥) → Never k rows
 
 -- one row, whose place is 0
-pub at-zero : {check : Checked} {number : ℕ} {Fine : Type 0} → Row check number Fine → (table place : ℕ) → FirstRefused (why number table place) (check ∷ []) ↔ AtZero Fine table place
-at-zero {check} {number} {Fine} r table place = (to, λ p. inl (rw (p .0, p .1 .0) (r .refused .1 (p .1 .1))))
+pub at_zero : {check : Checked} {number : ℕ} {Fine : Type 0} → Row check number Fine → (table place : ℕ) → FirstRefused (why number table place) (check ∷ []) ↔ AtZero Fine table place
+at_zero {check} {number} {Fine} r table place = (to, λ p. inl (rw (p.0, p.1.0) (r.refused.1 p.1.1)))
   where
     to : FirstRefused (why number table place) (check ∷ []) → AtZero Fine table place
-    to (inl e) = let o = r .only _ e in (table-of o, (place-of o, r .refused .0 (e ∙ o)))
-    to (inr p) = absurd (p .1)
+    to (inl e) = let o = r.only _ e in (table_of_lem o, (place_of_lem o, r.refused.0 (e ∙ o)))
+    to (inr p) = absurd p.1
 
 abbrev pub single : {check : Checked} {number : ℕ} {Fine : Type 0} → Row check number Fine → Group
 single {check} {number} {Fine} r = record {
@@ -44,21 +44,21 @@ single {check} {number} {Fine} r = record {
   rows = check ∷ [];
   Fine = Fine;
   At = AtZero Fine;
-  fine = (λ a. r .accepted .0 (a .0), λ f. (r .accepted .1 f, tt));
-  at = at-zero r;
-  other = λ k d. (not-row r d, tt);
+  fine = (λ a. r.accepted.0 a.0, λ f. (r.accepted.1 f, tt));
+  at = at_zero r;
+  other = λ k d. (not_row r d, tt);
 }
 
 -- limits: counts under 2, or rooms under 12
-abbrev pub limited : (number : ℕ) (limits : List Limit) → T (allUnder number limits) → Group
+abbrev pub limited : (number : ℕ) (limits : List Limit) → T (all_under number limits) → Group
 limited number limits t = record {
   number = number;
-  rows = limitChecks limits;
+  rows = limit_checks limits;
   Fine = AllWithin limits;
   At = BrokenAt limits;
-  fine = limits-mean limits;
-  at = λ table place. first-broken number table place limits t;
-  other = λ k d. never-broken number k limits t d;
+  fine = limits_mean limits;
+  at = λ table place. first_broken number table place limits t;
+  other = λ k d. never_broken number k limits t d;
 }
 
 -- tests of tables
@@ -68,46 +68,46 @@ tested number tests e = record {
   rows = checks tests;
   Fine = AllGood tests;
   At = FirstBadOf tests;
-  fine = all-mean tests;
-  at = λ table place. first-means number table place tests e;
-  other = λ k d. never-means number k tests e d;
+  fine = all_mean tests;
+  at = λ table place. first_means number table place tests e;
+  other = λ k d. never_means number k tests e d;
 }
 
 -- all rows of several groups, in order
-abbrev pub rowsOf : List Group → List Checked
-rowsOf [] = []
-rowsOf (group ∷ []) = group .rows
-rowsOf (group ∷ next ∷ groups) = group .rows ++ rowsOf (next ∷ groups)
+abbrev pub rows_of : List Group → List Checked
+rows_of [] = []
+rows_of (group ∷ []) = group.rows
+rows_of (group ∷ next ∷ groups) = group.rows ++ rows_of (next ∷ groups)
 
-rows-cons : (group : Group) (groups : List Group) → rowsOf (group ∷ groups) ≡ group .rows ++ rowsOf groups
-rows-cons group [] = sym (append-nil (group .rows))
-rows-cons group (next ∷ groups) = refl
+rows_cons : (group : Group) (groups : List Group) → rows_of (group ∷ groups) ≡ group.rows ++ rows_of groups
+rows_cons group [] = sym (append-nil group.rows)
+rows_cons group (next ∷ groups) = refl
 
 abbrev pub AllFine : List Group → Type 0
 AllFine [] = Unit
-AllFine (group ∷ []) = group .Fine
-AllFine (group ∷ next ∷ groups) = group .Fine × AllFine (next ∷ groups)
+AllFine (group ∷ []) = group.Fine
+AllFine (group ∷ next ∷ groups) = group.Fine × AllFine (next ∷ groups)
 
-pub all-fine : (groups : List Group) → AllAccepted (rowsOf groups) ↔ AllFine groups
-all-fine [] = (λ a. a, λ f. f)
-all-fine (group ∷ []) = group .fine
-all-fine (group ∷ next ∷ groups) =
-    let p = parted (group .rows) (rowsOf (next ∷ groups)) in
-    let r = all-fine (next ∷ groups) in
-    (λ a. let s = p .0 a in (group .fine .0 (s .0), r .0 (s .1)), λ f. p .1 (group .fine .1 (f .0), r .1 (f .1)))
+pub all_fine : (groups : List Group) → AllAccepted (rows_of groups) ↔ AllFine groups
+all_fine [] = (λ a. a, λ f. f)
+all_fine (group ∷ []) = group.fine
+all_fine (group ∷ next ∷ groups) =
+    let p = parted group.rows (rows_of (next ∷ groups)) in
+    let r = all_fine (next ∷ groups) in
+    (λ a. let s = p.0 a in (group.fine.0 s.0, r.0 s.1), λ f. p.1 (group.fine.1 f.0, r.1 f.1))
 
 -- none of the groups has this number: a test that computes
 abbrev pub without : ℕ → List Group → Bool
 without k [] = true
-without k (group ∷ groups) = not (eqb (group .number) k) && without k groups
+without k (group ∷ groups) = not (eqb group.number k) && without k groups
 
 both : (a b : Bool) → T (a && b) → T a × T b
 both true b t = (tt, t)
 both false b t = absurd t
 
-no-rows : (xs ys : List Checked) (k : ℕ) → Never k xs → Never k ys → Never k (xs ++ ys)
-no-rows [] ys k n m = m
-no-rows (check ∷ xs) ys k n m = (n .0, no-rows xs ys k (n .1) m)
+no_rows : (xs ys : List Checked) (k : ℕ) → Never k xs → Never k ys → Never k (xs ++ ys)
+no_rows [] ys k n m = m
+no_rows (check ∷ xs) ys k n m = (n.0, no_rows xs ys k n.1 m)
 
 differ : (a b : ℕ) → T (not (eqb a b)) → a ≡ b → ⊥
 differ a b t = go (eqb a b) refl t
@@ -116,76 +116,76 @@ differ a b t = go (eqb a b) refl t
     go true h t = absurd t
     go false h t = eqb-false a b h
 
-never-of : (k : ℕ) (groups : List Group) → T (without k groups) → Never k (rowsOf groups)
-never-of k [] t = tt
-never-of k (group ∷ groups) t =
-    let s = both (not (eqb (group .number) k)) (without k groups) t in
-    rw (rows-cons group groups)
-    (no-rows (group .rows) (rowsOf groups) k (group .other k (differ (group .number) k (s .0))) (never-of k groups (s .1)))
+never_of : (k : ℕ) (groups : List Group) → T (without k groups) → Never k (rows_of groups)
+never_of k [] t = tt
+never_of k (group ∷ groups) t =
+    let s = both (not (eqb group.number k)) (without k groups) t in
+    rw (rows_cons group groups)
+    (no_rows group.rows (rows_of groups) k (group.other k (differ group.number k s.0)) (never_of k groups s.1))
 
-rows-append : (xs ys : List Group) → rowsOf (xs ++ ys) ≡ rowsOf xs ++ rowsOf ys
-rows-append [] ys = refl
-rows-append (group ∷ xs) ys =
-    rows-cons group (xs ++ ys)
-    ∙ ap (λ (rows : List Checked). group .rows ++ rows) (rows-append xs ys)
-    ∙ sym (append-assoc (group .rows) (rowsOf xs) (rowsOf ys))
-    ∙ ap (λ (rows : List Checked). rows ++ rowsOf ys) (sym (rows-cons group xs))
+rows_append : (xs ys : List Group) → rows_of (xs ++ ys) ≡ rows_of xs ++ rows_of ys
+rows_append [] ys = refl
+rows_append (group ∷ xs) ys =
+    rows_cons group (xs ++ ys)
+    ∙ ap (λ (rows : List Checked). group.rows ++ rows) (rows_append xs ys)
+    ∙ sym (append_assoc group.rows (rows_of xs) (rows_of ys))
+    ∙ ap (λ (rows : List Checked). rows ++ rows_of ys) (sym (rows_cons group xs))
 
 module _ (table place : ℕ) where
-  pub given-first : (mine : Group) (after : List Group) → T (without (mine .number) after) →
-      first (rowsOf (mine ∷ after)) ≡ refusedIn (mine .number) table place ↔ mine .At table place
-  given-first mine after ta =
-      rw (rows-cons mine after)
-      (foremost (mine .number) table place (mine .rows) (rowsOf after) (never-of (mine .number) after ta) (mine .at table place))
+  pub given_first : (mine : Group) (after : List Group) → T (without mine.number after) →
+      first (rows_of (mine ∷ after)) ≡ refused_in_of mine.number table place ↔ mine.At table place
+  given_first mine after ta =
+      rw (rows_cons mine after)
+      (foremost mine.number table place mine.rows (rows_of after) (never_of mine.number after ta) (mine.at table place))
 
-  pub given-after : (before : List Group) (mine : Group) (after : List Group) → T (without (mine .number) before) → T (without (mine .number) after) →
-      first (rowsOf (before ++ mine ∷ after)) ≡ refusedIn (mine .number) table place ↔ AllFine before × mine .At table place
-  given-after before mine after tb ta =
-      rw (rows-append before (mine ∷ after), rows-cons mine after)
-      (given (mine .number) table place (rowsOf before) (mine .rows) (rowsOf after)
-      (never-of (mine .number) before tb) (never-of (mine .number) after ta)
-      (all-fine before) (mine .at table place))
+  pub given_after : (before : List Group) (mine : Group) (after : List Group) → T (without mine.number before) → T (without mine.number after) →
+      first (rows_of (before ++ mine ∷ after)) ≡ refused_in_of mine.number table place ↔ AllFine before × mine.At table place
+  given_after before mine after tb ta =
+      rw (rows_append before (mine ∷ after), rows_cons mine after)
+      (given mine.number table place (rows_of before) mine.rows (rows_of after)
+      (never_of mine.number before tb) (never_of mine.number after ta)
+      (all_fine before) (mine.at table place))
 
 -- accepted exactly when every group is fine
-pub accepted-when : (groups : List Group) → first (rowsOf groups) ≡ Accepted ↔ AllFine groups
-accepted-when groups = (λ h. all-fine groups .0 (all-accepted Accepted (rowsOf groups) h .1), λ f. accepted-all (rowsOf groups) (all-fine groups .1 f))
+pub accepted_when : (groups : List Group) → first (rows_of groups) ≡ Accepted ↔ AllFine groups
+accepted_when groups = (λ h. (all_fine groups).0 (all_accepted Accepted (rows_of groups) h).1, λ f. accepted_all (rows_of groups) ((all_fine groups).1 f))
 
 -- no other number is given
-abbrev pub numbersOf : List Group → List ℕ
-numbersOf [] = []
-numbersOf (group ∷ groups) = group .number ∷ numbersOf groups
+abbrev pub numbers_of : List Group → List ℕ
+numbers_of [] = []
+numbers_of (group ∷ groups) = group.number ∷ numbers_of groups
 
 module _ (refusal : Refusal) where
   parts : (xs ys : List Checked) → FirstRefused refusal (xs ++ ys) → FirstRefused refusal xs ⊎ FirstRefused refusal ys
   parts [] ys h = inr h
   parts (check ∷ xs) ys (inl e) = inl (inl e)
-  parts (check ∷ xs) ys (inr p) = ⊎-elim (λ r. inl (inr (p .0, r))) inr (parts xs ys (p .1))
+  parts (check ∷ xs) ys (inr p) = ⊎_elim (λ r. inl (inr (p.0, r))) inr (parts xs ys p.1)
 
-  none : (rows : List Checked) → Never (refusal .number) rows → FirstRefused refusal rows → ⊥
+  none : (rows : List Checked) → Never refusal.number rows → FirstRefused refusal rows → ⊥
   none [] n h = h
-  none (check ∷ rows) n (inl e) = n .0 (refusal .table) (refusal .place) e
-  none (check ∷ rows) n (inr p) = none rows (n .1) (p .1)
+  none (check ∷ rows) n (inl e) = n.0 refusal.table refusal.place e
+  none (check ∷ rows) n (inr p) = none rows n.1 p.1
 
-  own : (group : Group) → FirstRefused refusal (group .rows) → refusal .number ≡ group .number
-  own group r = go (eqb (group .number) (refusal .number)) refl
+  own : (group : Group) → FirstRefused refusal group.rows → refusal.number ≡ group.number
+  own group r = go (eqb group.number refusal.number) refl
     where
-      go : (e : Bool) → eqb (group .number) (refusal .number) ≡ e → refusal .number ≡ group .number
-      go true q = sym (eqb-true (group .number) (refusal .number) q)
-      go false q = absurd (none (group .rows) (group .other (refusal .number) (eqb-false (group .number) (refusal .number) q)) r)
+      go : (e : Bool) → eqb group.number refusal.number ≡ e → refusal.number ≡ group.number
+      go true q = sym (eqb-true group.number refusal.number q)
+      go false q = absurd (none group.rows (group.other refusal.number (eqb-false group.number refusal.number q)) r)
 
-  whose : (groups : List Group) → FirstRefused refusal (rowsOf groups) → OneOf (numbersOf groups) (refusal .number)
+  whose : (groups : List Group) → FirstRefused refusal (rows_of groups) → OneOf (numbers_of groups) refusal.number
   whose [] r = r
-  whose (group ∷ groups) r = ⊎-elim (λ m. inl (own group m)) (λ m. inr (whose groups m)) (parts (group .rows) (rowsOf groups) (rw (rows-cons group groups) at r))
+  whose (group ∷ groups) r = ⊎_elim (λ m. inl (own group m)) (λ m. inr (whose groups m)) (parts group.rows (rows_of groups) (rw (rows_cons group groups) at r))
 
-  pub given-only : (groups : List Group) → first (rowsOf groups) ≡ Refused refusal → OneOf (numbersOf groups) (refusal .number)
-  given-only groups h = whose groups (first-refused refusal (rowsOf groups) h)
+  pub given_only : (groups : List Group) → first (rows_of groups) ≡ Refused refusal → OneOf (numbers_of groups) refusal.number
+  given_only groups h = whose groups (first_refused refusal (rows_of groups) h)
 
 -- none of these numbers is 0: a test that computes
-abbrev pub noZero : List ℕ → Bool
-noZero [] = true
-noZero (number ∷ numbers) = ltb 0 number && noZero numbers
+abbrev pub no_zero : List ℕ → Bool
+no_zero [] = true
+no_zero (number ∷ numbers) = ltb 0 number && no_zero numbers
 
-pub above-zero : (numbers : List ℕ) (number : ℕ) → T (noZero numbers) → OneOf numbers number → 0 < number
-above-zero [] number t h = absurd h
-above-zero (this ∷ numbers) number t (inl e) = let a = ltb→lt 0 this (both (ltb 0 this) (noZero numbers) t .0) in omega arith
-above-zero (this ∷ numbers) number t (inr h) = above-zero numbers number (both (ltb 0 this) (noZero numbers) t .1) h
+pub above_zero : (numbers : List ℕ) (number : ℕ) → T (no_zero numbers) → OneOf numbers number → 0 < number
+above_zero [] number t h = absurd h
+above_zero (this ∷ numbers) number t (inl e) = let a = ltb→lt 0 this (both (ltb 0 this) (no_zero numbers) t).0 in omega arith
+above_zero (this ∷ numbers) number t (inr h) = above_zero numbers number (both (ltb 0 this) (no_zero numbers) t).1 h

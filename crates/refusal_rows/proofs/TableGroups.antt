@@ -1,31 +1,31 @@
 -- Groups of rows that calls on score tables share: two rows of one number, whose place is 0, and 6 of the two tables. Assumes nothing.
-use mathlib.Core.Path.{_≡_}
-use mathlib.Core.List.{List, [], _∷_}
-use mathlib.Core.Logic.{_↔_, inl, inr}
-use Prim.Native.Nat.{ℕ, _*_}
+use mathlib.Core.Path.{◌≡◌}
+use mathlib.Core.List.{List, [], ◌∷◌}
+use mathlib.Core.Logic.{◌↔◌, inl, inr}
+use Prim.Native.Nat.{ℕ, ◌*◌}
 use lib.Ieee.{Float}
-use Rattle·refusals.specs.declared.Checked.{Checked}
-use Rattle·refusals.specs.Meaning.{FirstRefused}
-use Rattle·refusals.proofs.Laws.{table-of, place-of}
-use Rattle·score_tables.specs.Rows.{sixes}
-use Rattle·score_tables.specs.Meaning.{Row, SixAt}
-use Rattle·fronts.specs.Finite.{FiniteTo}
-use Rattle·score_tables.proofs.Order.{not-row, why, of-two}
-use Rattle·score_tables.proofs.Meant.{finite-to, to-finite, not-six, six-means}
-use Rattle·refusal_rows·specs.specs.Given.{AtZero}
-use Rattle·refusal_rows·proofs.proofs.Groups.{Group}
+use Rattle.refusals.specs.declared.Checked.{Checked}
+use Rattle.refusals.specs.Meaning.{FirstRefused}
+use Rattle.refusals.proofs.Laws.{table_of_lem, place_of_lem}
+use Rattle.score_tables.specs.Rows.{sixes}
+use Rattle.score_tables.specs.Meaning.{Row, SixAt}
+use Rattle.fronts.specs.Finite.{FiniteTo}
+use Rattle.score_tables.proofs.Order.{not_row, why, of_two}
+use Rattle.score_tables.proofs.Meant.{finite_to, to_finite, not_six, six_means}
+use Rattle.refusal_rows.specs.Given.{AtZero}
+use Rattle.refusal_rows.proofs.Groups.{Group}
 
 -- two rows of one number
 module _ {a b : Checked} {number : ℕ} {P Q : Type 0} (r : Row a number P) (s : Row b number Q) where
-  pub at-zero-of-two : (table place : ℕ) → FirstRefused (why number table place) (a ∷ b ∷ []) ↔ AtZero (P × Q) table place
-  at-zero-of-two table place = (
-    λ h. let z = zeros h in (z .0, (z .1, of-two r s .0 (rw (z .0, z .1) at h))),
-    λ p. rw (p .0, p .1 .0) (of-two r s .1 (p .1 .1)),
+  pub at_zero_of_two : (table place : ℕ) → FirstRefused (why number table place) (a ∷ b ∷ []) ↔ AtZero (P × Q) table place
+  at_zero_of_two table place = (
+    λ h. let z = zeros h in (z.0, (z.1, (of_two r s).0 (rw (z.0, z.1) at h))),
+    λ p. rw (p.0, p.1.0) ((of_two r s).1 p.1.1),
   )
     where
       zeros : FirstRefused (why number table place) (a ∷ b ∷ []) → (table ≡ 0) × (place ≡ 0)
-      zeros (inl e) = let o = r .only _ e in (table-of o, place-of o)
-      zeros (inr (_, inl e)) = let o = s .only _ e in (table-of o, place-of o)
+      zeros (inl e) = let o = r.only _ e in (table_of_lem o, place_of_lem o)
+      zeros (inr (_, inl e)) = let o = s.only _ e in (table_of_lem o, place_of_lem o)
       zeros (inr (_, inr (_, h))) = absurd h
 
   abbrev pub pair : Group
@@ -34,22 +34,22 @@ module _ {a b : Checked} {number : ℕ} {P Q : Type 0} (r : Row a number P) (s :
     rows = a ∷ b ∷ [];
     Fine = P × Q;
     At = AtZero (P × Q);
-    fine = (λ h. (r .accepted .0 (h .0), s .accepted .0 (h .1 .0)), λ f. (r .accepted .1 (f .0), (s .accepted .1 (f .1), tt)));
-    at = at-zero-of-two;
-    other = λ k d. (not-row r d, (not-row s d, tt));
+    fine = (λ h. (r.accepted.0 h.0, s.accepted.0 h.1.0), λ f. (r.accepted.1 f.0, (s.accepted.1 f.1, tt)));
+    at = at_zero_of_two;
+    other = λ k d. (not_row r d, (not_row s d, tt));
   }
 
 -- 6 of the transitions, then of the states
-abbrev pub tableSixes : (labels words : ℕ) (transitions states : List Float) → Group
-tableSixes labels words transitions states = record {
+abbrev pub table_sixes : (labels words : ℕ) (transitions states : List Float) → Group
+table_sixes labels words transitions states = record {
   number = 6;
   rows = sixes labels words transitions states;
   Fine = FiniteTo transitions (labels * labels) × FiniteTo states (words * labels);
   At = SixAt labels words transitions states;
   fine = (
-    λ h. (finite-to _ transitions _ (h .0), finite-to _ states _ (h .1 .0)),
-    λ f. (to-finite _ transitions _ (f .0), (to-finite _ states _ (f .1), tt)),
+    λ h. (finite_to _ transitions _ h.0, finite_to _ states _ h.1.0),
+    λ f. (to_finite _ transitions _ f.0, (to_finite _ states _ f.1, tt)),
   );
-  at = six-means labels words transitions states;
-  other = not-six labels words transitions states;
+  at = six_means labels words transitions states;
+  other = not_six labels words transitions states;
 }

@@ -1,9 +1,6 @@
 -- When a call gives a number, in plain terms that every call shares: with which table and place. Assumes nothing.
-use mathlib.Core.Path.{_≡_}
-use mathlib.Core.List.{List, [], _∷_}
-use mathlib.Core.Logic.{_⊎_}
-use Prim.Native.Nat.{ℕ}
-use Rattle·refusal_rows·specs.specs.Limits.{Limit, FirstBroken}
+use Rattle.std.specs.Prelude.{◌≡◌, List, [], ◌∷◌, ◌⊎◌, ℕ}
+use Rattle.refusal_rows.specs.Limits.{Limit, FirstBroken}
 
 -- a row whose place is 0, and which speaks of no table: something is not fine
 abbrev pub AtZero : Type 0 → (table place : ℕ) → Type 0

@@ -1,110 +1,104 @@
 -- Rows 3 to 6 of document 01's table as lists of tests, each of one table: what a test refuses, and which places are bad in plain terms. Assumes nothing.
-use mathlib.Core.Path.{_≡_}
-use mathlib.Core.Bool.{Bool, true, false, _&&_}
-use mathlib.Core.List.{List, [], _∷_}
-use mathlib.Core.Logic.{_⊎_}
-use Prim.Native.Nat.{ℕ, _+_, _-_, _<_, _≤_}
-use lib.Dec.{leb}
-use lib.ListN.{getD}
-use lib.Ieee.{Float, nan}
-use lib.Ieee.Scale.{finite}
-use Rattle·refusals.specs.declared.Checked.{Checked}
-use Rattle·refusals.specs.Refusals.{lowest}
-use Rattle·refusals.specs.Tables.{startsChecked, kindsChecked, idsChecked, sourcesChecked, numbersChecked}
-use Rattle·refusals.specs.Bounds.{Table, wordTable, tablePosition, theLineWords, outsideIts}
-use Rattle·refusals.specs.Meaning.{FirstBad, BadStart}
-use Rattle·score_tables.specs.Sound.{WordsIn}
+use Rattle.std.specs.Prelude.{◌≡◌, Bool, true, false, ◌&&◌, List, [], ◌∷◌, ◌⊎◌, ℕ, ◌+◌, ◌-◌, ◌<◌, ◌≤◌, leb, get_or, Float}
+use Rattle.std.specs.Float.{nan}
+use Rattle.std.specs.Float.Ieee.Scale.{finite}
+use Rattle.refusals.specs.declared.Checked.{Checked}
+use Rattle.refusals.specs.Refusals.{lowest}
+use Rattle.refusals.specs.Tables.{starts_checked, kinds_checked, ids_checked, sources_checked, numbers_checked}
+use Rattle.refusals.specs.Bounds.{Table, word_table, table_position, the_line_words, outside_its}
+use Rattle.refusals.specs.Meaning.{FirstBad, BadStart}
+use Rattle.score_tables.specs.Sound.{WordsIn}
 
 -- how many words an instance has, by the starts of the instances
-abbrev pub lineLength : List ℕ → ℕ → ℕ
-lineLength table i = getD table (i + 1) 0 - getD table i 0
+abbrev pub line_length : List ℕ → ℕ → ℕ
+line_length table i = get_or table (i + 1) 0 - get_or table i 0
 
 -- a test of the first n places of one of document 01's tables; of n + 1 starts for n lists
 pub data Test : Type 0 where
   -- 3 | "a rule of starts is broken" | "index of the first bad start"
-  startsRise : (which : Table) (table : List ℕ) (n entries : ℕ) → Test
+  starts_rise : (which : Table) (table : List ℕ) (n entries : ℕ) → Test
   -- 4 | "a T outside 1 to 128" | "instance index"
-  linesFit : (table : List ℕ) (n : ℕ) → Test
+  lines_fit : (table : List ℕ) (n : ℕ) → Test
   -- 5 | "kind not 0 or 1" | "index in its table"
-  kindsKnown : (which : Table) (table : List ℕ) (n : ℕ) → Test
+  kinds_known : (which : Table) (table : List ℕ) (n : ℕ) → Test
   -- 5 | "destination at or above L", "list id at or above F", "label at or above L" | "index in its table"
-  idsBelow : (which : Table) (table : List ℕ) (n bound : ℕ) → Test
+  ids_below : (which : Table) (table : List ℕ) (n bound : ℕ) → Test
   -- 5 | "Transition source at or above L" | "index in its table"
-  sourcesBelow : (which : Table) (kinds table : List ℕ) (n labels : ℕ) → Test
+  sources_below : (which : Table) (kinds table : List ℕ) (n labels : ℕ) → Test
   -- 6 | "a weight, value, instance weight or table entry not finite" | "index in its table"
-  numbersFinite : (which : Table) (table : List Float) (n : ℕ) → Test
+  numbers_finite : (which : Table) (table : List Float) (n : ℕ) → Test
 
 -- the T of instance i is outside 1 to 128
-abbrev pub badLength : List ℕ → ℕ → Bool
-badLength table i = outsideIts theLineWords (lineLength table i)
+abbrev pub bad_length : List ℕ → ℕ → Bool
+bad_length table i = outside_its the_line_words (line_length table i)
 
-abbrev pub lengthsChecked : List ℕ → ℕ → Checked
-lengthsChecked table n = lowest 4 (badLength table) n
+abbrev pub lengths_checked : List ℕ → ℕ → Checked
+lengths_checked table n = lowest 4 (bad_length table) n
 
 -- what a test refuses
 abbrev pub checked : Test → Checked
-checked (startsRise which table n entries) = startsChecked table n entries
-checked (linesFit table n) = lengthsChecked table n
-checked (kindsKnown which table n) = kindsChecked (tablePosition which) table n
-checked (idsBelow which table n bound) = idsChecked (tablePosition which) table n bound
-checked (sourcesBelow which kinds table n labels) = sourcesChecked (tablePosition which) kinds table n labels
-checked (numbersFinite which table n) = numbersChecked (tablePosition which) table n
+checked (starts_rise which table n entries) = starts_checked table n entries
+checked (lines_fit table n) = lengths_checked table n
+checked (kinds_known which table n) = kinds_checked (table_position which) table n
+checked (ids_below which table n bound) = ids_checked (table_position which) table n bound
+checked (sources_below which kinds table n labels) = sources_checked (table_position which) kinds table n labels
+checked (numbers_finite which table n) = numbers_checked (table_position which) table n
 
 abbrev pub checks : List Test → List Checked
 checks [] = []
 checks (test ∷ tests) = checked test ∷ checks tests
 
 -- the table that a test is of, and whether tests are in the order of the tables: a test that computes
-abbrev pub tableOf : Test → Table
-tableOf (startsRise which table n entries) = which
-tableOf (linesFit table n) = wordTable
-tableOf (kindsKnown which table n) = which
-tableOf (idsBelow which table n bound) = which
-tableOf (sourcesBelow which kinds table n labels) = which
-tableOf (numbersFinite which table n) = which
+abbrev pub table_of : Test → Table
+table_of (starts_rise which table n entries) = which
+table_of (lines_fit table n) = word_table
+table_of (kinds_known which table n) = which
+table_of (ids_below which table n bound) = which
+table_of (sources_below which kinds table n labels) = which
+table_of (numbers_finite which table n) = which
 
-abbrev pub tablesFrom : ℕ → List Test → Bool
-tablesFrom least [] = true
-tablesFrom least (test ∷ tests) = leb least (tablePosition (tableOf test)) && tablesFrom (tablePosition (tableOf test) + 1) tests
+abbrev pub tables_from : ℕ → List Test → Bool
+tables_from least [] = true
+tables_from least (test ∷ tests) = leb least (table_position (table_of test)) && tables_from (table_position (table_of test) + 1) tests
 
-abbrev pub inTableOrder : List Test → Bool
-inTableOrder tests = tablesFrom 0 tests
+abbrev pub in_table_order : List Test → Bool
+in_table_order tests = tables_from 0 tests
 
 -- ---- the same in plain terms
 
-abbrev pub numberOf : Test → ℕ
-numberOf (startsRise which table n entries) = 3
-numberOf (linesFit table n) = 4
-numberOf (kindsKnown which table n) = 5
-numberOf (idsBelow which table n bound) = 5
-numberOf (sourcesBelow which kinds table n labels) = 5
-numberOf (numbersFinite which table n) = 6
+abbrev pub number_of : Test → ℕ
+number_of (starts_rise which table n entries) = 3
+number_of (lines_fit table n) = 4
+number_of (kinds_known which table n) = 5
+number_of (ids_below which table n bound) = 5
+number_of (sources_below which kinds table n labels) = 5
+number_of (numbers_finite which table n) = 6
 
 -- "For 5 and 6 add the table's position in document 01's order"
-abbrev pub tableTold : Test → ℕ
-tableTold (startsRise which table n entries) = 0
-tableTold (linesFit table n) = 0
-tableTold (kindsKnown which table n) = tablePosition which
-tableTold (idsBelow which table n bound) = tablePosition which
-tableTold (sourcesBelow which kinds table n labels) = tablePosition which
-tableTold (numbersFinite which table n) = tablePosition which
+abbrev pub table_told : Test → ℕ
+table_told (starts_rise which table n entries) = 0
+table_told (lines_fit table n) = 0
+table_told (kinds_known which table n) = table_position which
+table_told (ids_below which table n bound) = table_position which
+table_told (sources_below which kinds table n labels) = table_position which
+table_told (numbers_finite which table n) = table_position which
 
 -- how many places are looked at, and which of them are bad
 abbrev pub places : Test → ℕ
-places (startsRise which table n entries) = n + 1
-places (linesFit table n) = n
-places (kindsKnown which table n) = n
-places (idsBelow which table n bound) = n
-places (sourcesBelow which kinds table n labels) = n
-places (numbersFinite which table n) = n
+places (starts_rise which table n entries) = n + 1
+places (lines_fit table n) = n
+places (kinds_known which table n) = n
+places (ids_below which table n bound) = n
+places (sources_below which kinds table n labels) = n
+places (numbers_finite which table n) = n
 
 abbrev pub Bad : Test → ℕ → Type 0
-Bad (startsRise which table n entries) i = BadStart table n entries i
-Bad (linesFit table n) i = WordsIn (lineLength table i) → ⊥
-Bad (kindsKnown which table n) i = (getD table i 0 ≡ 0 → ⊥) × (getD table i 0 ≡ 1 → ⊥)
-Bad (idsBelow which table n bound) i = bound ≤ getD table i 0
-Bad (sourcesBelow which kinds table n labels) i = (getD kinds i 0 ≡ 1) × (labels ≤ getD table i 0)
-Bad (numbersFinite which table n) i = finite (getD table i nan) ≡ false
+Bad (starts_rise which table n entries) i = BadStart table n entries i
+Bad (lines_fit table n) i = WordsIn (line_length table i) → ⊥
+Bad (kinds_known which table n) i = (get_or table i 0 ≡ 0 → ⊥) × (get_or table i 0 ≡ 1 → ⊥)
+Bad (ids_below which table n bound) i = bound ≤ get_or table i 0
+Bad (sources_below which kinds table n labels) i = (get_or kinds i 0 ≡ 1) × (labels ≤ get_or table i 0)
+Bad (numbers_finite which table n) i = finite (get_or table i nan) ≡ false
 
 -- no place that is looked at is bad
 abbrev pub Good : Test → Type 0
@@ -117,4 +111,4 @@ AllGood (test ∷ tests) = Good test × AllGood tests
 -- "In each .. the lowest index": the first bad place of the first table that has one, with that table where the number tells it
 abbrev pub FirstBadOf : List Test → (table place : ℕ) → Type 0
 FirstBadOf [] table place = ⊥
-FirstBadOf (test ∷ tests) table place = ((table ≡ tableTold test) × FirstBad (Bad test) (places test) place) ⊎ (Good test × FirstBadOf tests table place)
+FirstBadOf (test ∷ tests) table place = ((table ≡ table_told test) × FirstBad (Bad test) (places test) place) ⊎ (Good test × FirstBadOf tests table place)

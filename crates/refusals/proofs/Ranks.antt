@@ -1,31 +1,31 @@
 -- The laws of `sooner`: several answers may be taken together in any way that keeps those of one rank in order. Assumes nothing.
-use mathlib.Core.Path.{_≡_, refl, sym, _∙_, ap}
-use mathlib.Core.Bool.{Bool, true, false, _&&_, cond}
-use mathlib.Core.List.{List, [], _∷_, _++_}
-use mathlib.Core.Logic.{_⊎_, inl, inr, ⊎-elim}
-use Prim.Native.Nat.{ℕ, _<_, _≤_}
+use mathlib.Core.Path.{◌≡◌, refl, sym, ◌∙◌, ap}
+use mathlib.Core.Bool.{Bool, true, false, ◌&&◌, cond}
+use mathlib.Core.List.{List, [], ◌∷◌, ◌++◌}
+use mathlib.Core.Logic.{◌⊎◌, inl, inr, ⊎_elim}
+use Prim.Native.Nat.{ℕ, ◌<◌, ◌≤◌}
 use native.Mathlib.Omega.{arith}
 use borrow.Author.Tests.{ltb-true, ltb-false, lt-ltb, le-ltb}
 use lib.Dec.{T, ltb, leb, leb→le}
-use Rattle·refusals·specs.specs.Refusals.{orNext, firstFrom, first, rank, sooner}
-use Rattle·refusals·specs.specs.declared.Refusal.{Refusal}
-use Rattle·refusals·specs.specs.declared.Checked.{Checked}
-use Rattle·refusals·specs.specs.declared.Checked.the-variants.{Accepted, Refused}
-use Rattle·refusals·proofs.proofs.Laws.{never, settled}
+use Rattle.refusals.specs.Refusals.{or_next_of, first_from, first, rank, sooner}
+use Rattle.refusals.specs.declared.Refusal.{Refusal}
+use Rattle.refusals.specs.declared.Checked.{Checked}
+use Rattle.refusals.specs.declared.Checked.TheVariants.{Accepted, Refused}
+use Rattle.refusals.proofs.Laws.{never, settled}
 
 -- ---- two and three answers
 
-pub sooner-none : (a : Checked) → sooner a Accepted ≡ a
+pub sooner_none : (a : Checked) → sooner a Accepted ≡ a
 unfolding sooner
-sooner-none Accepted = refl
-sooner-none (Refused x) = refl
+sooner_none Accepted = refl
+sooner_none (Refused x) = refl
 
-pub sooner-assoc : (a b c : Checked) → sooner (sooner a b) c ≡ sooner a (sooner b c)
+pub sooner_assoc : (a b c : Checked) → sooner (sooner a b) c ≡ sooner a (sooner b c)
 unfolding sooner
-sooner-assoc Accepted b c = refl
-sooner-assoc (Refused x) Accepted c = refl
-sooner-assoc (Refused x) (Refused y) Accepted = sooner-none (sooner (Refused x) (Refused y))
-sooner-assoc (Refused x) (Refused y) (Refused z) = go (ltb (rank y) (rank x)) (ltb (rank z) (rank y)) refl refl
+sooner_assoc Accepted b c = refl
+sooner_assoc (Refused x) Accepted c = refl
+sooner_assoc (Refused x) (Refused y) Accepted = sooner_none (sooner (Refused x) (Refused y))
+sooner_assoc (Refused x) (Refused y) (Refused z) = go (ltb (rank y) (rank x)) (ltb (rank z) (rank y)) refl refl
   where
     go : (p q : Bool) → ltb (rank y) (rank x) ≡ p → ltb (rank z) (rank y) ≡ q → sooner (sooner (Refused x) (Refused y)) (Refused z) ≡ sooner (Refused x) (sooner (Refused y) (Refused z))
     go true true d e =
@@ -46,20 +46,20 @@ Below a b = (x y : Refusal) → a ≡ Refused x → b ≡ Refused y → rank x <
 abbrev pub NotAbove : Checked → Checked → Type 0
 NotAbove a b = (x y : Refusal) → a ≡ Refused x → b ≡ Refused y → rank x ≤ rank y
 
-pub sooner-swap : (a b : Checked) → Below a b → sooner a b ≡ sooner b a
+pub sooner_swap : (a b : Checked) → Below a b → sooner a b ≡ sooner b a
 unfolding sooner
-sooner-swap Accepted b l = sym (sooner-none b)
-sooner-swap (Refused x) Accepted l = refl
-sooner-swap (Refused x) (Refused y) l =
+sooner_swap Accepted b l = sym (sooner_none b)
+sooner_swap (Refused x) Accepted l = refl
+sooner_swap (Refused x) (Refused y) l =
     let k : rank x < rank y = l x y refl refl in
     rw (lt-ltb (rank x) (rank y) k, le-ltb (rank y) (rank x) (omega arith))
 
 -- where what comes first has no higher rank, `sooner` is `orNext`
-pub in-turn : (a b : Checked) → NotAbove a b → orNext a b ≡ sooner a b
-unfolding sooner orNext
-in-turn Accepted b l = refl
-in-turn (Refused x) Accepted l = refl
-in-turn (Refused x) (Refused y) l = let k : rank x ≤ rank y = l x y refl refl in rw (le-ltb (rank y) (rank x) k)
+pub in_turn : (a b : Checked) → NotAbove a b → or_next_of a b ≡ sooner a b
+unfolding sooner or_next_of
+in_turn Accepted b l = refl
+in_turn (Refused x) Accepted l = refl
+in_turn (Refused x) (Refused y) l = let k : rank x ≤ rank y = l x y refl refl in rw (le-ltb (rank y) (rank x) k)
 
 -- a refusal is one of the two
 pub whose : (a b : Checked) (why : Refusal) → sooner a b ≡ Refused why → (a ≡ Refused why) ⊎ (b ≡ Refused why)
@@ -73,18 +73,18 @@ whose (Refused x) (Refused y) why h = go (ltb (rank y) (rank x)) h
     go false e = inl e
 
 -- checks in order, after an answer
-pub from-first : (answer : Checked) (checks : List Checked) → firstFrom answer checks ≡ orNext answer (first checks)
-unfolding orNext
-from-first Accepted checks = refl
-from-first (Refused why) checks = settled (Refused why) checks why refl
+pub from_first : (answer : Checked) (checks : List Checked) → first_from answer checks ≡ or_next_of answer (first checks)
+unfolding or_next_of
+from_first Accepted checks = refl
+from_first (Refused why) checks = settled (Refused why) checks why refl
 
 -- checks in two lists
-pub from-parts : (answer : Checked) (xs ys : List Checked) → firstFrom answer (xs ++ ys) ≡ firstFrom (firstFrom answer xs) ys
-from-parts answer [] ys = refl
-from-parts answer (check ∷ xs) ys = from-parts (orNext answer check) xs ys
+pub from_parts : (answer : Checked) (xs ys : List Checked) → first_from answer (xs ++ ys) ≡ first_from (first_from answer xs) ys
+from_parts answer [] ys = refl
+from_parts answer (check ∷ xs) ys = from_parts (or_next_of answer check) xs ys
 
-pub first-parts : (xs ys : List Checked) → first (xs ++ ys) ≡ orNext (first xs) (first ys)
-first-parts xs ys = from-parts Accepted xs ys ∙ from-first (first xs) ys
+pub first_parts : (xs ys : List Checked) → first (xs ++ ys) ≡ or_next_of (first xs) (first ys)
+first_parts xs ys = from_parts Accepted xs ys ∙ from_first (first xs) ys
 
 both : (a b : Bool) → T (a && b) → T a × T b
 both true b t = (tt, t)
@@ -92,73 +92,73 @@ both false b t = absurd t
 
 -- ---- a list of things that are checked, each of which refuses under its own rank
 
-module _ {A : Type 0} (rankOf : A → ℕ) (checkOf : A → Checked) where
-  abbrev pub checksOf : List A → List Checked
-  checksOf [] = []
-  checksOf (x ∷ xs) = checkOf x ∷ checksOf xs
+module _ {A : Type 0} (rank_of : A → ℕ) (check_of : A → Checked) where
+  abbrev pub checks_of : List A → List Checked
+  checks_of [] = []
+  checks_of (x ∷ xs) = check_of x ∷ checks_of xs
 
   -- the lowest rank of all, of equal ranks the first
   abbrev pub soonest : List A → Checked
   soonest [] = Accepted
-  soonest (x ∷ xs) = sooner (checkOf x) (soonest xs)
+  soonest (x ∷ xs) = sooner (check_of x) (soonest xs)
 
   -- by rank, those of one rank as they stood
   abbrev pub put : A → List A → List A
   put x [] = x ∷ []
-  put x (y ∷ ys) = cond (ltb (rankOf y) (rankOf x)) (y ∷ put x ys) (x ∷ y ∷ ys)
+  put x (y ∷ ys) = cond (ltb (rank_of y) (rank_of x)) (y ∷ put x ys) (x ∷ y ∷ ys)
 
   abbrev pub sorted : List A → List A
   sorted [] = []
   sorted (x ∷ xs) = put x (sorted xs)
 
   -- no rank is below this; the ranks never fall: tests that compute
-  abbrev pub noneBelow : ℕ → List A → Bool
-  noneBelow k [] = true
-  noneBelow k (x ∷ xs) = leb k (rankOf x) && noneBelow k xs
+  abbrev pub none_below : ℕ → List A → Bool
+  none_below k [] = true
+  none_below k (x ∷ xs) = leb k (rank_of x) && none_below k xs
 
   abbrev pub rising : List A → Bool
   rising [] = true
-  rising (x ∷ xs) = noneBelow (rankOf x) xs && rising xs
+  rising (x ∷ xs) = none_below (rank_of x) xs && rising xs
 
-  module _ (own : (x : A) (why : Refusal) → checkOf x ≡ Refused why → rank why ≡ rankOf x) where
-    pub soonest-parts : (xs ys : List A) → soonest (xs ++ ys) ≡ sooner (soonest xs) (soonest ys)
+  module _ (own : (x : A) (why : Refusal) → check_of x ≡ Refused why → rank why ≡ rank_of x) where
+    pub soonest_parts : (xs ys : List A) → soonest (xs ++ ys) ≡ sooner (soonest xs) (soonest ys)
     unfolding sooner
-    soonest-parts [] ys = refl
-    soonest-parts (x ∷ xs) ys = ap (sooner (checkOf x)) (soonest-parts xs ys) ∙ sym (sooner-assoc (checkOf x) (soonest xs) (soonest ys))
+    soonest_parts [] ys = refl
+    soonest_parts (x ∷ xs) ys = ap (sooner (check_of x)) (soonest_parts xs ys) ∙ sym (sooner_assoc (check_of x) (soonest xs) (soonest ys))
 
-    past : (x y : A) (rest : Checked) → rankOf y < rankOf x → sooner (checkOf y) (sooner (checkOf x) rest) ≡ sooner (checkOf x) (sooner (checkOf y) rest)
+    past : (x y : A) (rest : Checked) → rank_of y < rank_of x → sooner (check_of y) (sooner (check_of x) rest) ≡ sooner (check_of x) (sooner (check_of y) rest)
     past x y rest l =
-        sym (sooner-assoc (checkOf y) (checkOf x) rest)
-        ∙ ap (λ (c : Checked). sooner c rest) (sooner-swap (checkOf y) (checkOf x) (λ v w h k. omega (arith, own y v h, own x w k, l)))
-        ∙ sooner-assoc (checkOf x) (checkOf y) rest
+        sym (sooner_assoc (check_of y) (check_of x) rest)
+        ∙ ap (λ (c : Checked). sooner c rest) (sooner_swap (check_of y) (check_of x) (λ v w h k. omega (arith, own y v h, own x w k, l)))
+        ∙ sooner_assoc (check_of x) (check_of y) rest
 
-    put-soonest : (x : A) (ys : List A) → soonest (put x ys) ≡ sooner (checkOf x) (soonest ys)
-    put-soonest x [] = refl
-    put-soonest x (y ∷ ys) = go (ltb (rankOf y) (rankOf x)) refl (put-soonest x ys)
+    put_soonest : (x : A) (ys : List A) → soonest (put x ys) ≡ sooner (check_of x) (soonest ys)
+    put_soonest x [] = refl
+    put_soonest x (y ∷ ys) = go (ltb (rank_of y) (rank_of x)) refl (put_soonest x ys)
       where
-        go : (t : Bool) → ltb (rankOf y) (rankOf x) ≡ t → soonest (put x ys) ≡ sooner (checkOf x) (soonest ys) → soonest (put x (y ∷ ys)) ≡ sooner (checkOf x) (soonest (y ∷ ys))
-        go true e h = rw (e, h) (past x y (soonest ys) (ltb-true (rankOf y) (rankOf x) e))
+        go : (t : Bool) → ltb (rank_of y) (rank_of x) ≡ t → soonest (put x ys) ≡ sooner (check_of x) (soonest ys) → soonest (put x (y ∷ ys)) ≡ sooner (check_of x) (soonest (y ∷ ys))
+        go true e h = rw (e, h) (past x y (soonest ys) (ltb-true (rank_of y) (rank_of x) e))
         go false e h = rw e
 
-    pub sorted-soonest : (xs : List A) → soonest (sorted xs) ≡ soonest xs
-    sorted-soonest [] = refl
-    sorted-soonest (x ∷ xs) = put-soonest x (sorted xs) ∙ ap (sooner (checkOf x)) (sorted-soonest xs)
+    pub sorted_soonest : (xs : List A) → soonest (sorted xs) ≡ soonest xs
+    sorted_soonest [] = refl
+    sorted_soonest (x ∷ xs) = put_soonest x (sorted xs) ∙ ap (sooner (check_of x)) (sorted_soonest xs)
 
-    pub least : (k : ℕ) (xs : List A) → T (noneBelow k xs) → (why : Refusal) → soonest xs ≡ Refused why → k ≤ rank why
+    pub least : (k : ℕ) (xs : List A) → T (none_below k xs) → (why : Refusal) → soonest xs ≡ Refused why → k ≤ rank why
     least k [] t why h = never refl h
     least k (x ∷ xs) t why h =
-        let s = both (leb k (rankOf x)) (noneBelow k xs) t in
-        ⊎-elim
-        (λ e. omega (arith, own x why e, leb→le k (rankOf x) (s .0)))
-        (λ e. least k xs (s .1) why e)
-        (whose (checkOf x) (soonest xs) why h)
+        let s = both (leb k (rank_of x)) (none_below k xs) t in
+        ⊎_elim
+        (λ e. omega (arith, own x why e, leb→le k (rank_of x) s.0))
+        (λ e. least k xs s.1 why e)
+        (whose (check_of x) (soonest xs) why h)
 
     -- the law: what stands in the order of ranks gives its first refusal, and that is the soonest
-    pub first-soonest : (xs : List A) → T (rising xs) → first (checksOf xs) ≡ soonest xs
-    unfolding orNext
-    first-soonest [] t = refl
-    first-soonest (x ∷ xs) t =
-        let s = both (noneBelow (rankOf x) xs) (rising xs) t in
-        from-first (checkOf x) (checksOf xs)
-        ∙ ap (orNext (checkOf x)) (first-soonest xs (s .1))
-        ∙ in-turn (checkOf x) (soonest xs) (λ v w h k. omega (arith, own x v h, least (rankOf x) xs (s .0) w k))
+    pub first_soonest : (xs : List A) → T (rising xs) → first (checks_of xs) ≡ soonest xs
+    unfolding or_next_of
+    first_soonest [] t = refl
+    first_soonest (x ∷ xs) t =
+        let s = both (none_below (rank_of x) xs) (rising xs) t in
+        from_first (check_of x) (checks_of xs)
+        ∙ ap (or_next_of (check_of x)) (first_soonest xs s.1)
+        ∙ in_turn (check_of x) (soonest xs) (λ v w h k. omega (arith, own x v h, least (rank_of x) xs s.0 w k))

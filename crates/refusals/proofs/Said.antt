@@ -1,43 +1,43 @@
 -- What is said tells the check behind it: a refusal is the check's own, and what was given was accepted. Assumes nothing.
-use mathlib.Core.Path.{_≡_, refl, ap}
-use mathlib.Core.Logic.{_↔_}
+use mathlib.Core.Path.{◌≡◌, refl, ap}
+use mathlib.Core.Logic.{◌↔◌}
 use Prim.Native.Nat.{ℕ}
 use native.Mathlib.Omega.{arith}
-use Rattle·refusals·specs.specs.declared.Refusal.{Refusal}
-use Rattle·refusals·specs.specs.declared.Checked.{Checked}
-use Rattle·refusals·specs.specs.declared.Checked.the-variants.{Accepted, Refused}
-use Rattle·refusals·specs.specs.Refusals.{numberedIn}
-use Rattle·refusals·specs.specs.Said.{Said, accepted, refused, orRefused, saidOf}
+use Rattle.refusals.specs.declared.Refusal.{Refusal}
+use Rattle.refusals.specs.declared.Checked.{Checked}
+use Rattle.refusals.specs.declared.Checked.TheVariants.{Accepted, Refused}
+use Rattle.refusals.specs.Refusals.{numbered_in_of}
+use Rattle.refusals.specs.Said.{Said, accepted, refused, or_refused, said_of}
 
 -- a refusal is its number, its table and its place
-pub same-parts : (v w : Refusal) → v .number ≡ w .number → v .table ≡ w .table → v .place ≡ w .place → v ≡ w
-same-parts v w n t p = let e : _≡_ {A = Refusal} (numberedIn (v .number) (v .table) (v .place)) (numberedIn (w .number) (w .table) (w .place)) = rw (n, t, p) in e
+pub same_parts : (v w : Refusal) → v.number ≡ w.number → v.table ≡ w.table → v.place ≡ w.place → v ≡ w
+same_parts v w n t p = let e : ◌≡◌ {A = Refusal} (numbered_in_of v.number v.table v.place) (numbered_in_of w.number w.table w.place) = rw (n, t, p) in e
 
 module _ {A : Type 0} where
   pub apart : {x : A} {why : Refusal} → accepted x ≡ refused why → ⊥
-  apart {x} {why} h = let z : _≡_ {A = ℕ} 0 1 = cc in omega arith
+  apart {x} {why} h = let z : ◌≡◌ {A = ℕ} 0 1 = cc in omega arith
 
-  pub same-given : {x y : A} → _≡_ {A = Said A} (accepted x) (accepted y) → x ≡ y
-  same-given h = cc
+  pub same_given : {x y : A} → ◌≡◌ {A = Said A} (accepted x) (accepted y) → x ≡ y
+  same_given h = cc
 
-  pub same-refusal : {v w : Refusal} → _≡_ {A = Said A} (refused v) (refused w) → v ≡ w
-  same-refusal h = cc
+  pub same_refusal : {v w : Refusal} → ◌≡◌ {A = Said A} (refused v) (refused w) → v ≡ w
+  same_refusal h = cc
 
-  pub refused-said : (x : A) (check : Checked) (why : Refusal) → orRefused check (accepted x) ≡ refused why ↔ check ≡ Refused why
-  refused-said x check why = (told check, ap (λ (c : Checked). orRefused c (accepted x)))
+  pub refused_said : (x : A) (check : Checked) (why : Refusal) → or_refused check (accepted x) ≡ refused why ↔ check ≡ Refused why
+  refused_said x check why = (told check, ap (λ (c : Checked). or_refused c (accepted x)))
     where
-      told : (check : Checked) → orRefused check (accepted x) ≡ refused why → check ≡ Refused why
+      told : (check : Checked) → or_refused check (accepted x) ≡ refused why → check ≡ Refused why
       told Accepted h = absurd (apart h)
-      told (Refused w) h = ap Refused (same-refusal h)
+      told (Refused w) h = ap Refused (same_refusal h)
 
-  pub accepted-said : (x y : A) (check : Checked) → orRefused check (accepted x) ≡ accepted y → check ≡ Accepted
-  accepted-said x y Accepted h = refl
-  accepted-said x y (Refused w) h = let z : _≡_ {A = ℕ} 0 1 = cc in absurd (omega arith)
+  pub accepted_said : (x y : A) (check : Checked) → or_refused check (accepted x) ≡ accepted y → check ≡ Accepted
+  accepted_said x y Accepted h = refl
+  accepted_said x y (Refused w) h = let z : ◌≡◌ {A = ℕ} 0 1 = cc in absurd (omega arith)
 
 -- a call that gives nothing but its acceptance says what the check says, and no more
-pub done-said : (check : Checked) → saidOf check ≡ accepted tt ↔ check ≡ Accepted
-done-said check = (accepted-said tt tt check, ap saidOf)
+pub done_said : (check : Checked) → said_of check ≡ accepted tt ↔ check ≡ Accepted
+done_said check = (accepted_said tt tt check, ap said_of)
 
-pub said-once : (a b : Checked) → saidOf a ≡ saidOf b → a ≡ b
-said-once a Accepted h = accepted-said tt tt a h
-said-once a (Refused why) h = refused-said tt a why .0 h
+pub said_once : (a b : Checked) → said_of a ≡ said_of b → a ≡ b
+said_once a Accepted h = accepted_said tt tt a h
+said_once a (Refused why) h = (refused_said tt a why).0 h

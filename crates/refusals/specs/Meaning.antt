@@ -1,17 +1,12 @@
 -- What the checks of one table mean, and what several in order mean, in plain terms. Each claim is proved in proofs/Meant. Assumes nothing.
-use mathlib.Core.Path.{_≡_}
-use mathlib.Core.Bool.{false}
-use mathlib.Core.List.{List, [], _∷_}
-use mathlib.Core.Logic.{_⊎_, _↔_}
-use Prim.Native.Nat.{ℕ, _+_, _-_, _<_, _≤_}
-use lib.ListN.{getD}
-use lib.Ieee.{Float, nan}
-use lib.Ieee.Scale.{finite}
-use Rattle·refusals·specs.specs.declared.Refusal.{Refusal}
-use Rattle·refusals·specs.specs.declared.Checked.{Checked}
-use Rattle·refusals·specs.specs.declared.Checked.the-variants.{Accepted, Refused}
-use Rattle·refusals·specs.specs.Refusals.{refusedIn, first}
-use Rattle·refusals·specs.specs.Tables.{startsChecked, kindsChecked, idsChecked, sourcesChecked, numbersChecked}
+use Rattle.std.specs.Prelude.{◌≡◌, false, List, [], ◌∷◌, ◌⊎◌, ◌↔◌, ℕ, ◌+◌, ◌-◌, ◌<◌, ◌≤◌, get_or, Float}
+use Rattle.std.specs.Float.{nan}
+use Rattle.std.specs.Float.Ieee.Scale.{finite}
+use Rattle.refusals.specs.declared.Refusal.{Refusal}
+use Rattle.refusals.specs.declared.Checked.{Checked}
+use Rattle.refusals.specs.declared.Checked.TheVariants.{Accepted, Refused}
+use Rattle.refusals.specs.Refusals.{refused_in_of, first}
+use Rattle.refusals.specs.Tables.{starts_checked, kinds_checked, ids_checked, sources_checked, numbers_checked}
 
 -- "the lowest index": p is bad, and no place before it
 pub record FirstBad (Bad : ℕ → Type 0) (n p : ℕ) : Type 0 where
@@ -22,8 +17,8 @@ pub record FirstBad (Bad : ℕ → Type 0) (n p : ℕ) : Type 0 where
 -- "Given exactly when": a check of n places accepts exactly when none is bad, refuses exactly at the first bad one, and under no other number or table
 pub record ExactlyIn (check : Checked) (number table n : ℕ) (Bad : ℕ → Type 0) : Type 0 where
   pub accepted : (check ≡ Accepted) ↔ ((i : ℕ) → i < n → Bad i → ⊥)
-  pub refused : (p : ℕ) → (check ≡ refusedIn number table p) ↔ FirstBad Bad n p
-  pub only : (why : Refusal) → check ≡ Refused why → Refused why ≡ refusedIn number table (why .place)
+  pub refused : (p : ℕ) → (check ≡ refused_in_of number table p) ↔ FirstBad Bad n p
+  pub only : (why : Refusal) → check ≡ Refused why → Refused why ≡ refused_in_of number table why.place
 
 -- under a number that speaks of no table
 abbrev pub Exactly : (check : Checked) (number n : ℕ) (Bad : ℕ → Type 0) → Type 0
@@ -31,38 +26,38 @@ Exactly check number n Bad = ExactlyIn check number 0 n Bad
 
 -- a start that breaks the rule: the first that is not 0, one below the start before it, the last that is not the entry count
 pub data BadStart (starts : List ℕ) (n entries i : ℕ) : Type 0 where
-  not-zero : i ≡ 0 → (getD starts i 0 ≡ 0 → ⊥) → BadStart starts n entries i
-  falls : 0 < i → getD starts i 0 < getD starts (i - 1) 0 → BadStart starts n entries i
-  not-the-count : i ≡ n → (getD starts i 0 ≡ entries → ⊥) → BadStart starts n entries i
+  not_zero : i ≡ 0 → (get_or starts i 0 ≡ 0 → ⊥) → BadStart starts n entries i
+  falls : 0 < i → get_or starts i 0 < get_or starts (i - 1) 0 → BadStart starts n entries i
+  not_the_count : i ≡ n → (get_or starts i 0 ≡ entries → ⊥) → BadStart starts n entries i
 
 -- 3 | "a rule of starts is broken" | "index of the first bad start"
 abbrev pub StartsMean : Type 0
-StartsMean = (starts : List ℕ) (n entries : ℕ) → Exactly (startsChecked starts n entries) 3 (n + 1) (BadStart starts n entries)
+StartsMean = (starts : List ℕ) (n entries : ℕ) → Exactly (starts_checked starts n entries) 3 (n + 1) (BadStart starts n entries)
 
 -- 5 | "kind not 0 or 1" | "index in its table"
 abbrev pub KindsMean : Type 0
-KindsMean = (table : ℕ) (kinds : List ℕ) (n : ℕ) → ExactlyIn (kindsChecked table kinds n) 5 table n (λ i. (getD kinds i 0 ≡ 0 → ⊥) × (getD kinds i 0 ≡ 1 → ⊥))
+KindsMean = (table : ℕ) (kinds : List ℕ) (n : ℕ) → ExactlyIn (kinds_checked table kinds n) 5 table n (λ i. (get_or kinds i 0 ≡ 0 → ⊥) × (get_or kinds i 0 ≡ 1 → ⊥))
 
 -- 5 | "destination at or above L", "list id at or above F", "label at or above L" | "index in its table"
 abbrev pub IdsMean : Type 0
-IdsMean = (table : ℕ) (ids : List ℕ) (n bound : ℕ) → ExactlyIn (idsChecked table ids n bound) 5 table n (λ i. bound ≤ getD ids i 0)
+IdsMean = (table : ℕ) (ids : List ℕ) (n bound : ℕ) → ExactlyIn (ids_checked table ids n bound) 5 table n (λ i. bound ≤ get_or ids i 0)
 
 -- 5 | "Transition source at or above L" | "index in its table"
 abbrev pub SourcesMean : Type 0
-SourcesMean = (table : ℕ) (kinds sources : List ℕ) (n labels : ℕ) → ExactlyIn (sourcesChecked table kinds sources n labels) 5 table n (λ i. (getD kinds i 0 ≡ 1) × (labels ≤ getD sources i 0))
+SourcesMean = (table : ℕ) (kinds sources : List ℕ) (n labels : ℕ) → ExactlyIn (sources_checked table kinds sources n labels) 5 table n (λ i. (get_or kinds i 0 ≡ 1) × (labels ≤ get_or sources i 0))
 
 -- 6 | "a weight, value, instance weight or table entry not finite" | "index in its table"
 abbrev pub NumbersMean : Type 0
-NumbersMean = (table : ℕ) (numbers : List Float) (n : ℕ) → ExactlyIn (numbersChecked table numbers n) 6 table n (λ i. finite (getD numbers i nan) ≡ false)
+NumbersMean = (table : ℕ) (numbers : List Float) (n : ℕ) → ExactlyIn (numbers_checked table numbers n) 6 table n (λ i. finite (get_or numbers i nan) ≡ false)
 
 -- "first 0, never falling, last equal to the entry count"
 pub record Starts (starts : List ℕ) (n entries : ℕ) : Type 0 where
-  pub begins : getD starts 0 0 ≡ 0
-  pub rises : (i : ℕ) → i < n → getD starts i 0 ≤ getD starts (i + 1) 0
-  pub ends : getD starts n 0 ≡ entries
+  pub begins : get_or starts 0 0 ≡ 0
+  pub rises : (i : ℕ) → i < n → get_or starts i 0 ≤ get_or starts (i + 1) 0
+  pub ends : get_or starts n 0 ≡ entries
 
 abbrev pub StartsKept : Type 0
-StartsKept = (starts : List ℕ) (n entries : ℕ) → (startsChecked starts n entries ≡ Accepted) ↔ Starts starts n entries
+StartsKept = (starts : List ℕ) (n entries : ℕ) → (starts_checked starts n entries ≡ Accepted) ↔ Starts starts n entries
 
 -- every one of the checks accepts
 abbrev pub AllAccepted : List Checked → Type 0

@@ -1,17 +1,17 @@
 -- What a call answers, in document 01's terms: what an accepted call gives, or the refusal, whole. Assumes nothing.
-use Rattle·refusals·specs.specs.declared.Refusal.{Refusal}
-use Rattle·refusals·specs.specs.declared.Checked.{Checked}
-use Rattle·refusals·specs.specs.declared.Checked.the-variants.{Accepted, Refused}
+use Rattle.refusals.specs.declared.Refusal.{Refusal}
+use Rattle.refusals.specs.declared.Checked.{Checked}
+use Rattle.refusals.specs.declared.Checked.TheVariants.{Accepted, Refused}
 
 pub data Said (A : Type 0) : Type 0 where
   accepted : A → Said A
   refused : Refusal → Said A
 
 -- the refusal where a check refuses, or else what comes next
-abbrev pub orRefused : {A : Type 0} → Checked → Said A → Said A
-orRefused Accepted next = next
-orRefused (Refused why) next = refused why
+abbrev pub or_refused : {A : Type 0} → Checked → Said A → Said A
+or_refused Accepted next = next
+or_refused (Refused why) next = refused why
 
 -- of a call that gives nothing but its acceptance
-abbrev pub saidOf : Checked → Said Unit
-saidOf check = orRefused check (accepted tt)
+abbrev pub said_of : Checked → Said Unit
+said_of check = or_refused check (accepted tt)

@@ -1,14 +1,9 @@
 -- The test of one place in each table, and the check of the table. Assumes nothing.
-use mathlib.Core.Path.{_≡_}
-use mathlib.Core.Bool.{Bool, false, not, _&&_, _||_}
-use mathlib.Core.List.{List}
-use Prim.Native.Nat.{ℕ, zero, suc, _+_, _<_}
-use lib.ListN.{getD}
-use lib.Dec.{eqb, ltb, leb}
-use lib.Ieee.{Float, nan}
-use lib.Ieee.Scale.{finite}
-use Rattle·refusals·specs.specs.declared.Checked.{Checked}
-use Rattle·refusals·specs.specs.Refusals.{lowest, lowestIn}
+use Rattle.std.specs.Prelude.{◌≡◌, Bool, false, not, ◌&&◌, ◌||◌, List, ℕ, zero, suc, ◌+◌, ◌<◌, get_or, eqb, ltb, leb, Float}
+use Rattle.std.specs.Float.{nan}
+use Rattle.std.specs.Float.Ieee.Scale.{finite}
+use Rattle.refusals.specs.declared.Checked.{Checked}
+use Rattle.refusals.specs.Refusals.{lowest, lowest_in}
 
 -- n is not one of low to high
 abbrev pub outside : ℕ → ℕ → ℕ → Bool
@@ -19,51 +14,51 @@ abbrev pub short : ℕ → ℕ → Bool
 short have need = ltb have need
 
 -- the start before start i; 0 before the first
-abbrev pub startBefore : List ℕ → ℕ → ℕ
-startBefore starts zero = 0
-startBefore starts (suc i) = getD starts i 0
+abbrev pub start_before : List ℕ → ℕ → ℕ
+start_before starts zero = 0
+start_before starts (suc i) = get_or starts i 0
 
 -- "first 0, never falling, last equal to the entry count": start i breaks this
-abbrev pub badStart : List ℕ → ℕ → ℕ → ℕ → Bool
-badStart starts n entries i =
-    eqb i 0 && not (eqb (getD starts i 0) 0)
-    || ltb (getD starts i 0) (startBefore starts i)
-    || eqb i n && not (eqb (getD starts i 0) entries)
+abbrev pub bad_start : List ℕ → ℕ → ℕ → ℕ → Bool
+bad_start starts n entries i =
+    eqb i 0 && not (eqb (get_or starts i 0) 0)
+    || ltb (get_or starts i 0) (start_before starts i)
+    || eqb i n && not (eqb (get_or starts i 0) entries)
 
 -- "kind not 0 or 1"
-abbrev pub badKind : List ℕ → ℕ → Bool
-badKind kinds i = ltb 1 (getD kinds i 0)
+abbrev pub bad_kind : List ℕ → ℕ → Bool
+bad_kind kinds i = ltb 1 (get_or kinds i 0)
 
 -- "at or above" a bound: a destination or label against L, a list id against F
-abbrev pub notBelow : List ℕ → ℕ → ℕ → Bool
-notBelow ids bound i = leb bound (getD ids i 0)
+abbrev pub not_below : List ℕ → ℕ → ℕ → Bool
+not_below ids bound i = leb bound (get_or ids i 0)
 
 -- "Transition source at or above L"; "a State feature's source is not read"
-abbrev pub badSource : List ℕ → List ℕ → ℕ → ℕ → Bool
-badSource kinds sources labels i = eqb (getD kinds i 0) 1 && notBelow sources labels i
+abbrev pub bad_source : List ℕ → List ℕ → ℕ → ℕ → Bool
+bad_source kinds sources labels i = eqb (get_or kinds i 0) 1 && not_below sources labels i
 
 -- "not finite"
-abbrev pub notFinite : List Float → ℕ → Bool
-notFinite numbers i = not (finite (getD numbers i nan))
+abbrev pub not_finite : List Float → ℕ → Bool
+not_finite numbers i = not (finite (get_or numbers i nan))
 
 -- none of the first n places is bad
 abbrev pub NoneBad : (ℕ → Bool) → ℕ → Type 0
 NoneBad test n = (i : ℕ) → i < n → test i ≡ false
 
 -- 3, "index of the first bad start": "for n lists, n+1 starts"
-abbrev pub startsChecked : List ℕ → ℕ → ℕ → Checked
-startsChecked starts n entries = lowest 3 (badStart starts n entries) (n + 1)
+abbrev pub starts_checked : List ℕ → ℕ → ℕ → Checked
+starts_checked starts n entries = lowest 3 (bad_start starts n entries) (n + 1)
 
 -- 5, "index in its table", over the first n; "For 5 and 6 add the table's position in document 01's order"
-abbrev pub kindsChecked : (table : ℕ) → List ℕ → ℕ → Checked
-kindsChecked table kinds n = lowestIn 5 table (badKind kinds) n
+abbrev pub kinds_checked : (table : ℕ) → List ℕ → ℕ → Checked
+kinds_checked table kinds n = lowest_in 5 table (bad_kind kinds) n
 
-abbrev pub idsChecked : (table : ℕ) → List ℕ → ℕ → ℕ → Checked
-idsChecked table ids n bound = lowestIn 5 table (notBelow ids bound) n
+abbrev pub ids_checked : (table : ℕ) → List ℕ → ℕ → ℕ → Checked
+ids_checked table ids n bound = lowest_in 5 table (not_below ids bound) n
 
-abbrev pub sourcesChecked : (table : ℕ) → List ℕ → List ℕ → ℕ → ℕ → Checked
-sourcesChecked table kinds sources n labels = lowestIn 5 table (badSource kinds sources labels) n
+abbrev pub sources_checked : (table : ℕ) → List ℕ → List ℕ → ℕ → ℕ → Checked
+sources_checked table kinds sources n labels = lowest_in 5 table (bad_source kinds sources labels) n
 
 -- 6, "index in its table", over the first n
-abbrev pub numbersChecked : (table : ℕ) → List Float → ℕ → Checked
-numbersChecked table numbers n = lowestIn 6 table (notFinite numbers) n
+abbrev pub numbers_checked : (table : ℕ) → List Float → ℕ → Checked
+numbers_checked table numbers n = lowest_in 6 table (not_finite numbers) n

@@ -1,8 +1,7 @@
 // Refusals: the numbers, tables and places of document 01's list, and which of two comes first.
-ghost use mathlib.Core.Path.{_≡_};
-ghost use Prim.Native.Nat.{_+_, _*_, _≤_};
-ghost use Rattle·refusals·specs.specs.Refusals.{numbered as Refusals·numbered, numberedIn, refusedAt, refusedIn, refuse, refuseIn, orNext, below100, rankAt, goesBefore, sooner as Refusals·sooner, toCheck};
-ghost use Rattle·refusals·specs.specs.Tables.{outside, short};
+ghost use Rattle.std.specs.Prelude.{◌≡◌, ◌+◌, ◌*◌, ◌≤◌};
+ghost use Rattle.refusals.specs.Refusals.{numbered as Refusals·numbered, numbered_in_of, refused_at, refused_in_of, refuse, refuse_in_of, or_next_of, below100, rank_at, goes_before_of, sooner as Refusals·sooner, to_check_of};
+ghost use Rattle.refusals.specs.Tables.{outside, short};
 
 // The tables in document 01's order, from 0: 5 and 6 tell which it was. Words have starts only, so their position, 6, is never told.
 pub const KINDS: u32 = 0;
@@ -27,12 +26,14 @@ pub const TRANSITIONS: u32 = 10;
 
 pub const STATES: u32 = 11;
 
+#[derive(Drop)]
 pub struct Refusal {
     pub number: u32,
     pub table: u32,
     pub place: u64,
 }
 
+#[derive(Drop)]
 pub enum Checked {
     Accepted,
     Refused(Refusal),
@@ -40,7 +41,7 @@ pub enum Checked {
 
 // The refusal with this number, table and place: nothing else makes one.
 pub fn numbered_in(number: u32, table: u32, place: u64) -> Refusal
-    ensures { λ r. ⌜ r ≡ numberedIn number table place ⌝ }
+    ensures { result ≡ numbered_in_of number table place }
 {
     Refusal {
         number: number,
@@ -51,27 +52,27 @@ pub fn numbered_in(number: u32, table: u32, place: u64) -> Refusal
 
 // One whose number speaks of no table.
 pub fn numbered(number: u32, place: u64) -> Refusal
-    ensures { λ r. ⌜ r ≡ Refusals·numbered number place ⌝ }
+    ensures { result ≡ Refusals·numbered number place }
 {
     numbered_in(number, 0, place)
 }
 
 // A check that refuses so.
 pub fn refused_in(number: u32, table: u32, place: usize) -> Checked
-    ensures { λ r. ⌜ r ≡ refusedIn number table place ⌝ }
+    ensures { result ≡ refused_in_of number table place }
 {
     Checked::Refused(numbered_in(number, table, place as u64))
 }
 
 pub fn refused(number: u32, place: usize) -> Checked
-    ensures { λ r. ⌜ r ≡ refusedAt number place ⌝ }
+    ensures { result ≡ refused_at number place }
 {
     refused_in(number, 0, place)
 }
 
 // The answer so far where that refuses, or else the next.
 pub fn or_next(answer: Checked, next: Checked) -> Checked
-    ensures { λ r. ⌜ r ≡ orNext answer next ⌝ }
+    ensures { result ≡ or_next_of answer next }
 {
     match answer {
         Checked::Accepted => next,
@@ -81,7 +82,7 @@ pub fn or_next(answer: Checked, next: Checked) -> Checked
 
 // The answer so far where that refuses, or else a refusal where the test holds.
 pub fn refuse_in(answer: Checked, number: u32, table: u32, place: usize, test: bool) -> Checked
-    ensures { λ r. ⌜ r ≡ orNext answer (refuseIn number table place test) ⌝ }
+    ensures { result ≡ or_next_of answer (refuse_in_of number table place test) }
 {
     if test {
         or_next(answer, refused_in(number, table, place))
@@ -91,36 +92,36 @@ pub fn refuse_in(answer: Checked, number: u32, table: u32, place: usize, test: b
 }
 
 pub fn refuse_if(answer: Checked, number: u32, place: usize, test: bool) -> Checked
-    ensures { λ r. ⌜ r ≡ orNext answer (refuse number place test) ⌝ }
+    ensures { result ≡ or_next_of answer (refuse number place test) }
 {
     refuse_in(answer, number, 0, place, test)
 }
 
 // A position among counts or buffers, of which there are never a hundred: so no rank overflows.
 fn below_100(place: u64) -> u64
-    ensures { λ r. ⌜ r ≤ 99 ⌝ }
-    ensures { λ r. ⌜ r ≡ below100 place ⌝ }
+    ensures upper_bound { result ≤ 99 }
+    ensures value { result ≡ below100 place }
 {
     if place < 100 { place } else { 99 }
 }
 
 // The rank of a count or buffer by its position.
 fn by_position(base: u32, place: u64) -> u64
-    ensures { λ r. ⌜ r ≡ base + below100 place ⌝ }
+    ensures { result ≡ base + below100 place }
 {
     base as u64 + below_100(place)
 }
 
 // The rank of any other refusal.
 fn by_number(number: u32) -> u64
-    ensures { λ r. ⌜ r ≡ 1000 * number ⌝ }
+    ensures { result ≡ 1000 * number }
 {
     1000 * number as u64
 }
 
 // How far back a refusal stands: by its number, but 12 directly after 2.
 fn rank_at(number: u32, place: u64) -> u64
-    ensures { λ r. ⌜ r ≡ rankAt number place ⌝ }
+    ensures { result ≡ rank_at number place }
 {
     if number == 2 {
         return by_position(2000, place);
@@ -133,14 +134,14 @@ fn rank_at(number: u32, place: u64) -> u64
 
 // Whether a refusal goes before another: only one of lower rank does.
 fn goes_before(this: Refusal, that: Refusal) -> bool
-    ensures { λ r. ⌜ r ≡ goesBefore this that ⌝ }
+    ensures { result ≡ goes_before_of this that }
 {
     rank_at(this.number, this.place) < rank_at(that.number, that.place)
 }
 
 // Of two answers the one of lower rank, of equal ranks the first: so checks of separate things are made one.
 pub fn sooner(answer: Checked, next: Checked) -> Checked
-    ensures { λ r. ⌜ r ≡ Refusals·sooner answer next ⌝ }
+    ensures { result ≡ Refusals·sooner answer next }
 {
     if let Checked::Refused(why) = answer {
         if let Checked::Refused(other) = next {
@@ -155,22 +156,22 @@ pub fn sooner(answer: Checked, next: Checked) -> Checked
 
 // A number outside its bound.
 pub fn is_outside(low: u32, high: u32, n: u32) -> bool
-    ensures { λ r. ⌜ r ≡ outside low high n ⌝ }
+    ensures { result ≡ outside low high n }
 {
     (n < low) | (high < n)
 }
 
 // A lent buffer too short.
 pub fn is_short(have: usize, need: usize) -> bool
-    ensures { λ r. ⌜ r ≡ short have need ⌝ }
+    ensures { result ≡ short have need }
 {
     have < need
 }
 
 // How many of n places are still to be looked at: none once the answer refuses.
 pub fn to_check(answer: Checked, n: usize) -> usize
-    ensures { λ r. ⌜ r ≤ n ⌝ }
-    ensures { λ r. ⌜ r ≡ toCheck answer n ⌝ }
+    ensures upper_bound { result ≤ n }
+    ensures value { result ≡ to_check_of answer n }
 {
     match answer {
         Checked::Accepted => n,

@@ -1,5 +1,6 @@
 // The operations, each over one call of the crates below.
-ghost use Prim.Native.Nat.{_<_, _≤_};
+ghost use Rattle.std.specs.Prelude.{◌<◌, ◌≤◌};
+
 use refusals::Checked;
 
 pub(crate) fn answer(operation: u64, a: u64, b: u64, c: u64, table: [u64; 12]) {
@@ -89,6 +90,7 @@ fn last_of(seed: u64, draws: u64) -> u64 {
     number
 }
 
+#[derive(Drop)]
 struct Dealt {
     state: u64,
     order: [u32; 12],
@@ -107,7 +109,7 @@ fn order(a: u64, b: u64, c: u64) {
 
 // The order of n numbers after so many epochs, and the generator's state.
 fn deal(seed: u64, n: usize, epochs: u64) -> Dealt
-    requires { ⌜ (0 < n) × (n ≤ 12) ⌝ }
+    requires { (0 < n) × (n ≤ 12) }
 {
     let mut order = [0u32, 1, 2, 3, 4, 5, 6, 7, 8, 9, 10, 11];
     let mut state = seed;

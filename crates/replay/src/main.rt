@@ -4,7 +4,8 @@
 mod answers;
 mod text;
 
-ghost use Prim.Native.Nat.{_<_};
+ghost use Rattle.std.specs.Prelude.{◌<◌};
+
 use libc::STDIN_FILENO;
 
 // The word at a place of a record.
@@ -19,7 +20,7 @@ fn word_at(record: &[u8; 128], place: usize) -> u64 {
 }
 
 fn byte_at(record: &[u8; 128], place: usize, i: usize) -> u64
-    ensures { λ r. ⌜ r < 256 ⌝ }
+    ensures { result < 256 }
 {
     if place < 16 {
         if i < 8 {
@@ -30,7 +31,7 @@ fn byte_at(record: &[u8; 128], place: usize, i: usize) -> u64
 }
 
 fn wide(b: u8) -> u64
-    ensures { λ r. ⌜ r < 256 ⌝ }
+    ensures { result < 256 }
 {
     b as u64
 }

@@ -1,6 +1,6 @@
 // Square roots of counts: the passive-aggressive trainer takes the root of the number of wrong labels here.
-ghost use Prim.Native.Nat.{_≤_};
-ghost use Rattle·roots·specs.specs.Root.{NearestRoot};
+ghost use Rattle.std.specs.Prelude.{◌≤◌};
+ghost use Rattle.roots.specs.Root.{NearestRoot};
 
 // At n the nearest binary64 to the root of n. A line has at most 128 words, and so at most 128 wrong labels.
 const ROOTS: [f64; 129] = [
@@ -137,8 +137,8 @@ const ROOTS: [f64; 129] = [
 
 // The nearest binary64 to the square root of a count.
 pub fn root(n: u32) -> f64
-    requires { ⌜ n ≤ 128 ⌝ }
-    ensures { λ r. ⌜ NearestRoot n r ⌝ }
+    requires { n ≤ 128 }
+    ensures { NearestRoot n result }
 {
     ROOTS[n as usize]
 }

@@ -1,49 +1,41 @@
 -- A scale gathered byte by byte is the scale's value. Assumes nothing.
-use mathlib.Core.Path.{_≡_, refl, sym, ap, subst, _∙_}
-use mathlib.Core.Bool.{Bool, true, false, cond}
-use mathlib.Core.List.{List, [], _∷_, _++_, append-nil}
-use Prim.Native.Nat.{ℕ, zero, suc, _+_, _-_, _*_, _^_, _≤_, _<_}
-use native.Mathlib.Nat.{pow-suc, le-trans, pow-zero}
-use native.Mathlib.Numerals.{add-one}
-use native.Mathlib.Omega.{arith}
-use lib.Dec.{eqb}
-use lib.ListN.{length, drop, getD, drop-of-length-le}
-use lib.Seq.{drop-cons}
+use Rattle.std.proofs.Common.{◌≡◌, ℕ, zero, suc, ◌+◌, ◌-◌, ◌*◌, ◌^◌, ◌<◌, ◌≤◌, Bool, true, false, cond, eqb, List, [], ◌∷◌, ◌++◌, length, get_or, drop, sym, refl, ap, ◌∙◌, subst, append-nil, le_trans, pow-suc, add-one, arith, drop_of_length-le, drop-cons, ne_eqb, eqb-true}
+use native.Mathlib.Nat.{pow-zero}
 use lib.Ieee.{Float, binary64, round}
-use borrow.Author.Tests.{eqb-true, eqb-false, ne-eqb}
-use Rattle·layout.specs.Layout.{Bytes, Digits, Part, none, point as pointed, partText, fraction, minusText, Scale}
-use Rattle·scales·specs.specs.declared.Amount.{Amount}
-use Rattle·scales·specs.specs.Value.{digitsWorth, scaleValue, valueOf, taken, Ready}
-use Rattle·scales·proofs.proofs.Laws.{tens}
-use Rattle·scales·proofs.proofs.Meant.{value-meant}
+use borrow.Author.Tests.{eqb-false}
+use Rattle.layout.specs.Layout.{Bytes, Digits, Part, none, point as pointed, part_text, fraction, minus_text, Scale}
+use Rattle.scales.specs.declared.Amount.{Amount}
+use Rattle.scales.specs.Value.{digits_worth, scale_value, value_of, taken, Ready}
+use Rattle.scales.proofs.Laws.{tens}
+use Rattle.scales.proofs.Meant.{value_meant}
 
 abbrev pub gathered : Amount → Bytes → Amount
 gathered a [] = a
 gathered a (b ∷ s) = gathered (taken a b) s
 
 pub record Within (a : Amount) : Type 0 where
-  pub amount : a .amount < 10 ^ (a .digits)
-  pub behind : a .behind ≤ a .digits
-  pub few : a .digits ≤ 15
+  pub amount : a.amount < 10 ^ a.digits
+  pub behind : a.behind ≤ a.digits
+  pub few : a.digits ≤ 15
 
 abbrev pub Goes : Amount → Bytes → Type 0
 Goes a [] = Within a
-Goes a (b ∷ s) = Within a × ((b ≡ 45 → ⊥) → (b ≡ 46 → ⊥) → (48 ≤ b) × (b ≤ 57) × (a .digits < 15)) × Goes (taken a b) s
+Goes a (b ∷ s) = Within a × ((b ≡ 45 → ⊥) → (b ≡ 46 → ⊥) → (48 ≤ b) × (b ≤ 57) × (a.digits < 15)) × Goes (taken a b) s
 
 pub within : (a : Amount) (s : Bytes) → Goes a s → Within a
 within a [] g = g
-within a (b ∷ s) g = g .0
+within a (b ∷ s) g = g.0
 
-abbrev digitTaken : Amount → ℕ → Amount
-digitTaken a b = record { minus = a .minus; point = a .point; digits = a .digits + 1; amount = a .amount * 10 + (b - 48); behind = cond (a .point) (a .behind + 1) (a .behind) }
+abbrev digit_taken : Amount → ℕ → Amount
+digit_taken a b = record { minus = a.minus; point = a.point; digits = a.digits + 1; amount = a.amount * 10 + (b - 48); behind = cond a.point (a.behind + 1) a.behind }
 
-taken-digit : (a : Amount) (b : ℕ) → 48 ≤ b → taken a b ≡ digitTaken a b
-taken-digit a b h = rw (ne-eqb b 45 (λ e. omega (arith, h, e)), ne-eqb b 46 (λ e. omega (arith, h, e))) refl
+taken_digit : (a : Amount) (b : ℕ) → 48 ≤ b → taken a b ≡ digit_taken a b
+taken_digit a b h = rw (ne_eqb b 45 (λ e. omega (arith, h, e)), ne_eqb b 46 (λ e. omega (arith, h, e))) refl
 
-within-digit : (a : Amount) (b : ℕ) → Within a → 48 ≤ b → b ≤ 57 → a .digits < 15 → Within (digitTaken a b)
-within-digit a b w l h d = record {
-  amount = grows (a .amount) (a .digits) b (w .amount) l h;
-  behind = up (a .point) (a .behind) (a .digits) (w .behind);
+within_digit : (a : Amount) (b : ℕ) → Within a → 48 ≤ b → b ≤ 57 → a.digits < 15 → Within (digit_taken a b)
+within_digit a b w l h d = record {
+  amount = grows a.amount a.digits b w.amount l h;
+  behind = up a.point a.behind a.digits w.behind;
   few = omega (arith, d);
 }
   where
@@ -66,15 +58,15 @@ record Run (a : Amount) (ds s : Bytes) : Type 0 where
   ends : gathered a (ds ++ s) ≡ gathered last s
   goes : Goes last s → Goes a (ds ++ s)
   within : Within last
-  minus : last .minus ≡ a .minus
-  point : last .point ≡ a .point
-  digits : last .digits ≡ a .digits + length ds
-  amount : last .amount ≡ digitsWorth (a .amount) ds
-  behind : last .behind ≡ cond (a .point) (a .behind + length ds) (a .behind)
+  minus : last.minus ≡ a.minus
+  point : last.point ≡ a.point
+  digits : last.digits ≡ a.digits + length ds
+  amount : last.amount ≡ digits_worth a.amount ds
+  behind : last.behind ≡ cond a.point (a.behind + length ds) a.behind
 
-digit-run : (ds s : Bytes) (a : Amount) → Digits ds → Within a → a .digits + length ds ≤ 15 → Run a ds s
-unfolding digitsWorth
-digit-run [] s a g w f = record {
+digit_run : (ds s : Bytes) (a : Amount) → Digits ds → Within a → a.digits + length ds ≤ 15 → Run a ds s
+unfolding digits_worth
+digit_run [] s a g w f = record {
   last = a;
   ends = refl;
   goes = λ h. h;
@@ -83,25 +75,25 @@ digit-run [] s a g w f = record {
   point = refl;
   digits = omega arith;
   amount = refl;
-  behind = same (a .point) (a .behind);
+  behind = same a.point a.behind;
 }
   where
     same : (x : Bool) (k : ℕ) → k ≡ cond x (k + 0) k
     same true k = omega arith
     same false k = refl
-digit-run (b ∷ ds) s a g w f =
-    let r = digit-run ds s (digitTaken a b) (g .2) (within-digit a b w (g .0) (g .1) (omega (arith, f))) (omega (arith, f)) in
-    let e = taken-digit a b (g .0) in
+digit_run (b ∷ ds) s a g w f =
+    let r = digit_run ds s (digit_taken a b) g.2 (within_digit a b w g.0 g.1 (omega (arith, f))) (omega (arith, f)) in
+    let e = taken_digit a b g.0 in
     record {
-      last = r .last;
-      ends = ap (λ (z : Amount). gathered z (ds ++ s)) e ∙ r .ends;
-      goes = λ h. (w, (λ _ _. (g .0, g .1, omega (arith, f))), subst (λ (z : Amount). Goes z (ds ++ s)) (sym e) (r .goes h));
-      within = r .within;
-      minus = r .minus;
-      point = r .point;
-      digits = let d = r .digits in omega (arith, d);
-      amount = r .amount;
-      behind = r .behind ∙ onward (a .point) (a .behind) (length ds);
+      last = r.last;
+      ends = ap (λ (z : Amount). gathered z (ds ++ s)) e ∙ r.ends;
+      goes = λ h. (w, (λ _ _. (g.0, g.1, omega (arith, f))), subst (λ (z : Amount). Goes z (ds ++ s)) (sym e) (r.goes h));
+      within = r.within;
+      minus = r.minus;
+      point = r.point;
+      digits = let d = r.digits in omega (arith, d);
+      amount = r.amount;
+      behind = r.behind ∙ onward a.point a.behind (length ds);
     }
   where
     onward : (x : Bool) (k n : ℕ) → cond x (cond x (k + 1) k + n) (cond x (k + 1) k) ≡ cond x (k + suc n) k
@@ -114,54 +106,54 @@ start = record { minus = false; point = false; digits = 0; amount = 0; behind = 
 
 pub record Ends (minus : Bool) (whole : Bytes) (part : Part) (a : Amount) (s : Bytes) : Type 0 where
   pub goes : Goes a s
-  pub value : round binary64 (gathered a s .minus) (gathered a s .amount) (10 ^ (gathered a s .behind)) ≡ round binary64 minus (digitsWorth 0 (whole ++ fraction part)) (10 ^ length (fraction part))
+  pub value : round binary64 (gathered a s).minus (gathered a s).amount (10 ^ (gathered a s).behind) ≡ round binary64 minus (digits_worth 0 (whole ++ fraction part)) (10 ^ length (fraction part))
 
-worth-append : (m : ℕ) (s t : Bytes) → digitsWorth m (s ++ t) ≡ digitsWorth (digitsWorth m s) t
-unfolding digitsWorth
-worth-append m [] t = refl
-worth-append m (b ∷ s) t = worth-append (m * 10 + (b - 48)) s t
+worth_append : (m : ℕ) (s t : Bytes) → digits_worth m (s ++ t) ≡ digits_worth (digits_worth m s) t
+unfolding digits_worth
+worth_append m [] t = refl
+worth_append m (b ∷ s) t = worth_append (m * 10 + (b - 48)) s t
 
 abbrev begun : Bool → Amount
 begun m = record { minus = m; point = false; digits = 0; amount = 0; behind = 0 }
 
-within-begun : (m : Bool) → Within (begun m)
-within-begun m = record { amount = omega arith; behind = omega arith; few = omega arith }
+within_begun : (m : Bool) → Within (begun m)
+within_begun m = record { amount = omega arith; behind = omega arith; few = omega arith }
 
-body : (m : Bool) (whole : Bytes) (part : Part) → Digits whole → Digits (fraction part) → length whole + length (fraction part) ≤ 15 → Ends m whole part (begun m) (whole ++ partText part)
+body : (m : Bool) (whole : Bytes) (part : Part) → Digits whole → Digits (fraction part) → length whole + length (fraction part) ≤ 15 → Ends m whole part (begun m) (whole ++ part_text part)
 body m whole none g h few =
-    let r = digit-run whole [] (begun m) g (within-begun m) (omega (arith, few)) in
+    let r = digit_run whole [] (begun m) g (within_begun m) (omega (arith, few)) in
     record {
-      goes = r .goes (r .within);
+      goes = r.goes r.within;
       value =
-          ap (λ (z : Amount). round binary64 (z .minus) (z .amount) (10 ^ (z .behind))) (r .ends)
-          ∙ ap (λ (z : Bool). round binary64 z (r .last .amount) (10 ^ (r .last .behind))) (r .minus)
-          ∙ ap (λ (z : ℕ). round binary64 m z (10 ^ (r .last .behind))) (r .amount ∙ ap (digitsWorth 0) (sym (append-nil whole)))
-          ∙ ap (λ (z : ℕ). round binary64 m (digitsWorth 0 (whole ++ [])) (10 ^ z)) (r .behind);
+          ap (λ (z : Amount). round binary64 z.minus z.amount (10 ^ z.behind)) r.ends
+          ∙ ap (λ (z : Bool). round binary64 z r.last.amount (10 ^ r.last.behind)) r.minus
+          ∙ ap (λ (z : ℕ). round binary64 m z (10 ^ r.last.behind)) (r.amount ∙ ap (digits_worth 0) (sym (append-nil whole)))
+          ∙ ap (λ (z : ℕ). round binary64 m (digits_worth 0 (whole ++ [])) (10 ^ z)) r.behind;
     }
 body m whole (pointed ds) g h few =
-    let r = digit-run whole (46 ∷ ds) (begun m) g (within-begun m) (omega (arith, few)) in
-    let w = r .within in
-    let d = r .digits in
-    let p : Amount = record { minus = r .last .minus; point = true; digits = r .last .digits; amount = r .last .amount; behind = r .last .behind } in
-    let q = digit-run ds [] p h (record { amount = w .amount; behind = w .behind; few = w .few }) (omega (arith, d, few)) in
+    let r = digit_run whole (46 ∷ ds) (begun m) g (within_begun m) (omega (arith, few)) in
+    let w = r.within in
+    let d = r.digits in
+    let p : Amount = record { minus = r.last.minus; point = true; digits = r.last.digits; amount = r.last.amount; behind = r.last.behind } in
+    let q = digit_run ds [] p h (record { amount = w.amount; behind = w.behind; few = w.few }) (omega (arith, d, few)) in
     let ew : Bytes = ds ++ [] in
     record {
-      goes = r .goes (w, (λ _ no46. absurd (no46 refl)), subst (Goes p) (append-nil ds) (q .goes (q .within)));
+      goes = r.goes (w, (λ _ no46. absurd (no46 refl)), subst (Goes p) (append-nil ds) (q.goes q.within));
       value =
-          ap (λ (z : Amount). round binary64 (z .minus) (z .amount) (10 ^ (z .behind))) (r .ends ∙ ap (gathered p) (sym (append-nil ds)) ∙ q .ends)
-          ∙ ap (λ (z : Bool). round binary64 z (q .last .amount) (10 ^ (q .last .behind))) (q .minus ∙ r .minus)
-          ∙ ap (λ (z : ℕ). round binary64 m z (10 ^ (q .last .behind))) (q .amount ∙ ap (λ (z : ℕ). digitsWorth z ds) (r .amount) ∙ sym (worth-append 0 whole ds))
-          ∙ ap (λ (z : ℕ). round binary64 m (digitsWorth 0 (whole ++ ds)) (10 ^ z)) (q .behind ∙ ap (λ (z : ℕ). z + length ds) (r .behind) ∙ once (length ds));
+          ap (λ (z : Amount). round binary64 z.minus z.amount (10 ^ z.behind)) (r.ends ∙ ap (gathered p) (sym (append-nil ds)) ∙ q.ends)
+          ∙ ap (λ (z : Bool). round binary64 z q.last.amount (10 ^ q.last.behind)) (q.minus ∙ r.minus)
+          ∙ ap (λ (z : ℕ). round binary64 m z (10 ^ q.last.behind)) (q.amount ∙ ap (λ (z : ℕ). digits_worth z ds) r.amount ∙ sym (worth_append 0 whole ds))
+          ∙ ap (λ (z : ℕ). round binary64 m (digits_worth 0 (whole ++ ds)) (10 ^ z)) (q.behind ∙ ap (λ (z : ℕ). z + length ds) r.behind ∙ once (length ds));
     }
   where
     once : (x : ℕ) → 0 + x ≡ x
     once x = omega arith
 
-pub scale-ends : (text : Bytes) (h : Scale text) → Ends (h .minus) (h .whole) (h .part) start text
-scale-ends text h = subst (Ends (h .minus) (h .whole) (h .part) start) (h .made) (go (h .minus) (body (h .minus) (h .whole) (h .part) (h .wholeDigits) (h .partDigits) (h .few)))
+pub scale_ends : (text : Bytes) (h : Scale text) → Ends h.minus h.whole h.part start text
+scale_ends text h = subst (Ends h.minus h.whole h.part start) h.made (go h.minus (body h.minus h.whole h.part h.whole_digits h.part_digits h.few))
   where
-    go : (m : Bool) → Ends m (h .whole) (h .part) (begun m) (h .whole ++ partText (h .part)) → Ends m (h .whole) (h .part) start (minusText m ++ (h .whole ++ partText (h .part)))
-    go true e = record { goes = (within-begun false, (λ no45 _. absurd (no45 refl)), e .goes); value = e .value }
+    go : (m : Bool) → Ends m h.whole h.part (begun m) (h.whole ++ part_text h.part) → Ends m h.whole h.part start (minus_text m ++ (h.whole ++ part_text h.part))
+    go true e = record { goes = (within_begun false, (λ no45 _. absurd (no45 refl)), e.goes); value = e.value }
     go false e = e
 
 -- the loop
@@ -170,47 +162,47 @@ pub record Gathering (text : Bytes) (a : Amount) (i : ℕ) : Type 0 where
   pub goes : Goes a (drop i text)
   pub same : gathered a (drop i text) ≡ gathered start text
 
-here : (text : Bytes) (i : ℕ) → i < length text → drop i text ≡ getD text i 0 ∷ drop (i + 1) text
-here text i h = drop-cons text i 0 h ∙ ap (λ (k : ℕ). getD text i 0 ∷ drop k text) (sym (add-one i))
+here : (text : Bytes) (i : ℕ) → i < length text → drop i text ≡ get_or text i 0 ∷ drop (i + 1) text
+here text i h = drop-cons text i 0 h ∙ ap (λ (k : ℕ). get_or text i 0 ∷ drop k text) (sym (add-one i))
 
 pub begins : (text : Bytes) → Scale text → Gathering text start 0
-begins text h = record { inside = omega arith; goes = scale-ends text h .goes; same = refl }
+begins text h = record { inside = omega arith; goes = (scale_ends text h).goes; same = refl }
 
-pub ready : (text : Bytes) (a : Amount) (i : ℕ) → Gathering text a i → i < length text → Ready a (getD text i 0)
+pub ready : (text : Bytes) (a : Amount) (i : ℕ) → Gathering text a i → i < length text → Ready a (get_or text i 0)
 ready text a i g h =
-    let t = subst (Goes a) (here text i h) (g .goes) in
-    let w = t .0 in
-    record { digit = t .1; amount = w .amount; behind = w .behind; few = w .few }
+    let t = subst (Goes a) (here text i h) g.goes in
+    let w = t.0 in
+    record { digit = t.1; amount = w.amount; behind = w.behind; few = w.few }
 
-pub again : (text : Bytes) (a r : Amount) (i : ℕ) → Gathering text a i → i < length text → r ≡ taken a (getD text i 0) → Gathering text r (i + 1)
+pub again : (text : Bytes) (a r : Amount) (i : ℕ) → Gathering text a i → i < length text → r ≡ taken a (get_or text i 0) → Gathering text r (i + 1)
 again text a r i g h e = record {
   inside = omega (arith, h);
-  goes = subst (λ (z : Amount). Goes z (drop (i + 1) text)) (sym e) (subst (Goes a) (here text i h) (g .goes) .2);
-  same = ap (λ (z : Amount). gathered z (drop (i + 1) text)) e ∙ ap (gathered a) (sym (here text i h)) ∙ g .same;
+  goes = subst (λ (z : Amount). Goes z (drop (i + 1) text)) (sym e) (subst (Goes a) (here text i h) g.goes).2;
+  same = ap (λ (z : Amount). gathered z (drop (i + 1) text)) e ∙ ap (gathered a) (sym (here text i h)) ∙ g.same;
 }
 
-pub bounded : (text : Bytes) (a : Amount) (i : ℕ) → Gathering text a i → (a .amount ≤ 1000000000000000) × (a .behind ≤ 15)
+pub bounded : (text : Bytes) (a : Amount) (i : ℕ) → Gathering text a i → (a.amount ≤ 1000000000000000) × (a.behind ≤ 15)
 bounded text a i g =
-    let w = within a (drop i text) (g .goes) in
-    (le-trans (lower (a .amount) (10 ^ (a .digits)) (w .amount)) (tens (a .digits) (w .few)), le-trans (w .behind) (w .few))
+    let w = within a (drop i text) g.goes in
+    (le_trans (lower a.amount (10 ^ a.digits) w.amount) (tens a.digits w.few), le_trans w.behind w.few)
   where
     lower : (x y : ℕ) → x < y → x ≤ y
     lower x y h = omega (arith, h)
 
-pub ends : (text : Bytes) (a : Amount) (i : ℕ) → Gathering text a i → length text ≤ i → (r : Float) → r ≡ round binary64 (a .minus) (a .amount) (10 ^ (a .behind)) → Scale text → r ≡ valueOf text
+pub ends : (text : Bytes) (a : Amount) (i : ℕ) → Gathering text a i → length text ≤ i → (r : Float) → r ≡ round binary64 a.minus a.amount (10 ^ a.behind) → Scale text → r ≡ value_of text
 ends text a i g past r e h =
-    e ∙ ap (λ (z : Amount). round binary64 (z .minus) (z .amount) (10 ^ (z .behind))) (ap (gathered a) (sym (drop-of-length-le text {i = i} past)) ∙ g .same) ∙ scale-ends text h .value ∙ sym (value-meant text h)
+    e ∙ ap (λ (z : Amount). round binary64 z.minus z.amount (10 ^ z.behind)) (ap (gathered a) (sym (drop_of_length-le text {i = i} past)) ∙ g.same) ∙ (scale_ends text h).value ∙ sym (value_meant text h)
 
 -- what one byte asks
-pub amount-fits : (a : Amount) (b : ℕ) → Ready a b → a .amount ≤ 1000000000000000
-amount-fits a b r = le-trans (lower (a .amount) (10 ^ (a .digits)) (r .amount)) (tens (a .digits) (r .few))
+pub amount_fits : (a : Amount) (b : ℕ) → Ready a b → a.amount ≤ 1000000000000000
+amount_fits a b r = le_trans (lower a.amount (10 ^ a.digits) r.amount) (tens a.digits r.few)
   where
     lower : (x y : ℕ) → x < y → x ≤ y
     lower x y h = omega (arith, h)
 
-pub behind-fits : (a : Amount) (b : ℕ) → Ready a b → a .behind ≤ 15
-behind-fits a b r = le-trans (r .behind) (r .few)
+pub behind_fits : (a : Amount) (b : ℕ) → Ready a b → a.behind ≤ 15
+behind_fits a b r = le_trans r.behind r.few
 
-pub one-byte : (a : Amount) (b w k : ℕ) → (b ≡ 45 → ⊥) → (b ≡ 46 → ⊥) → w ≡ b → k ≡ cond (a .point) (a .behind + 1) (a .behind)
-    → _≡_ {A = Amount} (record { minus = a .minus; point = a .point; digits = a .digits + 1; amount = a .amount * 10 + (w - 48); behind = k }) (taken a b)
-one-byte a b w k h g e f = rw (ne-eqb b 45 h, ne-eqb b 46 g, e, f) refl
+pub one_byte : (a : Amount) (b w k : ℕ) → (b ≡ 45 → ⊥) → (b ≡ 46 → ⊥) → w ≡ b → k ≡ cond a.point (a.behind + 1) a.behind
+    → ◌≡◌ {A = Amount} (record { minus = a.minus; point = a.point; digits = a.digits + 1; amount = a.amount * 10 + (w - 48); behind = k }) (taken a b)
+one_byte a b w k h g e f = rw (ne_eqb b 45 h, ne_eqb b 46 g, e, f) refl

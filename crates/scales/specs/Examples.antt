@@ -1,14 +1,13 @@
 -- Values of the desk: the bits of the nearest binary64. Assumes nothing.
-use mathlib.Core.Path.{_≡_, refl}
-use mathlib.Core.List.{List, [], _∷_}
-use Prim.Native.Nat.{ℕ}
-use lib.Ieee.{binary64, toBits, round, ofInt}
-use Rattle·layout.specs.Layout.{Bytes}
-use Rattle·scales·specs.specs.Value.{digitsWorth, digitsIn, behindPoint, valueOf}
+use Rattle.std.specs.Prelude.{◌≡◌, ℕ, List, [], ◌∷◌, refl}
+use Rattle.std.specs.Float.{binary64}
+use Rattle.std.specs.Float.Ieee.{to_bits, round, of_int}
+use Rattle.layout.specs.Layout.{Bytes}
+use Rattle.scales.specs.Value.{digits_worth, digits_in, behind_point, value_of}
 
 unfoldable bits : Bytes → ℕ
-unfolding valueOf digitsIn behindPoint digitsWorth toBits round ofInt
-bits text = toBits binary64 (valueOf text)
+unfolding value_of digits_in behind_point digits_worth to_bits round of_int
+bits text = to_bits binary64 (value_of text)
 
 -- no scale
 none : bits [] ≡ 4607182418800017408
@@ -21,31 +20,31 @@ unfolding bits
 half = refl
 
 -- `-0`
-minus-zero : bits (45 ∷ 48 ∷ []) ≡ 9223372036854775808
+minus_zero : bits (45 ∷ 48 ∷ []) ≡ 9223372036854775808
 unfolding bits
-minus-zero = refl
+minus_zero = refl
 
 -- `1.`
-last-point : bits (49 ∷ 46 ∷ []) ≡ 4607182418800017408
+last_point : bits (49 ∷ 46 ∷ []) ≡ 4607182418800017408
 unfolding bits
-last-point = refl
+last_point = refl
 
 -- `.5`
-first-point : bits (46 ∷ 53 ∷ []) ≡ 4602678819172646912
+first_point : bits (46 ∷ 53 ∷ []) ≡ 4602678819172646912
 unfolding bits
-first-point = refl
+first_point = refl
 
 -- `007`
-zeros-in-front : bits (48 ∷ 48 ∷ 55 ∷ []) ≡ 4619567317775286272
+zeros_in_front : bits (48 ∷ 48 ∷ 55 ∷ []) ≡ 4619567317775286272
 unfolding bits
-zeros-in-front = refl
+zeros_in_front = refl
 
 -- `123456789012345.`
-fifteen-digits : bits (49 ∷ 50 ∷ 51 ∷ 52 ∷ 53 ∷ 54 ∷ 55 ∷ 56 ∷ 57 ∷ 48 ∷ 49 ∷ 50 ∷ 51 ∷ 52 ∷ 53 ∷ 46 ∷ []) ≡ 4817745636528479808
+fifteen_digits : bits (49 ∷ 50 ∷ 51 ∷ 52 ∷ 53 ∷ 54 ∷ 55 ∷ 56 ∷ 57 ∷ 48 ∷ 49 ∷ 50 ∷ 51 ∷ 52 ∷ 53 ∷ 46 ∷ []) ≡ 4817745636528479808
 unfolding bits
-fifteen-digits = refl
+fifteen_digits = refl
 
 -- `0.1`
-rounded-up : bits (48 ∷ 46 ∷ 49 ∷ []) ≡ 4591870180066957722
+rounded_up : bits (48 ∷ 46 ∷ 49 ∷ []) ≡ 4591870180066957722
 unfolding bits
-rounded-up = refl
+rounded_up = refl

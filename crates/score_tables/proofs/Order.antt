@@ -1,49 +1,49 @@
 -- Rows in order: one number is given exactly when the rows before its own accept, and its own give it. Assumes nothing.
-use mathlib.Core.Path.{_≡_, refl, sym, _∙_}
+use mathlib.Core.Path.{◌≡◌, refl, sym, ◌∙◌}
 use mathlib.Core.Bool.{Bool, true, false}
-use mathlib.Core.List.{List, [], _∷_, _++_}
-use mathlib.Core.Logic.{_↔_, inl, inr}
+use mathlib.Core.List.{List, [], ◌∷◌, ◌++◌}
+use mathlib.Core.Logic.{◌↔◌, inl, inr}
 use Prim.Native.Nat.{ℕ}
-use Rattle·refusals.specs.declared.Refusal.{Refusal}
-use Rattle·refusals.specs.declared.Checked.{Checked}
-use Rattle·refusals.specs.declared.Checked.the-variants.{Accepted, Refused}
-use Rattle·refusals.specs.Refusals.{numberedIn, refusedAt, refusedIn, refuse, refuseIn, first}
-use Rattle·refusals.specs.Meaning.{FirstBad, ExactlyIn, AllAccepted, FirstRefused}
-use Rattle·refusals.proofs.Meant.{told}
-use Rattle·refusals.proofs.Laws.{never, holds, number-of, first-refused, refused-first}
-use Rattle·score_tables·specs.specs.Meaning.{RowAt, Row}
+use Rattle.refusals.specs.declared.Refusal.{Refusal}
+use Rattle.refusals.specs.declared.Checked.{Checked}
+use Rattle.refusals.specs.declared.Checked.TheVariants.{Accepted, Refused}
+use Rattle.refusals.specs.Refusals.{numbered_in_of, refused_at, refused_in_of, refuse, refuse_in_of, first}
+use Rattle.refusals.specs.Meaning.{FirstBad, ExactlyIn, AllAccepted, FirstRefused}
+use Rattle.refusals.proofs.Meant.{told}
+use Rattle.refusals.proofs.Laws.{never, holds, number_of_lem, first_refused, refused_first}
+use Rattle.score_tables.specs.Meaning.{RowAt, Row}
 
 -- a row of one test, which fails exactly where all is fine
-pub row-at : {Fine : Type 0} (number place : ℕ) (test : Bool) → (refuse number place test ≡ Accepted → Fine) → (Fine → test ≡ false) → RowAt (refuse number place test) number place Fine
-unfolding refuseIn
-row-at {Fine} number place test to from = record {
-  accepted = (to, λ f. yes-if test (from f));
-  refused = (λ h f. never (yes-if test (from f)) h, λ n. not-if test (λ e. n (to (yes-if test e))));
-  only = λ why h. holds number place test why h .1;
+pub row_at : {Fine : Type 0} (number place : ℕ) (test : Bool) → (refuse number place test ≡ Accepted → Fine) → (Fine → test ≡ false) → RowAt (refuse number place test) number place Fine
+unfolding refuse_in_of
+row_at {Fine} number place test to from = record {
+  accepted = (to, λ f. yes_if test (from f));
+  refused = (λ h f. never (yes_if test (from f)) h, λ n. not_if test (λ e. n (to (yes_if test e))));
+  only = λ why h. (holds number place test why h).1;
 }
   where
-    yes-if : (test : Bool) → test ≡ false → refuse number place test ≡ Accepted
-    yes-if test e = rw e
+    yes_if : (test : Bool) → test ≡ false → refuse number place test ≡ Accepted
+    yes_if test e = rw e
 
-    not-if : (test : Bool) → (test ≡ false → ⊥) → refuse number place test ≡ refusedAt number place
-    not-if true n = refl
-    not-if false n = absurd (n refl)
+    not_if : (test : Bool) → (test ≡ false → ⊥) → refuse number place test ≡ refused_at number place
+    not_if true n = refl
+    not_if false n = absurd (n refl)
 
 -- whose place is 0
 pub row : {Fine : Type 0} (number : ℕ) (test : Bool) → (refuse number 0 test ≡ Accepted → Fine) → (Fine → test ≡ false) → Row (refuse number 0 test) number Fine
-row number test to from = row-at number 0 test to from
+row number test to from = row_at number 0 test to from
 
 -- none of the checks refuses with this number
 abbrev pub Never : ℕ → List Checked → Type 0
 Never number [] = Unit
-Never number (check ∷ checks) = ((table place : ℕ) → check ≡ refusedIn number table place → ⊥) × Never number checks
+Never number (check ∷ checks) = ((table place : ℕ) → check ≡ refused_in_of number table place → ⊥) × Never number checks
 
 -- a row, or the check of one table, has its own number only
-pub not-row : {check : Checked} {number its k : ℕ} {Fine : Type 0} → RowAt check number its Fine → (number ≡ k → ⊥) → (table place : ℕ) → check ≡ refusedIn k table place → ⊥
-not-row r d table place h = d (sym (number-of (r .only _ h)))
+pub not_row : {check : Checked} {number its k : ℕ} {Fine : Type 0} → RowAt check number its Fine → (number ≡ k → ⊥) → (table place : ℕ) → check ≡ refused_in_of k table place → ⊥
+not_row r d table place h = d (sym (number_of_lem (r.only _ h)))
 
-pub not-table : {check : Checked} {number its k n : ℕ} {Bad : ℕ → Type 0} → ExactlyIn check number its n Bad → (number ≡ k → ⊥) → (table place : ℕ) → check ≡ refusedIn k table place → ⊥
-not-table t d table place h = d (sym (number-of (t .only _ h)))
+pub not_table : {check : Checked} {number its k n : ℕ} {Bad : ℕ → Type 0} → ExactlyIn check number its n Bad → (number ≡ k → ⊥) → (table place : ℕ) → check ≡ refused_in_of k table place → ⊥
+not_table t d table place h = d (sym (number_of_lem (t.only _ h)))
 
 -- all of two lists accept
 pub parted : (xs ys : List Checked) → AllAccepted (xs ++ ys) ↔ AllAccepted xs × AllAccepted ys
@@ -51,77 +51,77 @@ parted xs ys = (to xs, from xs)
   where
     to : (xs : List Checked) → AllAccepted (xs ++ ys) → AllAccepted xs × AllAccepted ys
     to [] a = (tt, a)
-    to (check ∷ xs) a = let s = to xs (a .1) in ((a .0, s .0), s .1)
+    to (check ∷ xs) a = let s = to xs a.1 in ((a.0, s.0), s.1)
 
     from : (xs : List Checked) → AllAccepted xs × AllAccepted ys → AllAccepted (xs ++ ys)
-    from [] p = p .1
-    from (check ∷ xs) p = (p .0 .0, from xs (p .0 .1, p .1))
+    from [] p = p.1
+    from (check ∷ xs) p = (p.0.0, from xs (p.0.1, p.1))
 
 module _ (number table place : ℕ) where
   abbrev pub why : Refusal
-  why = numberedIn number table place
+  why = numbered_in_of number table place
 
   none : (checks : List Checked) → Never number checks → FirstRefused why checks → ⊥
   none [] n h = h
-  none (check ∷ checks) n (inl e) = n .0 table place e
-  none (check ∷ checks) n (inr p) = none checks (n .1) (p .1)
+  none (check ∷ checks) n (inl e) = n.0 table place e
+  none (check ∷ checks) n (inr p) = none checks n.1 p.1
 
   own : (mine after : List Checked) → Never number after → FirstRefused why (mine ++ after) → FirstRefused why mine
   own [] after n h = none after n h
   own (check ∷ mine) after n (inl e) = inl e
-  own (check ∷ mine) after n (inr p) = inr (p .0, own mine after n (p .1))
+  own (check ∷ mine) after n (inr p) = inr (p.0, own mine after n p.1)
 
   skip : (before rest : List Checked) → Never number before → FirstRefused why (before ++ rest) → AllAccepted before × FirstRefused why rest
   skip [] rest n h = (tt, h)
-  skip (check ∷ before) rest n (inl e) = absurd (n .0 table place e)
-  skip (check ∷ before) rest n (inr p) = let s = skip before rest (n .1) (p .1) in ((p .0, s .0), s .1)
+  skip (check ∷ before) rest n (inl e) = absurd (n.0 table place e)
+  skip (check ∷ before) rest n (inr p) = let s = skip before rest n.1 p.1 in ((p.0, s.0), s.1)
 
   more : (mine after : List Checked) → FirstRefused why mine → FirstRefused why (mine ++ after)
   more [] after h = absurd h
   more (check ∷ mine) after (inl e) = inl e
-  more (check ∷ mine) after (inr p) = inr (p .0, more mine after (p .1))
+  more (check ∷ mine) after (inr p) = inr (p.0, more mine after p.1)
 
   behind : (before rest : List Checked) → AllAccepted before → FirstRefused why rest → FirstRefused why (before ++ rest)
   behind [] rest a h = h
-  behind (check ∷ before) rest a h = inr (a .0, behind before rest (a .1) h)
+  behind (check ∷ before) rest a h = inr (a.0, behind before rest a.1 h)
 
   pub given : (before mine after : List Checked) → Never number before → Never number after →
       {Fine Mine : Type 0} → AllAccepted before ↔ Fine → FirstRefused why mine ↔ Mine →
-      first (before ++ (mine ++ after)) ≡ refusedIn number table place ↔ Fine × Mine
+      first (before ++ (mine ++ after)) ≡ refused_in_of number table place ↔ Fine × Mine
   given before mine after nb na f m = (
-    λ h. let s = skip before (mine ++ after) nb (first-refused why (before ++ (mine ++ after)) h) in (f .0 (s .0), m .0 (own mine after na (s .1))),
-    λ p. refused-first why (before ++ (mine ++ after)) (behind before (mine ++ after) (f .1 (p .0)) (more mine after (m .1 (p .1)))),
+    λ h. let s = skip before (mine ++ after) nb (first_refused why (before ++ (mine ++ after)) h) in (f.0 s.0, m.0 (own mine after na s.1)),
+    λ p. refused_first why (before ++ (mine ++ after)) (behind before (mine ++ after) (f.1 p.0) (more mine after (m.1 p.1))),
   )
 
   -- the same for the rows that come first
-  pub foremost : (mine after : List Checked) → Never number after → {Mine : Type 0} → FirstRefused why mine ↔ Mine → first (mine ++ after) ≡ refusedIn number table place ↔ Mine
+  pub foremost : (mine after : List Checked) → Never number after → {Mine : Type 0} → FirstRefused why mine ↔ Mine → first (mine ++ after) ≡ refused_in_of number table place ↔ Mine
   foremost mine after na m =
       let g = given [] mine after tt na (λ u. u, λ u. u) m in
-      (λ h. g .0 h .1, λ x. g .1 (tt, x))
+      (λ h. (g.0 h).1, λ x. g.1 (tt, x))
 
 -- the rows of one number: one of them, or two; the check of one table
-pub of-one : {check : Checked} {number : ℕ} {Fine : Type 0} → Row check number Fine → FirstRefused (why number 0 0) (check ∷ []) ↔ (Fine → ⊥)
-of-one {check} {number} {Fine} r = (to, λ n. inl (r .refused .1 n))
+pub of_one : {check : Checked} {number : ℕ} {Fine : Type 0} → Row check number Fine → FirstRefused (why number 0 0) (check ∷ []) ↔ (Fine → ⊥)
+of_one {check} {number} {Fine} r = (to, λ n. inl (r.refused.1 n))
   where
     to : FirstRefused (why number 0 0) (check ∷ []) → Fine → ⊥
-    to (inl e) = r .refused .0 e
-    to (inr p) = absurd (p .1)
+    to (inl e) = r.refused.0 e
+    to (inr p) = absurd p.1
 
-pub of-two : {a b : Checked} {number : ℕ} {P Q : Type 0} → Row a number P → Row b number Q → FirstRefused (why number 0 0) (a ∷ b ∷ []) ↔ (P × Q → ⊥)
-of-two {a} {b} {number} {P} {Q} r s = (to, λ n. from n a refl)
+pub of_two : {a b : Checked} {number : ℕ} {P Q : Type 0} → Row a number P → Row b number Q → FirstRefused (why number 0 0) (a ∷ b ∷ []) ↔ (P × Q → ⊥)
+of_two {a} {b} {number} {P} {Q} r s = (to, λ n. from n a refl)
   where
     to : FirstRefused (why number 0 0) (a ∷ b ∷ []) → P × Q → ⊥
-    to (inl e) f = r .refused .0 e (f .0)
-    to (inr (_, inl e)) f = s .refused .0 e (f .1)
+    to (inl e) f = r.refused.0 e f.0
+    to (inr (_, inl e)) f = s.refused.0 e f.1
     to (inr (_, inr (_, h))) f = h
 
     from : (P × Q → ⊥) → (check : Checked) → a ≡ check → FirstRefused (why number 0 0) (a ∷ b ∷ [])
-    from n Accepted e = inr (e, inl (s .refused .1 (λ q. n (r .accepted .0 e, q))))
-    from n (Refused w) e = inl (e ∙ r .only w e)
+    from n Accepted e = inr (e, inl (s.refused.1 (λ q. n (r.accepted.0 e, q))))
+    from n (Refused w) e = inl (e ∙ r.only w e)
 
-pub of-table : {check : Checked} {number its n : ℕ} {Bad : ℕ → Type 0} (table place : ℕ) → ExactlyIn check number its n Bad → FirstRefused (why number table place) (check ∷ []) ↔ (table ≡ its) × FirstBad Bad n place
-of-table {check} {number} {its} {n} {Bad} table place t = (to, λ f. inl (told t table place .1 f))
+pub of_table : {check : Checked} {number its n : ℕ} {Bad : ℕ → Type 0} (table place : ℕ) → ExactlyIn check number its n Bad → FirstRefused (why number table place) (check ∷ []) ↔ (table ≡ its) × FirstBad Bad n place
+of_table {check} {number} {its} {n} {Bad} table place t = (to, λ f. inl ((told t table place).1 f))
   where
     to : FirstRefused (why number table place) (check ∷ []) → (table ≡ its) × FirstBad Bad n place
-    to (inl e) = told t table place .0 e
-    to (inr p) = absurd (p .1)
+    to (inl e) = (told t table place).0 e
+    to (inr p) = absurd p.1

@@ -1,26 +1,26 @@
 // The score tables of one line: their bounds, and the refusals 1, 4, 12 and 6 that every call shares which is lent
 // them (decode, path score). Each check takes the answer so far, so that a call can put its own tests between.
-ghost use mathlib.Core.Path.{_≡_};
-ghost use Prim.Native.Nat.{_*_};
-ghost use Rattle·refusals.specs.Refusals.{firstFrom};
-ghost use Rattle·score_tables·specs.specs.Rows.{one, scoresShort, sixes, boundsChecked};
-ghost use Rattle·score_tables·specs.specs.Sound.{ScoresRoom};
+ghost use Rattle.std.specs.Prelude.{◌≡◌, ◌*◌};
+ghost use Rattle.refusals.specs.Refusals.{first_from};
+ghost use Rattle.score_tables.specs.Rows.{one, scores_short, sixes, bounds_checked};
+ghost use Rattle.score_tables.specs.Sound.{ScoresRoom};
+
 use refusals::Checked;
 
 pub const MOST_LABELS: u32 = 32;
 
 pub const MOST_WORDS: u32 = 128;
 
-// How many entries so many rows of a width have: L·L transitions, T·L states.
+// How many entries so many rows of a width have: L.L transitions, T.L states.
 pub fn entries(rows: u32, width: u32) -> usize
-    ensures { λ r. ⌜ r ≡ rows * width ⌝ }
+    ensures { result ≡ rows * width }
 {
     rows as usize * width as usize
 }
 
 // 1.
 pub fn check_labels(labels: u32) -> Checked
-    ensures { λ r. ⌜ r ≡ one labels ⌝ }
+    ensures { result ≡ one labels }
 {
     let outside = refusals::is_outside(1, MOST_LABELS, labels);
     refusals::refuse_if(Checked::Accepted, 1, 0, outside)
@@ -28,7 +28,7 @@ pub fn check_labels(labels: u32) -> Checked
 
 // 1 and 4: "a call that takes T as a number tests 4 right after 1".
 pub fn check_bounds(labels: u32, words: u32) -> Checked
-    ensures { λ r. ⌜ r ≡ boundsChecked labels words ⌝ }
+    ensures { result ≡ bounds_checked labels words }
 {
     let a = check_labels(labels);
     refusals::refuse_if(a, 4, 0, refusals::is_outside(1, MOST_WORDS, words))
@@ -43,7 +43,7 @@ pub fn check_room(
     transitions: &[f64],
     states: &[f64],
 ) -> Checked
-    ensures { λ r. ⌜ r ≡ firstFrom answer (scoresShort at labels words (now (transitions .entry)) (now (states .entry))) ⌝ }
+    ensures { result ≡ first_from answer (scores_short at labels words transitions.now states.now) }
 {
     let first = at as usize;
     let second = first + 1;
@@ -60,8 +60,8 @@ pub fn check_finite(
     transitions: &[f64],
     states: &[f64],
 ) -> Checked
-    requires { ⌜ (answer ≡ Checked.Accepted → ScoresRoom labels words (now transitions) (now states)) ⌝ }
-    ensures { λ r. ⌜ r ≡ firstFrom answer (sixes labels words (now (transitions .entry)) (now (states .entry))) ⌝ }
+    requires { answer ≡ Checked.Accepted → ScoresRoom labels words transitions.now states.now }
+    ensures { result ≡ first_from answer (sixes labels words transitions.now states.now) }
 {
     if let Checked::Refused(why) = answer {
         return Checked::Refused(why);

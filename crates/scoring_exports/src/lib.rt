@@ -1,12 +1,13 @@
 // The scores of a line, for programs in C and Rust: one call of the crate compute_scores, and its answer as numbers.
-ghost use Rattle·lines.specs.Entry.{lineWas};
-ghost use Rattle·feature_gen.specs.Lent.{modelWas};
-ghost use Rattle·scoring_exports·specs.specs.Scoring.{ScoresLine};
+ghost use Rattle.lines.specs.Entry.{line_was};
+ghost use Rattle.feature_gen.specs.Lent.{model_was};
+ghost use Rattle.scoring_exports.specs.Scoring.{ScoresLine};
+
 use answers::checks::Refused;
 use feature_gen::Counts;
 
 // The transition and state scores of a line, in the fronts of `transitions` and `states`.
-#[no_mangle]
+#[unsafe(no_mangle)]
 pub extern "C" fn bodkinbloom_compute_scores(
     labels: u32,
     counts: Counts,
@@ -26,12 +27,11 @@ pub extern "C" fn bodkinbloom_compute_scores(
     transitions: &mut [f64],
     states: &mut [f64],
 ) -> Refused
-    ensures { λ r.
-        let m = modelWas labels counts kinds destinations sources «attribute_starts» «attribute_entries» «label_starts» «label_entries» in
-        let line = lineWas attributes «word_starts» ids values in
-        ⌜ ScoresLine (record { model = m; weights = now (weights .entry); words = words; line = line })
-        (record { transitions = now (transitions .entry); states = now (states .entry) })
-        (record { answer = r; transitions = now (transitions .exit); states = now (states .exit) }) ⌝ }
+    ensures { let m = model_was labels counts kinds destinations sources attribute_starts attribute_entries label_starts label_entries in
+        let line = line_was attributes word_starts ids values in
+        ScoresLine (record { model = m; weights = weights.now; words = words; line = line })
+        (record { transitions = transitions.entry.now; states = states.old })
+        (record { answer = result; transitions = transitions.exit.now; states = states.new }) }
 {
     let answer = compute_scores::compute_scores(
         labels,

@@ -1,16 +1,15 @@
 // Path score: `sequence_score` of crf_context.rs, the score of a given path over the score tables of a line.
-ghost use mathlib.Core.Path.{_≡_};
-ghost use Prim.Native.Nat.{_+_, _*_, _<_};
-ghost use lib.ListN.{length, getD};
-ghost use lib.Ieee.{nan};
-ghost use Rattle·best_path.specs.Scores.{tabled};
-ghost use Rattle·best_path.specs.PathScore.{pathScore};
-ghost use Rattle·sequence_score·specs.specs.Rows.{pathSized, pathChecked};
-ghost use Rattle·sequence_score·specs.specs.Sound.{Met};
-ghost use Rattle·sequence_score·specs.specs.Promise.{Promised};
-use refusals::Checked;
-use refusals::Refusal;
+ghost use Rattle.std.specs.Prelude.{◌≡◌, ◌+◌, ◌*◌, ◌<◌, length, get_or};
+ghost use Rattle.std.specs.Float.{nan};
+ghost use Rattle.best_path.specs.Scores.{tabled};
+ghost use Rattle.best_path.specs.PathScore.{path_score};
+ghost use Rattle.sequence_score.specs.Rows.{path_sized, path_checked};
+ghost use Rattle.sequence_score.specs.Sound.{Met};
+ghost use Rattle.sequence_score.specs.Promise.{Promised};
 
+use refusals::{Checked, Refusal};
+
+#[derive(Drop)]
 pub enum PathScore {
     Scored(f64),
     Refused(Refusal),
@@ -18,16 +17,16 @@ pub enum PathScore {
 
 // The label that the path gives to a word, as an index.
 fn label(path: &[u32], word: usize) -> usize
-    requires { ⌜ word < length (now path) ⌝ }
-    ensures { λ r. ⌜ r ≡ getD (now (path .entry)) word 0 ⌝ }
+    requires { word < length path.now }
+    ensures { result ≡ get_or path.now word 0 }
 {
     path[word] as usize
 }
 
 // An entry of a table that lies row by row.
 fn entry(table: &[f64], width: usize, row: usize, column: usize) -> f64
-    requires { ⌜ row * width + column < length (now table) ⌝ }
-    ensures { λ r. ⌜ r ≡ getD (now (table .entry)) (row * width + column) nan ⌝ }
+    requires { row * width + column < length table.now }
+    ensures { result ≡ get_or table.now (row * width + column) nan }
 {
     table[row * width + column]
 }
@@ -40,8 +39,8 @@ pub fn score_path(
     path: &[u32],
     count: usize,
 ) -> f64
-    requires { ⌜ Met labels (now transitions) (now states) (now path) count ⌝ }
-    ensures { λ r. ⌜ r ≡ pathScore (tabled labels (now (transitions .entry)) (now (states .entry))) (now (path .entry)) count ⌝ }
+    requires { Met labels transitions.now states.now path.now count }
+    ensures { result ≡ path_score (tabled labels transitions.now states.now) path.now count }
 {
     if count == 0 {
         return 0.0;
@@ -69,7 +68,7 @@ fn check_sizes(
     path: &[u32],
     count: u32,
 ) -> Checked
-    ensures { λ r. ⌜ r ≡ pathSized labels words (now (transitions .entry)) (now (states .entry)) (now (path .entry)) count ⌝ }
+    ensures { result ≡ path_sized labels words transitions.now states.now path.now count }
 {
     let a = score_tables::check_bounds(labels, words);
     let b = refusals::refuse_if(a, 4, 0, words < count);
@@ -86,7 +85,7 @@ fn check_path(
     path: &[u32],
     count: u32,
 ) -> Checked
-    ensures { λ r. ⌜ r ≡ pathChecked labels words (now (transitions .entry)) (now (states .entry)) (now (path .entry)) count ⌝ }
+    ensures { result ≡ path_checked labels words transitions.now states.now path.now count }
 {
     let sizes = check_sizes(labels, words, transitions, states, path, count);
     if let Checked::Refused(why) = sizes {
@@ -106,7 +105,7 @@ pub fn sequence_score(
     path: &[u32],
     count: u32,
 ) -> PathScore
-    ensures { λ r. ⌜ Promised (record { labels = labels; words = words; transitions = now (transitions .entry); states = now (states .entry); path = now (path .entry); count = count }) r ⌝ }
+    ensures { Promised (record { labels = labels; words = words; transitions = transitions.now; states = states.now; path = path.now; count = count }) result }
 {
     let checked = check_path(labels, words, transitions, states, path, count);
     if let Checked::Refused(why) = checked {

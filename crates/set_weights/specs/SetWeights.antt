@@ -1,16 +1,12 @@
 -- What `set_weights` promises: document 01's answer, and the table's contents afterwards, for refused calls too. Assumes nothing.
-use mathlib.Core.Path.{_≡_}
-use mathlib.Core.List.{List, [], _∷_, _++_}
-use Prim.Native.Nat.{ℕ}
-use lib.ListN.{length, take, drop}
-use lib.Ieee.{Float}
-use Rattle·refusals.specs.declared.Checked.{Checked}
-use Rattle·refusals.specs.declared.Checked.the-variants.{Accepted, Refused}
-use Rattle·refusals.specs.Refusals.{first}
-use Rattle·refusals.specs.Bounds.{theFeatures, weightTable}
-use Rattle·refusal_rows.specs.Limits.{Limit, count, room, limitChecks}
-use Rattle·refusal_rows.specs.Tests.{Test, numbersFinite, checks}
-use Rattle·refusals.specs.Said.{Said, saidOf}
+use Rattle.std.specs.Prelude.{◌≡◌, List, [], ◌∷◌, ◌++◌, ℕ, length, take, drop, Float}
+use Rattle.refusals.specs.declared.Checked.{Checked}
+use Rattle.refusals.specs.declared.Checked.TheVariants.{Accepted, Refused}
+use Rattle.refusals.specs.Refusals.{first}
+use Rattle.refusals.specs.Bounds.{the_features, weight_table}
+use Rattle.refusal_rows.specs.Limits.{Limit, count, room, limit_checks}
+use Rattle.refusal_rows.specs.Tests.{Test, numbers_finite, checks}
+use Rattle.refusals.specs.Said.{Said, said_of}
 
 -- F, and the new weights
 pub record Setting : Type 0 where
@@ -23,39 +19,39 @@ pub record Outcome : Type 0 where
   pub weights : List Float
 
 -- 2 | "counts outside their bounds" | "the count's position in document 01's list, from 0"
-abbrev pub newCounts : Setting → List Limit
-newCounts given = count theFeatures (given .features) ∷ []
+abbrev pub new_counts : Setting → List Limit
+new_counts given = count the_features given.features ∷ []
 
 -- 12 | "for room" | "the buffer's position among the call's buffers"
-abbrev pub newRooms : Setting → ℕ → List Limit
-newRooms given have =
-    room 0 (length (given .new)) (given .features)
-    ∷ room 1 have (given .features)
+abbrev pub new_rooms : Setting → ℕ → List Limit
+new_rooms given have =
+    room 0 (length given.new) given.features
+    ∷ room 1 have given.features
     ∷ []
 
 -- 6 | "a weight .. not finite" | "index in its table"
-abbrev pub newTests : Setting → List Test
-newTests given = numbersFinite weightTable (given .new) (given .features) ∷ []
+abbrev pub new_tests : Setting → List Test
+new_tests given = numbers_finite weight_table given.new given.features ∷ []
 
 -- "The lowest number wins", and "12 is tested directly after 2": 2, 12, 6, for a table that has so many places
-unfoldable pub newChecked : Setting → ℕ → Checked
-newChecked given have = first (limitChecks (newCounts given) ++ limitChecks (newRooms given have) ++ checks (newTests given))
+unfoldable pub new_checked : Setting → ℕ → Checked
+new_checked given have = first (limit_checks (new_counts given) ++ limit_checks (new_rooms given have) ++ checks (new_tests given))
 
 -- "every lent buffer holds its entry contents" where the call is refused; else the first F are the new weights, and the rest is as it was
-abbrev pub tableAfter : Checked → Setting → List Float → List Float
-tableAfter (Refused why) given before = before
-tableAfter Accepted given before = take (given .features) (given .new) ++ drop (given .features) before
+abbrev pub table_after : Checked → Setting → List Float → List Float
+table_after (Refused why) given before = before
+table_after Accepted given before = take given.features given.new ++ drop given.features before
 
-unfoldable pub answerTo : Setting → List Float → Said Unit
-answerTo given before = saidOf (newChecked given (length before))
+unfoldable pub answer_to : Setting → List Float → Said Unit
+answer_to given before = said_of (new_checked given (length before))
 
-unfoldable pub weightsAfter : Setting → List Float → List Float
-weightsAfter given before = tableAfter (newChecked given (length before)) given before
+unfoldable pub weights_after : Setting → List Float → List Float
+weights_after given before = table_after (new_checked given (length before)) given before
 
 -- the promise
 pub record WeightsSet (given : Setting) (before : List Float) (outcome : Outcome) : Type 0 where
-  pub answers : saidOf (outcome .answer) ≡ answerTo given before
-  pub weights : outcome .weights ≡ weightsAfter given before
+  pub answers : said_of outcome.answer ≡ answer_to given before
+  pub weights : outcome.weights ≡ weights_after given before
 
 -- no two different outcomes satisfy one promise; proved in proofs/Unique
 abbrev pub OnlyOne : Type 0

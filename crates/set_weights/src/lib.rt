@@ -1,16 +1,14 @@
 // `set_weights` of `feature_gen.rs`: every feature gets a new weight.
-ghost use mathlib.Core.Path.{_≡_};
-ghost use mathlib.Core.List.{_++_};
-ghost use Prim.Native.Nat.{_≤_};
-ghost use lib.ListN.{length, take, drop};
-ghost use Rattle·set_weights·specs.specs.SetWeights.{newChecked, WeightsSet};
+ghost use Rattle.std.specs.Prelude.{◌≡◌, ◌++◌, ◌≤◌, length, take, drop};
+ghost use Rattle.set_weights.specs.SetWeights.{new_checked, WeightsSet};
+
 use refusals::Checked;
 
 // The first n of a table become those of another.
 fn copy_front(n: usize, new: &[f64], weights: &mut [f64])
-    requires { ⌜ n ≤ length (now new) ⌝ }
-    requires { ⌜ n ≤ length (now weights) ⌝ }
-    ensures { λ _. ⌜ now (weights .exit) ≡ take n (now (new .entry)) ++ drop n (now (weights .entry)) ⌝ }
+    requires n_in_bounds { n ≤ length new.now }
+    requires n_in_bounds_2 { n ≤ length weights.old }
+    ensures { weights.new ≡ take n new.now ++ drop n weights.old }
 {
     let mut i = 0usize;
     while i < n {
@@ -21,7 +19,7 @@ fn copy_front(n: usize, new: &[f64], weights: &mut [f64])
 
 // 2 of the count, 12 of the two tables, then 6, of new weights for a table of this length.
 fn check_new(features: u32, new: &[f64], have: usize) -> Checked
-    ensures { λ r. ⌜ r ≡ newChecked (record { features = features; new = now (new .entry) }) have ⌝ }
+    ensures { result ≡ new_checked (record { features = features; new = new.now }) have }
 {
     let n = features as usize;
     let outside = feature_gen::MOST_FEATURES < features;
@@ -36,7 +34,7 @@ fn check_new(features: u32, new: &[f64], have: usize) -> Checked
 
 // Every feature gets a new weight. A call that is refused changes nothing.
 pub fn set_weights(features: u32, new: &[f64], weights: &mut [f64]) -> Checked
-    ensures { λ r. ⌜ WeightsSet (record { features = features; new = now (new .entry) }) (now (weights .entry)) (record { answer = r; weights = now (weights .exit) }) ⌝ }
+    ensures { WeightsSet (record { features = features; new = new.now }) weights.old (record { answer = result; weights = weights.new }) }
 {
     let answer = check_new(features, new, weights.len());
     if let Checked::Refused(why) = answer {

@@ -1,194 +1,194 @@
 -- What `read_sheet` accepts is exactly the files of sound sheets. Assumes nothing.
-use mathlib.Core.Path.{_≡_, refl, sym, _∙_, ap}
-use mathlib.Core.List.{List, [], _∷_, _++_, append-nil}
-use Prim.Native.Nat.{ℕ, _+_, _*_, _/_, _%_, _≤_}
+use mathlib.Core.Path.{◌≡◌, refl, sym, ◌∙◌, ap}
+use mathlib.Core.List.{List, [], ◌∷◌, ◌++◌, append-nil}
+use Prim.Native.Nat.{ℕ, ◌+◌, ◌*◌, ◌/◌, ◌%◌, ◌≤◌}
 use native.Mathlib.Omega.{arith}
-use lib.ListN.{length, getD, take, drop, length-append, take-append-drop, length-drop}
-use lib.Seq.{drop-at, drop-cons, drop-drop, take-all}
+use lib.ListN.{length, get_or, take, drop, length-append, take-append-drop, length-drop}
+use lib.Seq.{drop_at, drop-cons, drop-drop, take_all}
 use lib.Ieee.{Float, binary64}
-use lib.Ieee.Bits.{ofBits-fits}
-use Rattle·refusals.specs.declared.Checked.{Checked}
-use Rattle·refusals.specs.declared.Checked.the-variants.{Accepted, Refused}
-use Rattle·fronts.specs.Finite.{FiniteTo}
-use Rattle·sheet·specs.specs.File.{Sheet, littleEndian, numberBytes, encoded, Finite64, SoundSheet}
-use Rattle·sheet·specs.specs.Fields.{labelsIn, wordsIn, statesFrom, wholeLength, numbersIn, transitionsIn, statesIn}
-use Rattle·sheet·specs.specs.Rows.{Given, Lent, sheetChecked}
-use Rattle·sheet·specs.specs.RowsMeaning.{RightHead, RightFile}
-use Rattle·sheet·specs.specs.Promise.{Outcome, said, read, answerBy, answerTo, transitionsAfter, statesAfter, Promised}
-use Rattle·sheet·specs.specs.Files.{sheetIn, Bytes, SheetRoom, RightFilesAreSheets, ReadFrom, ExactlyTheFiles}
-use Rattle·sheet·proofs.proofs.Bytes.{length-numbers, number-at}
-use Rattle·sheet·proofs.proofs.Little.{length-bytes, numbers-read, numbers-back, drop-bytes}
-use Rattle·sheet·proofs.proofs.Laws.{test-holds}
-use Rattle·sheet·proofs.proofs.RowsMeant.{mark-byte, sheets-mean}
+use lib.Ieee.Bits.{of_bits-fits}
+use Rattle.refusals.specs.declared.Checked.{Checked}
+use Rattle.refusals.specs.declared.Checked.TheVariants.{Accepted, Refused}
+use Rattle.fronts.specs.Finite.{FiniteTo}
+use Rattle.sheet.specs.File.{Sheet, little_endian, number_bytes, encoded, Finite64, SoundSheet}
+use Rattle.sheet.specs.Fields.{labels_in_of, words_in, states_from_of, whole_length_of, numbers_in, transitions_in_of, states_in_of}
+use Rattle.sheet.specs.Rows.{Given, Lent, sheet_checked}
+use Rattle.sheet.specs.RowsMeaning.{RightHead, RightFile}
+use Rattle.sheet.specs.Promise.{Outcome, said, read, answer_by, answer_to, transitions_after, states_after, Promised}
+use Rattle.sheet.specs.Files.{sheet_in, Bytes, SheetRoom, RightFilesAreSheets, ReadFrom, ExactlyTheFiles}
+use Rattle.sheet.proofs.Bytes.{length_numbers, number_at}
+use Rattle.sheet.proofs.Little.{length_bytes, numbers_read, numbers_back, drop_bytes}
+use Rattle.sheet.proofs.Laws.{test_holds}
+use Rattle.sheet.proofs.RowsMeant.{mark_byte, sheets_mean}
 
 -- ---- the fields of an encoded sheet
 
 module _ (s : Sheet) (sound : SoundSheet s) where
   body : List ℕ
-  body = numberBytes (s .transitions) ++ numberBytes (s .states)
+  body = number_bytes s.transitions ++ number_bytes s.states
 
   -- L and T
-  pub labels-back : labelsIn (encoded s) ≡ s .labels
-  unfolding encoded littleEndian
-  labels-back = omega (arith, sound .labels-in .high)
+  pub labels_back : labels_in_of (encoded s) ≡ s.labels
+  unfolding encoded little_endian
+  labels_back = omega (arith, sound.labels_in.high)
 
-  pub words-back : wordsIn (encoded s) ≡ s .words
-  unfolding encoded littleEndian
-  words-back = omega (arith, sound .words-in .high)
+  pub words_back : words_in (encoded s) ≡ s.words
+  unfolding encoded little_endian
+  words_back = omega (arith, sound.words_in_lem.high)
 
-  body-back : drop 8 (encoded s) ≡ body
-  unfolding encoded littleEndian body
-  body-back = refl
+  body_back : drop 8 (encoded s) ≡ body
+  unfolding encoded little_endian body
+  body_back = refl
 
-  pub transitions-back : transitionsIn (encoded s) ≡ s .transitions
-  unfolding transitionsIn body
-  transitions-back =
-      rw (labels-back, ← sound .all-transitions, body-back) (numbers-read (s .transitions) (numberBytes (s .states)) (sound .finite-transitions .binary))
+  pub transitions_back : transitions_in_of (encoded s) ≡ s.transitions
+  unfolding transitions_in_of body
+  transitions_back =
+      rw (labels_back, ← sound.all_transitions, body_back) (numbers_read s.transitions (number_bytes s.states) sound.finite_transitions.binary)
 
-  pub states-back : statesIn (encoded s) ≡ s .states
-  unfolding statesIn body
-  states-back =
-      rw (words-back, labels-back, ← sound .all-states, ← sound .all-transitions, ← drop-drop (8 * length (s .transitions)) 8 (encoded s), body-back, drop-at (numberBytes (s .transitions)) (numberBytes (s .states)) (8 * length (s .transitions)) (length-bytes (s .transitions)), ← append-nil (numberBytes (s .states)))
-      (numbers-read (s .states) [] (sound .finite-states .binary))
+  pub states_back : states_in_of (encoded s) ≡ s.states
+  unfolding states_in_of body
+  states_back =
+      rw (words_back, labels_back, ← sound.all_states, ← sound.all_transitions, ← drop-drop (8 * length s.transitions) 8 (encoded s), body_back, drop_at (number_bytes s.transitions) (number_bytes s.states) (8 * length s.transitions) (length_bytes s.transitions), ← append-nil (number_bytes s.states))
+      (numbers_read s.states [] sound.finite_states.binary)
 
   -- its length
-  pub long : length (encoded s) ≡ 8 + 8 * (s .labels * s .labels + s .words * s .labels)
-  unfolding encoded littleEndian
+  pub long : length (encoded s) ≡ 8 + 8 * (s.labels * s.labels + s.words * s.labels)
+  unfolding encoded little_endian
   long =
-      omega (arith, length-append (numberBytes (s .transitions)) (numberBytes (s .states)), length-bytes (s .transitions), length-bytes (s .states), sound .all-transitions, sound .all-states)
+      omega (arith, length-append (number_bytes s.transitions) (number_bytes s.states), length_bytes s.transitions, length_bytes s.states, sound.all_transitions, sound.all_states)
 
-  length-back : length (encoded s) ≡ wholeLength (encoded s)
-  length-back = rw (words-back, labels-back) long
+  length_back : length (encoded s) ≡ whole_length_of (encoded s)
+  length_back = rw (words_back, labels_back) long
 
   -- ---- nothing is refused in it
 
-  finite-back : (table : List Float) (n : ℕ) → length table ≡ n → Finite64 table → FiniteTo table n
-  finite-back table n e f i l = f .finite64 i (omega arith)
+  finite_back : (table : List Float) (n : ℕ) → length table ≡ n → Finite64 table → FiniteTo table n
+  finite_back table n e f i l = f.finite64 i (omega arith)
 
-  head-back : RightHead (encoded s)
-  unfolding encoded littleEndian
-  head-back = record { whole = omega arith; marked = refl; version = refl }
+  head_back : RightHead (encoded s)
+  unfolding encoded little_endian
+  head_back = record { whole = omega arith; marked = refl; version = refl }
 
-  pub right-file : RightFile (encoded s)
-  right-file = record {
-    in-bounds = record { head = head-back; labels = rw labels-back (sound .labels-in); words = rw words-back (sound .words-in) };
-    right-length = length-back;
-    finite-transitions = rw (transitions-back, labels-back) (finite-back _ _ (sound .all-transitions) (sound .finite-transitions));
-    finite-states = rw (states-back, words-back, labels-back) (finite-back _ _ (sound .all-states) (sound .finite-states));
+  pub right_file : RightFile (encoded s)
+  right_file = record {
+    in_bounds = record { head = head_back; labels = rw labels_back sound.labels_in; words = rw words_back sound.words_in_lem };
+    right_length = length_back;
+    finite_transitions = rw (transitions_back, labels_back) (finite_back _ _ sound.all_transitions sound.finite_transitions);
+    finite_states = rw (states_back, words_back, labels_back) (finite_back _ _ sound.all_states sound.finite_states);
   }
 
-  pub file-accepted : (before : Lent) → SheetRoom s before → sheetChecked (record { bytes = encoded s }) before ≡ Accepted
-  file-accepted before room = sheets-mean (record { bytes = encoded s }) before .accepted .1 (right-file, (rw labels-back (room .long-transitions), (rw (labels-back, words-back) (room .long-states), tt)))
+  pub file_accepted : (before : Lent) → SheetRoom s before → sheet_checked (record { bytes = encoded s }) before ≡ Accepted
+  file_accepted before room = (sheets_mean (record { bytes = encoded s }) before).accepted.1 (right_file, (rw labels_back room.long_transitions, (rw (labels_back, words_back) room.long_states, tt)))
 
-  file-read : (before : Lent) → SheetRoom s before → (outcome : Outcome) → Promised (record { bytes = encoded s }) before outcome → ReadFrom s before outcome
-  unfolding answerTo transitionsAfter statesAfter
-  file-read before room outcome p =
-      let h = file-accepted before room in
+  file_read : (before : Lent) → SheetRoom s before → (outcome : Outcome) → Promised (record { bytes = encoded s }) before outcome → ReadFrom s before outcome
+  unfolding answer_to transitions_after states_after
+  file_read before room outcome p =
+      let h = file_accepted before room in
       record {
-        answers = p .answers ∙ rw (h, labels-back, words-back);
-        fills-transitions = p .fills-transitions ∙ rw (h, transitions-back);
-        fills-states = p .fills-states ∙ rw (h, states-back);
+        answers = p.answers ∙ rw (h, labels_back, words_back);
+        fills_transitions = p.fills_transitions ∙ rw (h, transitions_back);
+        fills_states = p.fills_states ∙ rw (h, states_back);
       }
 
 -- ---- bytes in which nothing is refused
 
 module _ (bytes : List ℕ) (all : Bytes bytes) (right : RightFile bytes) where
   -- the eight bytes of head, and the rest
-  eight : bytes ≡ getD bytes 0 0 ∷ getD bytes 1 0 ∷ getD bytes 2 0 ∷ getD bytes 3 0 ∷ getD bytes 4 0 ∷ getD bytes 5 0 ∷ getD bytes 6 0 ∷ getD bytes 7 0 ∷ drop 8 bytes
+  eight : bytes ≡ get_or bytes 0 0 ∷ get_or bytes 1 0 ∷ get_or bytes 2 0 ∷ get_or bytes 3 0 ∷ get_or bytes 4 0 ∷ get_or bytes 5 0 ∷ get_or bytes 6 0 ∷ get_or bytes 7 0 ∷ drop 8 bytes
   eight =
-      let l = right .in-bounds .head .whole in
+      let l = right.in_bounds.head.whole in
       drop-cons bytes 0 0 (omega arith)
-      ∙ ap (λ (r : List ℕ). getD bytes 0 0 ∷ r) (drop-cons bytes 1 0 (omega arith)
-      ∙ ap (λ (r : List ℕ). getD bytes 1 0 ∷ r) (drop-cons bytes 2 0 (omega arith)
-      ∙ ap (λ (r : List ℕ). getD bytes 2 0 ∷ r) (drop-cons bytes 3 0 (omega arith)
-      ∙ ap (λ (r : List ℕ). getD bytes 3 0 ∷ r) (drop-cons bytes 4 0 (omega arith)
-      ∙ ap (λ (r : List ℕ). getD bytes 4 0 ∷ r) (drop-cons bytes 5 0 (omega arith)
-      ∙ ap (λ (r : List ℕ). getD bytes 5 0 ∷ r) (drop-cons bytes 6 0 (omega arith)
-      ∙ ap (λ (r : List ℕ). getD bytes 6 0 ∷ r) (drop-cons bytes 7 0 (omega arith))))))))
+      ∙ ap (λ (r : List ℕ). get_or bytes 0 0 ∷ r) (drop-cons bytes 1 0 (omega arith)
+      ∙ ap (λ (r : List ℕ). get_or bytes 1 0 ∷ r) (drop-cons bytes 2 0 (omega arith)
+      ∙ ap (λ (r : List ℕ). get_or bytes 2 0 ∷ r) (drop-cons bytes 3 0 (omega arith)
+      ∙ ap (λ (r : List ℕ). get_or bytes 3 0 ∷ r) (drop-cons bytes 4 0 (omega arith)
+      ∙ ap (λ (r : List ℕ). get_or bytes 4 0 ∷ r) (drop-cons bytes 5 0 (omega arith)
+      ∙ ap (λ (r : List ℕ). get_or bytes 5 0 ∷ r) (drop-cons bytes 6 0 (omega arith)
+      ∙ ap (λ (r : List ℕ). get_or bytes 6 0 ∷ r) (drop-cons bytes 7 0 (omega arith))))))))
 
   -- the tables
-  finite-part : (at n : ℕ) → FiniteTo (numbersIn n (drop at bytes)) n → Finite64 (numbersIn n (drop at bytes))
-  finite-part at n f =
-      let e = length-numbers n (drop at bytes) in
-      record { finite64 = λ i l. f i (omega arith); binary = λ i l. rw (number-at bytes at n i (omega arith)) (ofBits-fits binary64 _) }
+  finite_part : (at n : ℕ) → FiniteTo (numbers_in n (drop at bytes)) n → Finite64 (numbers_in n (drop at bytes))
+  finite_part at n f =
+      let e = length_numbers n (drop at bytes) in
+      record { finite64 = λ i l. f i (omega arith); binary = λ i l. rw (number_at bytes at n i (omega arith)) (of_bits-fits binary64 _) }
 
-  pub sound-in : SoundSheet (sheetIn bytes)
-  unfolding transitionsIn statesIn
-  sound-in =
+  pub sound_in : SoundSheet (sheet_in bytes)
+  unfolding transitions_in_of states_in_of
+  sound_in =
       record {
-        labels-in = right .in-bounds .labels;
-        words-in = right .in-bounds .words;
-        all-transitions = length-numbers _ _;
-        all-states = length-numbers _ _;
-        finite-transitions = finite-part 8 _ (right .finite-transitions);
-        finite-states = finite-part (statesFrom bytes) _ (right .finite-states);
+        labels_in = right.in_bounds.labels;
+        words_in_lem = right.in_bounds.words;
+        all_transitions = length_numbers _ _;
+        all_states = length_numbers _ _;
+        finite_transitions = finite_part 8 _ right.finite_transitions;
+        finite_states = finite_part (states_from_of bytes) _ right.finite_states;
       }
 
   -- a table's bytes
-  part-in : (at n : ℕ) → at + 8 * n ≤ length bytes → FiniteTo (numbersIn n (drop at bytes)) n → numberBytes (numbersIn n (drop at bytes)) ≡ take (8 * n) (drop at bytes)
-  part-in at n l f =
-      numbers-back n (drop at bytes) (rw (length-drop at bytes) (omega arith)) (drop-bytes at bytes (omega arith) all)
-      (λ i b. test-holds _ (f i b))
+  part_in : (at n : ℕ) → at + 8 * n ≤ length bytes → FiniteTo (numbers_in n (drop at bytes)) n → number_bytes (numbers_in n (drop at bytes)) ≡ take (8 * n) (drop at bytes)
+  part_in at n l f =
+      numbers_back n (drop at bytes) (rw (length-drop at bytes) (omega arith)) (drop_bytes at bytes (omega arith) all)
+      (λ i b. test_holds _ (f i b))
 
-  body-in : numberBytes (transitionsIn bytes) ++ numberBytes (statesIn bytes) ≡ drop 8 bytes
-  unfolding transitionsIn statesIn
-  body-in =
-      let n = labelsIn bytes * labelsIn bytes in
-      let m = wordsIn bytes * labelsIn bytes in
-      let e = right .right-length in
+  body_in : number_bytes (transitions_in_of bytes) ++ number_bytes (states_in_of bytes) ≡ drop 8 bytes
+  unfolding transitions_in_of states_in_of
+  body_in =
+      let n = labels_in_of bytes * labels_in_of bytes in
+      let m = words_in bytes * labels_in_of bytes in
+      let e = right.right_length in
       let d = length-drop (8 + 8 * n) bytes in
-      rw (part-in 8 n (omega arith) (right .finite-transitions), part-in (8 + 8 * n) m (omega arith) (right .finite-states), take-all (8 * m) (drop (8 + 8 * n) bytes) (omega arith), ← drop-drop (8 * n) 8 bytes)
+      rw (part_in 8 n (omega arith) right.finite_transitions, part_in (8 + 8 * n) m (omega arith) right.finite_states, take_all (8 * m) (drop (8 + 8 * n) bytes) (omega arith), ← drop-drop (8 * n) 8 bytes)
       (take-append-drop (8 * n) (drop 8 bytes))
 
-  pub encoded-in : encoded (sheetIn bytes) ≡ bytes
-  unfolding encoded littleEndian
-  encoded-in =
-      let h = right .in-bounds .head in
-      let l = h .whole in
-      let b5 = all .below 5 (omega arith) in
-      let b6 = all .below 6 (omega arith) in
-      let b7 = all .below 7 (omega arith) in
-      let e0 : getD bytes 0 0 ≡ 84 = mark-byte bytes 0 (omega arith) (h .marked) in
-      let e1 : getD bytes 1 0 ≡ 76 = mark-byte bytes 1 (omega arith) (h .marked) in
-      let e2 : getD bytes 2 0 ≡ 71 = mark-byte bytes 2 (omega arith) (h .marked) in
-      let e3 : getD bytes 3 0 ≡ 1 = omega (arith, h .version) in
-      let e4 : getD bytes 4 0 ≡ 0 = omega (arith, h .version) in
-      let e5 : labelsIn bytes % 256 ≡ getD bytes 5 0 = omega arith in
-      let e6 : wordsIn bytes % 256 ≡ getD bytes 6 0 = omega arith in
-      let e7 : wordsIn bytes / 256 % 256 ≡ getD bytes 7 0 = omega arith in
-      sym (eight ∙ rw (e0, e1, e2, e3, e4, e5, e6, e7, body-in))
+  pub encoded_in : encoded (sheet_in bytes) ≡ bytes
+  unfolding encoded little_endian
+  encoded_in =
+      let h = right.in_bounds.head in
+      let l = h.whole in
+      let b5 = all.below 5 (omega arith) in
+      let b6 = all.below 6 (omega arith) in
+      let b7 = all.below 7 (omega arith) in
+      let e0 : get_or bytes 0 0 ≡ 84 = mark_byte bytes 0 (omega arith) h.marked in
+      let e1 : get_or bytes 1 0 ≡ 76 = mark_byte bytes 1 (omega arith) h.marked in
+      let e2 : get_or bytes 2 0 ≡ 71 = mark_byte bytes 2 (omega arith) h.marked in
+      let e3 : get_or bytes 3 0 ≡ 1 = omega (arith, h.version) in
+      let e4 : get_or bytes 4 0 ≡ 0 = omega (arith, h.version) in
+      let e5 : labels_in_of bytes % 256 ≡ get_or bytes 5 0 = omega arith in
+      let e6 : words_in bytes % 256 ≡ get_or bytes 6 0 = omega arith in
+      let e7 : words_in bytes / 256 % 256 ≡ get_or bytes 7 0 = omega arith in
+      sym (eight ∙ rw (e0, e1, e2, e3, e4, e5, e6, e7, body_in))
 
-pub right-files : RightFilesAreSheets
-right-files bytes all = (
-  λ right. (sheetIn bytes, sound-in bytes all right, sym (encoded-in bytes all right)),
-  λ w. rw (w .2) (right-file (w .0) (w .1)),
+pub right_files : RightFilesAreSheets
+right_files bytes all = (
+  λ right. (sheet_in bytes, sound_in bytes all right, sym (encoded_in bytes all right)),
+  λ w. rw w.2 (right_file w.0 w.1),
 )
 
 -- what was read is the sheet that the bytes say
-read-in : (bytes : List ℕ) (before : Lent) (outcome : Outcome) → sheetChecked (record { bytes = bytes }) before ≡ Accepted → Promised (record { bytes = bytes }) before outcome → ReadFrom (sheetIn bytes) before outcome
-unfolding answerTo transitionsAfter statesAfter
-read-in bytes before outcome h p =
-    record { answers = p .answers ∙ rw h; fills-transitions = p .fills-transitions ∙ rw h; fills-states = p .fills-states ∙ rw h }
+read_in : (bytes : List ℕ) (before : Lent) (outcome : Outcome) → sheet_checked (record { bytes = bytes }) before ≡ Accepted → Promised (record { bytes = bytes }) before outcome → ReadFrom (sheet_in bytes) before outcome
+unfolding answer_to transitions_after states_after
+read_in bytes before outcome h p =
+    record { answers = p.answers ∙ rw h; fills_transitions = p.fills_transitions ∙ rw h; fills_states = p.fills_states ∙ rw h }
 
 -- what is read was accepted
-pub accepted-if-read : (given : Given) (before : Lent) (labels words : ℕ) → answerTo given before ≡ read labels words → sheetChecked given before ≡ Accepted
-unfolding answerTo
-accepted-if-read given before labels words h = go (sheetChecked given before) h
+pub accepted_if_read : (given : Given) (before : Lent) (labels words : ℕ) → answer_to given before ≡ read labels words → sheet_checked given before ≡ Accepted
+unfolding answer_to
+accepted_if_read given before labels words h = go (sheet_checked given before) h
   where
-    go : (c : Checked) → answerBy c (given .bytes) ≡ read labels words → c ≡ Accepted
+    go : (c : Checked) → answer_by c given.bytes ≡ read labels words → c ≡ Accepted
     go Accepted e = refl
-    go (Refused why) e = let z : _≡_ {A = ℕ} 0 1 = cc in absurd (omega arith)
+    go (Refused why) e = let z : ◌≡◌ {A = ℕ} 0 1 = cc in absurd (omega arith)
 
-only-files : (given : Given) → Bytes (given .bytes) → (before : Lent) (outcome : Outcome) → Promised given before outcome → (labels words : ℕ) → said (outcome .answer) ≡ read labels words → (s : Sheet) × SoundSheet s × (given .bytes ≡ encoded s) × SheetRoom s before × ReadFrom s before outcome
-only-files given all before outcome p labels words e =
-    let h = accepted-if-read given before labels words (sym (p .answers) ∙ e) in
-    let a = sheets-mean given before .accepted .0 h in (
-      sheetIn (given .bytes),
-      sound-in (given .bytes) all (a .0),
-      sym (encoded-in (given .bytes) all (a .0)),
-      record { long-transitions = a .1 .0; long-states = a .1 .1 .0 },
-      read-in (given .bytes) before outcome h p,
+only_files : (given : Given) → Bytes given.bytes → (before : Lent) (outcome : Outcome) → Promised given before outcome → (labels words : ℕ) → said outcome.answer ≡ read labels words → (s : Sheet) × SoundSheet s × (given.bytes ≡ encoded s) × SheetRoom s before × ReadFrom s before outcome
+only_files given all before outcome p labels words e =
+    let h = accepted_if_read given before labels words (sym p.answers ∙ e) in
+    let a = (sheets_mean given before).accepted.0 h in (
+      sheet_in given.bytes,
+      sound_in given.bytes all a.0,
+      sym (encoded_in given.bytes all a.0),
+      record { long_transitions = a.1.0; long_states = a.1.1.0 },
+      read_in given.bytes before outcome h p,
     )
 
-pub exactly-the-files : ExactlyTheFiles
-exactly-the-files = record { every = file-read; only = only-files }
+pub exactly_the_files : ExactlyTheFiles
+exactly_the_files = record { every = file_read; only = only_files }

@@ -1,32 +1,32 @@
 -- The promise, by the two answers. Assumes nothing.
-use mathlib.Core.Path.{_≡_, _∙_}
+use mathlib.Core.Path.{◌≡◌, ◌∙◌}
 use mathlib.Core.List.{List}
-use Prim.Native.Nat.{ℕ, _*_}
-use Rattle·refusals.specs.declared.Refusal.{Refusal}
-use Rattle·refusals.specs.declared.Checked.the-variants.{Accepted, Refused}
-use Rattle·sheet·specs.specs.Fields.{labelsIn, wordsIn, transitionsIn, statesIn}
-use Rattle·sheet·proofs.proofs.Bytes.{length-numbers}
-use Rattle·sheet·specs.specs.Rows.{Lent, sheetChecked}
-use Rattle·sheet·specs.specs.Steps.{filled}
-use Rattle·sheet·specs.specs.Promise.{Outcome, said, read, answerTo, transitionsAfter, statesAfter, Promised}
-use Rattle·sheet·specs.specs.declared.Reading.{Reading}
-use Rattle·sheet·proofs.proofs.Laws.{filled-all}
+use Prim.Native.Nat.{ℕ, ◌*◌}
+use Rattle.refusals.specs.declared.Refusal.{Refusal}
+use Rattle.refusals.specs.declared.Checked.TheVariants.{Accepted, Refused}
+use Rattle.sheet.specs.Fields.{labels_in_of, words_in, transitions_in_of, states_in_of}
+use Rattle.sheet.proofs.Bytes.{length_numbers}
+use Rattle.sheet.specs.Rows.{Lent, sheet_checked}
+use Rattle.sheet.specs.Steps.{filled}
+use Rattle.sheet.specs.Promise.{Outcome, said, read, answer_to, transitions_after, states_after, Promised}
+use Rattle.sheet.specs.declared.Reading.{Reading}
+use Rattle.sheet.proofs.Laws.{filled_all}
 
 module _ (bytes : List ℕ) (before : Lent) where
-  pub promised-refused : (why : Refusal) → sheetChecked (record { bytes = bytes }) before ≡ Refused why → Promised (record { bytes = bytes }) before (record { answer = Reading.Refused why; transitions = before .transitions; states = before .states })
-  unfolding answerTo transitionsAfter statesAfter
-  promised-refused why h = record { answers = rw h; fills-transitions = rw h; fills-states = rw h }
+  pub promised_refused : (why : Refusal) → sheet_checked (record { bytes = bytes }) before ≡ Refused why → Promised (record { bytes = bytes }) before (record { answer = Reading.Refused why; transitions = before.transitions; states = before.states })
+  unfolding answer_to transitions_after states_after
+  promised_refused why h = record { answers = rw h; fills_transitions = rw h; fills_states = rw h }
 
-  pub promised-read : (o : Outcome) →
-      sheetChecked (record { bytes = bytes }) before ≡ Accepted →
-      said (o .answer) ≡ read (labelsIn bytes) (wordsIn bytes) →
-      o .transitions ≡ filled (transitionsIn bytes) (labelsIn bytes * labelsIn bytes) (before .transitions) →
-      o .states ≡ filled (statesIn bytes) (wordsIn bytes * labelsIn bytes) (before .states) →
+  pub promised_read : (o : Outcome) →
+      sheet_checked (record { bytes = bytes }) before ≡ Accepted →
+      said o.answer ≡ read (labels_in_of bytes) (words_in bytes) →
+      o.transitions ≡ filled (transitions_in_of bytes) (labels_in_of bytes * labels_in_of bytes) before.transitions →
+      o.states ≡ filled (states_in_of bytes) (words_in bytes * labels_in_of bytes) before.states →
       Promised (record { bytes = bytes }) before o
-  unfolding answerTo transitionsAfter statesAfter transitionsIn statesIn
-  promised-read o h a t s =
+  unfolding answer_to transitions_after states_after transitions_in_of states_in_of
+  promised_read o h a t s =
       record {
         answers = rw h a;
-        fills-transitions = rw h (t ∙ filled-all _ _ _ (length-numbers _ _));
-        fills-states = rw h (s ∙ filled-all _ _ _ (length-numbers _ _));
+        fills_transitions = rw h (t ∙ filled_all _ _ _ (length_numbers _ _));
+        fills_states = rw h (s ∙ filled_all _ _ _ (length_numbers _ _));
       }

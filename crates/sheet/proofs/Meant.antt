@@ -1,36 +1,36 @@
 -- What `read_sheet` answers means what its rows mean. Assumes nothing.
-use mathlib.Core.Path.{_≡_, sym, _∙_, ap}
+use mathlib.Core.Path.{◌≡◌, sym, ◌∙◌, ap}
 use mathlib.Core.List.{List}
-use mathlib.Core.Logic.{_↔_}
+use mathlib.Core.Logic.{◌↔◌}
 use Prim.Native.Nat.{ℕ}
-use Rattle·refusals.specs.declared.Checked.{Checked}
-use Rattle·refusals.specs.declared.Checked.the-variants.{Accepted}
-use Rattle·refusals.specs.Refusals.{numberedIn, refusedIn}
-use Rattle·refusals.specs.Said.{Said, refused}
-use Rattle·refusals.proofs.Said.{refused-said, accepted-said}
-use Rattle·sheet·specs.specs.Fields.{labelsIn, wordsIn}
-use Rattle·sheet·specs.specs.Rows.{sheetChecked}
-use Rattle·sheet·specs.specs.Promise.{LabelsAndWords, read, answerBy, answerTo}
-use Rattle·sheet·specs.specs.Meaning.{ReadingMeans}
-use Rattle·sheet·proofs.proofs.RowsMeant.{sheets-mean, said-so}
+use Rattle.refusals.specs.declared.Checked.{Checked}
+use Rattle.refusals.specs.declared.Checked.TheVariants.{Accepted}
+use Rattle.refusals.specs.Refusals.{numbered_in_of, refused_in_of}
+use Rattle.refusals.specs.Said.{Said, refused}
+use Rattle.refusals.proofs.Said.{refused_said, accepted_said}
+use Rattle.sheet.specs.Fields.{labels_in_of, words_in}
+use Rattle.sheet.specs.Rows.{sheet_checked}
+use Rattle.sheet.specs.Promise.{LabelsAndWords, read, answer_by, answer_to}
+use Rattle.sheet.specs.Meaning.{ReadingMeans}
+use Rattle.sheet.proofs.RowsMeant.{sheets_mean, said_so}
 
 -- what is said, by what the rows give
-module _ (bytes : List ℕ) (said : Said LabelsAndWords) (c : Checked) (e : said ≡ answerBy c bytes) where
+module _ (bytes : List ℕ) (said : Said LabelsAndWords) (c : Checked) (e : said ≡ answer_by c bytes) where
   abbrev sizes : LabelsAndWords
-  sizes = record { labels = labelsIn bytes; words = wordsIn bytes }
+  sizes = record { labels = labels_in_of bytes; words = words_in bytes }
 
-  pub refused-by : (number table place : ℕ) → said ≡ refused (numberedIn number table place) ↔ c ≡ refusedIn number table place
-  refused-by number table place = (
-    λ h. refused-said sizes c (numberedIn number table place) .0 (sym e ∙ h),
-    λ h. e ∙ refused-said sizes c (numberedIn number table place) .1 h,
+  pub refused_by : (number table place : ℕ) → said ≡ refused (numbered_in_of number table place) ↔ c ≡ refused_in_of number table place
+  refused_by number table place = (
+    λ h. (refused_said sizes c (numbered_in_of number table place)).0 (sym e ∙ h),
+    λ h. e ∙ (refused_said sizes c (numbered_in_of number table place)).1 h,
   )
 
-  read-by : said ≡ read (labelsIn bytes) (wordsIn bytes) ↔ c ≡ Accepted
-  read-by = (λ h. accepted-said sizes sizes c (sym e ∙ h), λ h. e ∙ ap (λ (c : Checked). answerBy c bytes) h)
+  read_by : said ≡ read (labels_in_of bytes) (words_in bytes) ↔ c ≡ Accepted
+  read_by = (λ h. accepted_said sizes sizes c (sym e ∙ h), λ h. e ∙ ap (λ (c : Checked). answer_by c bytes) h)
 
-pub reading-means : ReadingMeans
-unfolding answerTo
-reading-means given before outcome p =
-    said-so (sheets-mean given before)
-    (refused-by (given .bytes) _ (sheetChecked given before) (p .answers))
-    (read-by (given .bytes) _ (sheetChecked given before) (p .answers))
+pub reading_means : ReadingMeans
+unfolding answer_to
+reading_means given before outcome p =
+    said_so (sheets_mean given before)
+    (refused_by given.bytes _ (sheet_checked given before) p.answers)
+    (read_by given.bytes _ (sheet_checked given before) p.answers)

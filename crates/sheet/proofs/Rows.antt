@@ -1,91 +1,91 @@
 -- The rows of the sheet as the inner functions take them, and what a sheet that they accept gives. Assumes nothing.
-use mathlib.Core.Path.{_≡_, refl, sym, _∙_, ap}
-use mathlib.Core.List.{List, [], _∷_, _++_}
-use Prim.Native.Nat.{ℕ, _*_, _≤_}
+use mathlib.Core.Path.{◌≡◌, refl, sym, ◌∙◌, ap}
+use mathlib.Core.List.{List, [], ◌∷◌, ◌++◌}
+use Prim.Native.Nat.{ℕ, ◌*◌, ◌≤◌}
 use borrow.Author.Tests.{ltb-false, eqb-true, not-false}
 use lib.ListN.{length}
-use Rattle·refusals.specs.declared.Refusal.{Refusal}
-use Rattle·refusals.specs.declared.Checked.{Checked}
-use Rattle·refusals.specs.declared.Checked.the-variants.{Accepted, Refused}
-use Rattle·refusals.specs.Refusals.{refuse, orNext, first}
-use Rattle·refusals.specs.Tables.{numbersChecked}
-use Rattle·refusals.specs.Bounds.{tablePosition, transitionTable, stateTable}
-use Rattle·refusals.proofs.Laws.{settled, both, all-accepted, neither, passes}
-use Rattle·score_tables.specs.Rows.{one, four, boundsChecked}
-use Rattle·refusal_rows.specs.Limits.{limitChecks}
-use Rattle·score_tables.specs.Sound.{ScoresSized}
-use Rattle·score_tables.proofs.Laws.{sized}
-use Rattle·score_tables.proofs.Meant.{finite-to}
-use Rattle·fronts.specs.Finite.{FiniteTo}
-use Rattle·sheet·specs.specs.Fields.{labelsIn, wordsIn, wholeLength, transitionsIn, statesIn}
-use Rattle·sheet·specs.specs.Rows.{Lent, wrongHead, wrongLength, headRows, sizeRows, entryRows, fileSized, fileChecked, tableRooms, tablesShort, sheetChecked}
+use Rattle.refusals.specs.declared.Refusal.{Refusal}
+use Rattle.refusals.specs.declared.Checked.{Checked}
+use Rattle.refusals.specs.declared.Checked.TheVariants.{Accepted, Refused}
+use Rattle.refusals.specs.Refusals.{refuse, or_next_of, first}
+use Rattle.refusals.specs.Tables.{numbers_checked}
+use Rattle.refusals.specs.Bounds.{table_position, transition_table, state_table}
+use Rattle.refusals.proofs.Laws.{settled, both, all_accepted, neither, passes}
+use Rattle.score_tables.specs.Rows.{one, four, bounds_checked}
+use Rattle.refusal_rows.specs.Limits.{limit_checks}
+use Rattle.score_tables.specs.Sound.{ScoresSized}
+use Rattle.score_tables.proofs.Laws.{sized}
+use Rattle.score_tables.proofs.Meant.{finite_to}
+use Rattle.fronts.specs.Finite.{FiniteTo}
+use Rattle.sheet.specs.Fields.{labels_in_of, words_in, whole_length_of, transitions_in_of, states_in_of}
+use Rattle.sheet.specs.Rows.{Lent, wrong_head, wrong_length, head_rows, size_rows, entry_rows, file_sized, file_checked, table_rooms, tables_short, sheet_checked}
 
 -- the answer so far, then two checks that were put together
-pub together : (answer check next : Checked) → orNext answer (orNext check next) ≡ orNext (orNext answer check) next
-unfolding orNext
+pub together : (answer check next : Checked) → or_next_of answer (or_next_of check next) ≡ or_next_of (or_next_of answer check) next
+unfolding or_next_of
 together Accepted check next = refl
 together (Refused why) check next = refl
 
 -- a head that is accepted has its eight bytes
-long-head : (bytes : List ℕ) → refuse 10 0 (wrongHead bytes) ≡ Accepted → 8 ≤ length bytes
-long-head bytes h = ltb-false (length bytes) 8 (neither _ _ (neither _ _ (neither _ _ (neither _ _ (passes 10 0 (wrongHead bytes) h) .0) .0) .0) .0)
+long_head : (bytes : List ℕ) → refuse 10 0 (wrong_head bytes) ≡ Accepted → 8 ≤ length bytes
+long_head bytes h = ltb-false (length bytes) 8 (neither _ _ (neither _ _ (neither _ _ (neither _ _ (passes 10 0 (wrong_head bytes) h)).0).0).0).0
 
 -- the rows as far as 4
-unfoldable pub headChecked : List ℕ → Checked
-headChecked bytes = first (headRows bytes)
+unfoldable pub head_checked : List ℕ → Checked
+head_checked bytes = first (head_rows bytes)
 
 module _ (bytes : List ℕ) (room : Checked) where
   -- a refusal of the head is the file's
-  pub head-refused : (why : Refusal) → headChecked bytes ≡ Refused why → Refused why ≡ fileSized bytes room
-  unfolding headChecked fileSized
-  head-refused why h = sym (settled _ (sizeRows bytes room) why h)
+  pub head_refused : (why : Refusal) → head_checked bytes ≡ Refused why → Refused why ≡ file_sized bytes room
+  unfolding head_checked file_sized
+  head_refused why h = sym (settled _ (size_rows bytes room) why h)
 
   -- 1 and 4 as one check
-  pub sizes-in-order : first (orNext Accepted (refuse 10 0 (wrongHead bytes)) ∷ boundsChecked (labelsIn bytes) (wordsIn bytes) ∷ room ∷ orNext Accepted (refuse 10 0 (wrongLength bytes)) ∷ []) ≡ fileSized bytes room
-  unfolding fileSized orNext
-  sizes-in-order = ap (λ (c : Checked). orNext (orNext c room) (refuse 10 0 (wrongLength bytes))) (together (refuse 10 0 (wrongHead bytes)) (one (labelsIn bytes)) (four (wordsIn bytes)))
+  pub sizes_in_order : first (or_next_of Accepted (refuse 10 0 (wrong_head bytes)) ∷ bounds_checked (labels_in_of bytes) (words_in bytes) ∷ room ∷ or_next_of Accepted (refuse 10 0 (wrong_length bytes)) ∷ []) ≡ file_sized bytes room
+  unfolding file_sized or_next_of
+  sizes_in_order = ap (λ (c : Checked). or_next_of (or_next_of c room) (refuse 10 0 (wrong_length bytes))) (together (refuse 10 0 (wrong_head bytes)) (one (labels_in_of bytes)) (four (words_in bytes)))
 
   -- a refusal of the sizes is the file's
-  pub sizes-refused : (why : Refusal) → fileSized bytes room ≡ Refused why → Refused why ≡ fileChecked bytes room
-  unfolding fileSized fileChecked
-  sizes-refused why h = sym (settled _ (entryRows bytes) why h)
+  pub sizes_refused : (why : Refusal) → file_sized bytes room ≡ Refused why → Refused why ≡ file_checked bytes room
+  unfolding file_sized file_checked
+  sizes_refused why h = sym (settled _ (entry_rows bytes) why h)
 
-  pub sizes-passed : orNext (orNext (fileSized bytes room) (numbersChecked (tablePosition transitionTable) (transitionsIn bytes) (labelsIn bytes * labelsIn bytes))) (numbersChecked (tablePosition stateTable) (statesIn bytes) (wordsIn bytes * labelsIn bytes)) ≡ fileChecked bytes room
-  unfolding fileSized fileChecked
-  sizes-passed = refl
+  pub sizes_passed : or_next_of (or_next_of (file_sized bytes room) (numbers_checked (table_position transition_table) (transitions_in_of bytes) (labels_in_of bytes * labels_in_of bytes))) (numbers_checked (table_position state_table) (states_in_of bytes) (words_in bytes * labels_in_of bytes)) ≡ file_checked bytes room
+  unfolding file_sized file_checked
+  sizes_passed = refl
 
 module _ (bytes : List ℕ) (before : Lent) where
   -- what accepted sizes give
   pub record Sizes : Type 0 where
     pub long : 8 ≤ length bytes
-    pub room : ScoresSized (labelsIn bytes) (wordsIn bytes) (before .transitions) (before .states)
-    pub exact : length bytes ≡ wholeLength bytes
+    pub room : ScoresSized (labels_in_of bytes) (words_in bytes) before.transitions before.states
+    pub exact : length bytes ≡ whole_length_of bytes
 
-  pub sizes : fileSized bytes (tablesShort bytes before) ≡ Accepted → Sizes
-  unfolding fileSized
+  pub sizes : file_sized bytes (tables_short bytes before) ≡ Accepted → Sizes
+  unfolding file_sized
   sizes h =
-      let a = all-accepted Accepted (headRows bytes ++ sizeRows bytes (tablesShort bytes before)) h .1 in
+      let a = (all_accepted Accepted (head_rows bytes ++ size_rows bytes (tables_short bytes before)) h).1 in
       record {
-        long = long-head bytes (a .0);
-        room = sized 1 (a .1 .0) (a .1 .1 .0) (all-accepted Accepted (limitChecks (tableRooms bytes before)) (a .1 .1 .1 .0) .1);
-        exact = eqb-true (length bytes) (wholeLength bytes) (not-false _ (passes 10 0 (wrongLength bytes) (a .1 .1 .1 .1 .0)));
+        long = long_head bytes a.0;
+        room = sized 1 a.1.0 a.1.1.0 (all_accepted Accepted (limit_checks (table_rooms bytes before)) a.1.1.1.0).1;
+        exact = eqb-true (length bytes) (whole_length_of bytes) (not-false _ (passes 10 0 (wrong_length bytes) a.1.1.1.1.0));
       }
 
   -- what an accepted sheet gives
   pub record Accepts : Type 0 where
-    pub sizes-in : Sizes
-    pub transitions-in : numbersChecked (tablePosition transitionTable) (transitionsIn bytes) (labelsIn bytes * labelsIn bytes) ≡ Accepted
-    pub states-in : numbersChecked (tablePosition stateTable) (statesIn bytes) (wordsIn bytes * labelsIn bytes) ≡ Accepted
+    pub sizes_in : Sizes
+    pub transitions_in : numbers_checked (table_position transition_table) (transitions_in_of bytes) (labels_in_of bytes * labels_in_of bytes) ≡ Accepted
+    pub states_in : numbers_checked (table_position state_table) (states_in_of bytes) (words_in bytes * labels_in_of bytes) ≡ Accepted
 
-  pub accepts : sheetChecked (record { bytes = bytes }) before ≡ Accepted → Accepts
+  pub accepts : sheet_checked (record { bytes = bytes }) before ≡ Accepted → Accepts
   accepts h =
-      let b = both _ _ (sizes-passed bytes (tablesShort bytes before) ∙ h) in
-      let a = both _ _ (b .0) in
-      record { sizes-in = sizes (a .0); transitions-in = a .1; states-in = b .1 }
+      let b = both _ _ (sizes_passed bytes (tables_short bytes before) ∙ h) in
+      let a = both _ _ b.0 in
+      record { sizes_in = sizes a.0; transitions_in = a.1; states_in = b.1 }
 
   -- so every number that is read is finite
-  pub transitions-finite : Accepts → FiniteTo (transitionsIn bytes) (labelsIn bytes * labelsIn bytes)
-  transitions-finite a = finite-to (tablePosition transitionTable) (transitionsIn bytes) (labelsIn bytes * labelsIn bytes) (a .transitions-in)
+  pub transitions_finite : Accepts → FiniteTo (transitions_in_of bytes) (labels_in_of bytes * labels_in_of bytes)
+  transitions_finite a = finite_to (table_position transition_table) (transitions_in_of bytes) (labels_in_of bytes * labels_in_of bytes) a.transitions_in
 
-  pub states-finite : Accepts → FiniteTo (statesIn bytes) (wordsIn bytes * labelsIn bytes)
-  states-finite a = finite-to (tablePosition stateTable) (statesIn bytes) (wordsIn bytes * labelsIn bytes) (a .states-in)
+  pub states_finite : Accepts → FiniteTo (states_in_of bytes) (words_in bytes * labels_in_of bytes)
+  states_finite a = finite_to (table_position state_table) (states_in_of bytes) (words_in bytes * labels_in_of bytes) a.states_in

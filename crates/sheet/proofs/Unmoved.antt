@@ -1,22 +1,22 @@
 -- Nothing but 2 and the tables of 6 moved in the rows of a sheet. Assumes nothing.
-use mathlib.Core.List.{List, [], _∷_, _++_}
-use Rattle·refusals.specs.declared.Checked.{Checked}
-use Rattle·refusals.specs.Refusals.{first, refuse}
-use Rattle·refusal_rows.specs.Limits.{limitChecks}
-use Rattle·refusal_rows.specs.Tests.{checks}
-use Rattle·refusal_rows.specs.Before.{twoBefore, checksBefore}
-use Rattle·refusal_rows.proofs.Renumbered.{renumbered-same, renumbered-cons, renumbered-parts, limits-renumbered, tests-renumbered}
-use Rattle·sheet·specs.specs.Rows.{wrongLength, headRows, fileChecked}
-use Rattle·sheet·specs.specs.Before.{entryTests, NothingElseMoved}
+use mathlib.Core.List.{List, [], ◌∷◌, ◌++◌}
+use Rattle.refusals.specs.declared.Checked.{Checked}
+use Rattle.refusals.specs.Refusals.{first, refuse}
+use Rattle.refusal_rows.specs.Limits.{limit_checks}
+use Rattle.refusal_rows.specs.Tests.{checks}
+use Rattle.refusal_rows.specs.Before.{two_before, checks_before}
+use Rattle.refusal_rows.proofs.Renumbered.{renumbered_same, renumbered_cons, renumbered_parts, limits_renumbered, tests_renumbered}
+use Rattle.sheet.specs.Rows.{wrong_length, head_rows, file_checked}
+use Rattle.sheet.specs.Before.{entry_tests, NothingElseMoved}
 
-pub nothing-else-moved : NothingElseMoved
-unfolding fileChecked
-nothing-else-moved bytes rooms =
-    let tests = entryTests bytes in
-    let size : Checked = refuse 10 0 (wrongLength bytes) in
-    let olds : List Checked = size ∷ checksBefore tests in
+pub nothing_else_moved : NothingElseMoved
+unfolding file_checked
+nothing_else_moved bytes rooms =
+    let tests = entry_tests bytes in
+    let size : Checked = refuse 10 0 (wrong_length bytes) in
+    let olds : List Checked = size ∷ checks_before tests in
     let news : List Checked = size ∷ checks tests in
-    renumbered-parts (headRows bytes) (headRows bytes) (twoBefore rooms ∷ olds) (first (limitChecks rooms) ∷ news)
-    (renumbered-same (first (headRows bytes)))
-    (renumbered-cons (twoBefore rooms) (first (limitChecks rooms)) olds news (limits-renumbered rooms)
-    (renumbered-cons size size (checksBefore tests) (checks tests) (renumbered-same size) (tests-renumbered tests)))
+    renumbered_parts (head_rows bytes) (head_rows bytes) (two_before rooms ∷ olds) (first (limit_checks rooms) ∷ news)
+    (renumbered_same (first (head_rows bytes)))
+    (renumbered_cons (two_before rooms) (first (limit_checks rooms)) olds news (limits_renumbered rooms)
+    (renumbered_cons size size (checks_before tests) (checks tests) (renumbered_same size) (tests_renumbered tests)))

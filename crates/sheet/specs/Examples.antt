@@ -1,12 +1,9 @@
 -- Document 01's case P4 as a file, computed. Assumes nothing.
-use mathlib.Core.Path.{_≡_, refl}
-use mathlib.Core.Bool.{false}
-use mathlib.Core.List.{[], _∷_}
-use lib.IntN.{pos}
-use lib.ListN.{length, take}
-use lib.Ieee.{fin, toBits}
-use Rattle·binary64.specs.Numbers.{nought}
-use Rattle·sheet·specs.specs.File.{Sheet, littleEndian, numberBytes, encoded}
+use Rattle.std.specs.Prelude.{◌≡◌, refl, false, [], ◌∷◌, pos, length, take}
+use Rattle.std.specs.Float.{fin}
+use Rattle.std.specs.Float.Ieee.{to_bits}
+use Rattle.binary64.specs.Numbers.{nought}
+use Rattle.sheet.specs.File.{Sheet, little_endian, number_bytes, encoded}
 
 -- "P4: L=2, T=2, states 1,0 / 0,0, transitions 0,2 / 0,0"
 abbrev p4 : Sheet
@@ -19,10 +16,10 @@ p4 = record {
 
 -- "For case P4 the input has 72 bytes"
 long : length (encoded p4) ≡ 72
-unfolding encoded numberBytes littleEndian toBits
+unfolding encoded number_bytes little_endian to_bits
 long = refl
 
 -- "the head being `54 4C 47 01 00 02 02 00`"
 head : take 8 (encoded p4) ≡ 0x54 ∷ 0x4C ∷ 0x47 ∷ 0x01 ∷ 0x00 ∷ 0x02 ∷ 0x02 ∷ 0x00 ∷ []
-unfolding encoded numberBytes littleEndian toBits
+unfolding encoded number_bytes little_endian to_bits
 head = refl

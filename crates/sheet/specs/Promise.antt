@@ -1,16 +1,12 @@
 -- What `read_sheet` promises: document 01's answer to the bytes, and what the two lent tables hold afterwards. Assumes nothing.
-use mathlib.Core.Path.{_≡_}
-use mathlib.Core.List.{List, _++_}
-use Prim.Native.Nat.{ℕ}
-use lib.ListN.{length, drop}
-use lib.Ieee.{Float}
-use Rattle·refusals.specs.declared.Checked.{Checked}
-use Rattle·refusals.specs.declared.Checked.the-variants.{Accepted, Refused}
-use Rattle·refusals.specs.Said.{Said, accepted, refused, orRefused}
-use Rattle·sheet·specs.specs.Fields.{labelsIn, wordsIn, transitionsIn, statesIn}
-use Rattle·sheet·specs.specs.Rows.{Given, Lent, sheetChecked}
-use Rattle·sheet·specs.specs.declared.Reading.{Reading}
-use Rattle·sheet·specs.specs.declared.Reading.the-variants.{Read, Refused as ReadRefused}
+use Rattle.std.specs.Prelude.{◌≡◌, List, ◌++◌, ℕ, length, drop, Float}
+use Rattle.refusals.specs.declared.Checked.{Checked}
+use Rattle.refusals.specs.declared.Checked.TheVariants.{Accepted, Refused}
+use Rattle.refusals.specs.Said.{Said, accepted, refused, or_refused}
+use Rattle.sheet.specs.Fields.{labels_in_of, words_in, transitions_in_of, states_in_of}
+use Rattle.sheet.specs.Rows.{Given, Lent, sheet_checked}
+use Rattle.sheet.specs.declared.Reading.{Reading}
+use Rattle.sheet.specs.declared.Reading.TheVariants.{Read, Refused as ReadRefused}
 
 -- the answer, and what the lent tables hold afterwards
 pub record Outcome : Type 0 where
@@ -32,28 +28,28 @@ said (Read labels words) = read labels words
 said (ReadRefused why) = refused why
 
 -- the refusal of the first row that refuses, or else L and T
-abbrev pub answerBy : Checked → List ℕ → Said LabelsAndWords
-answerBy checked bytes = orRefused checked (read (labelsIn bytes) (wordsIn bytes))
+abbrev pub answer_by : Checked → List ℕ → Said LabelsAndWords
+answer_by checked bytes = or_refused checked (read (labels_in_of bytes) (words_in bytes))
 
 -- "After 1 to 7 and 10 every lent buffer holds its entry contents", and 12 "like it, leaves every lent buffer as at entry"; else a table has the file's numbers in front, and its tail is unchanged
-abbrev pub tableBy : Checked → List Float → List Float → List Float
-tableBy Accepted table before = table ++ drop (length table) before
-tableBy (Refused why) table before = before
+abbrev pub table_by : Checked → List Float → List Float → List Float
+table_by Accepted table before = table ++ drop (length table) before
+table_by (Refused why) table before = before
 
-unfoldable pub answerTo : Given → Lent → Said LabelsAndWords
-answerTo given before = answerBy (sheetChecked given before) (given .bytes)
+unfoldable pub answer_to : Given → Lent → Said LabelsAndWords
+answer_to given before = answer_by (sheet_checked given before) given.bytes
 
-unfoldable pub transitionsAfter : Given → Lent → List Float
-transitionsAfter given before = tableBy (sheetChecked given before) (transitionsIn (given .bytes)) (before .transitions)
+unfoldable pub transitions_after : Given → Lent → List Float
+transitions_after given before = table_by (sheet_checked given before) (transitions_in_of given.bytes) before.transitions
 
-unfoldable pub statesAfter : Given → Lent → List Float
-statesAfter given before = tableBy (sheetChecked given before) (statesIn (given .bytes)) (before .states)
+unfoldable pub states_after : Given → Lent → List Float
+states_after given before = table_by (sheet_checked given before) (states_in_of given.bytes) before.states
 
 -- the promise
 pub record Promised (given : Given) (before : Lent) (outcome : Outcome) : Type 0 where
-  pub answers : said (outcome .answer) ≡ answerTo given before
-  pub fills-transitions : outcome .transitions ≡ transitionsAfter given before
-  pub fills-states : outcome .states ≡ statesAfter given before
+  pub answers : said outcome.answer ≡ answer_to given before
+  pub fills_transitions : outcome.transitions ≡ transitions_after given before
+  pub fills_states : outcome.states ≡ states_after given before
 
 -- no two different outcomes satisfy it. The proof is in proofs/Once
 abbrev pub OnlyOne : Type 0

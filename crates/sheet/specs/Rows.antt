@@ -1,15 +1,10 @@
 -- Document 01, "Numbered refusals", row by row for a sheet, in the order of the sheet. Assumes nothing.
-use mathlib.Core.Bool.{Bool, not, _||_}
-use mathlib.Core.List.{List, [], _∷_, _++_}
-use Prim.Native.Nat.{ℕ, _*_}
-use lib.Dec.{ltb, eqb}
-use lib.ListN.{length, getD}
-use lib.Ieee.{Float}
-use Rattle·refusals.specs.declared.Checked.{Checked}
-use Rattle·refusals.specs.Refusals.{first, refuse}
-use Rattle·score_tables.specs.Rows.{one, four, sixes}
-use Rattle·refusal_rows.specs.Limits.{Limit, room, limitChecks}
-use Rattle·sheet·specs.specs.Fields.{versionIn, labelsIn, wordsIn, wholeLength, transitionsIn, statesIn}
+use Rattle.std.specs.Prelude.{Bool, not, ◌||◌, List, [], ◌∷◌, ◌++◌, ℕ, ◌*◌, ltb, eqb, length, get_or, Float}
+use Rattle.refusals.specs.declared.Checked.{Checked}
+use Rattle.refusals.specs.Refusals.{first, refuse}
+use Rattle.score_tables.specs.Rows.{one, four, sixes}
+use Rattle.refusal_rows.specs.Limits.{Limit, room, limit_checks}
+use Rattle.sheet.specs.Fields.{version_in_of, labels_in_of, words_in, whole_length_of, transitions_in_of, states_in_of}
 
 -- what the call is given: the file's bytes
 pub record Given : Type 0 where
@@ -21,49 +16,49 @@ pub record Lent : Type 0 where
   pub states : List Float
 
 -- "wrong mark, version", or not "the eight bytes of head"
-abbrev pub wrongHead : List ℕ → Bool
-wrongHead bytes =
+abbrev pub wrong_head : List ℕ → Bool
+wrong_head bytes =
     ltb (length bytes) 8
-    || not (eqb (getD bytes 0 0) 84)
-    || not (eqb (getD bytes 1 0) 76)
-    || not (eqb (getD bytes 2 0) 71)
-    || not (eqb (versionIn bytes) 1)
+    || not (eqb (get_or bytes 0 0) 84)
+    || not (eqb (get_or bytes 1 0) 76)
+    || not (eqb (get_or bytes 2 0) 71)
+    || not (eqb (version_in_of bytes) 1)
 
 -- "wrong .. length": the head, the transitions and the states, "nothing after"
-abbrev pub wrongLength : List ℕ → Bool
-wrongLength bytes = not (eqb (length bytes) (wholeLength bytes))
+abbrev pub wrong_length : List ℕ → Bool
+wrong_length bytes = not (eqb (length bytes) (whole_length_of bytes))
 
 -- ---- the rows, in their order: "Check 10 on mark, version and the eight bytes of head, then 1, 4, then 10 on length, then 6"
 
 -- "10 on mark, version and the eight bytes of head, then 1, 4"
-abbrev pub headRows : List ℕ → List Checked
-headRows bytes = refuse 10 0 (wrongHead bytes) ∷ one (labelsIn bytes) ∷ four (wordsIn bytes) ∷ []
+abbrev pub head_rows : List ℕ → List Checked
+head_rows bytes = refuse 10 0 (wrong_head bytes) ∷ one (labels_in_of bytes) ∷ four (words_in bytes) ∷ []
 
 -- "then 10 on length"; 12, for what is lent, stands after 4
-abbrev pub sizeRows : List ℕ → Checked → List Checked
-sizeRows bytes short = short ∷ refuse 10 0 (wrongLength bytes) ∷ []
+abbrev pub size_rows : List ℕ → Checked → List Checked
+size_rows bytes short = short ∷ refuse 10 0 (wrong_length bytes) ∷ []
 
 -- "then 6"
-abbrev pub entryRows : List ℕ → List Checked
-entryRows bytes = sixes (labelsIn bytes) (wordsIn bytes) (transitionsIn bytes) (statesIn bytes)
+abbrev pub entry_rows : List ℕ → List Checked
+entry_rows bytes = sixes (labels_in_of bytes) (words_in bytes) (transitions_in_of bytes) (states_in_of bytes)
 
 -- as far as 10 on length, and all of them; 12 belongs to what a call is lent
-unfoldable pub fileSized : List ℕ → Checked → Checked
-fileSized bytes short = first (headRows bytes ++ sizeRows bytes short)
+unfoldable pub file_sized : List ℕ → Checked → Checked
+file_sized bytes short = first (head_rows bytes ++ size_rows bytes short)
 
-unfoldable pub fileChecked : List ℕ → Checked → Checked
-fileChecked bytes short = first (headRows bytes ++ (sizeRows bytes short ++ entryRows bytes))
+unfoldable pub file_checked : List ℕ → Checked → Checked
+file_checked bytes short = first (head_rows bytes ++ (size_rows bytes short ++ entry_rows bytes))
 
 -- ---- the reader's rows: 12 for the two tables that it is lent, "the buffer's position among the call's buffers": the bytes stand before them
 
-abbrev pub tableRooms : List ℕ → Lent → List Limit
-tableRooms bytes before =
-    room 1 (length (before .transitions)) (labelsIn bytes * labelsIn bytes)
-    ∷ room 2 (length (before .states)) (wordsIn bytes * labelsIn bytes)
+abbrev pub table_rooms : List ℕ → Lent → List Limit
+table_rooms bytes before =
+    room 1 (length before.transitions) (labels_in_of bytes * labels_in_of bytes)
+    ∷ room 2 (length before.states) (words_in bytes * labels_in_of bytes)
     ∷ []
 
-abbrev pub tablesShort : List ℕ → Lent → Checked
-tablesShort bytes before = first (limitChecks (tableRooms bytes before))
+abbrev pub tables_short : List ℕ → Lent → Checked
+tables_short bytes before = first (limit_checks (table_rooms bytes before))
 
-abbrev pub sheetChecked : Given → Lent → Checked
-sheetChecked given before = fileChecked (given .bytes) (tablesShort (given .bytes) before)
+abbrev pub sheet_checked : Given → Lent → Checked
+sheet_checked given before = file_checked given.bytes (tables_short given.bytes before)

@@ -1,8 +1,5 @@
 -- What the inner functions make: a table filled so far. Assumes nothing.
-use mathlib.Core.List.{List, _++_}
-use Prim.Native.Nat.{ℕ}
-use lib.ListN.{take, drop}
-use lib.Ieee.{Float}
+use Rattle.std.specs.Prelude.{List, ◌++◌, ℕ, take, drop, Float}
 
 -- the first n numbers of a table in front of what a buffer held past them
 unfoldable pub filled : List Float → ℕ → List Float → List Float

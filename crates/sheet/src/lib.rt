@@ -1,31 +1,29 @@
 // The sheet file: bytes into the score tables of one line, or a refusal that leaves the lent tables as they were.
-ghost use mathlib.Core.Path.{_≡_};
-ghost use mathlib.Core.List.{[], _∷_};
-ghost use Prim.Native.Nat.{_+_, _*_, _≤_, _<_};
-ghost use lib.ListN.{length, drop, getD, take};
-ghost use Rattle·refusals.specs.Refusals.{orNext, first};
-ghost use Rattle·refusals.specs.Tables.{numbersChecked};
-ghost use Rattle·fronts.specs.Finite.{FiniteTo};
-ghost use Rattle·sheet·specs.specs.Fields.{numbersIn, valueOf, versionIn, labelsIn, wordsIn, statesFrom, wholeLength};
-ghost use Rattle·sheet·specs.specs.Rows.{wrongHead, wrongLength, fileSized, tablesShort, sheetChecked};
-ghost use lib.Ieee.{binary64, ofBits};
-ghost use lib.Ieee.Scale.{finite};
-ghost use Rattle·sheet·specs.specs.Steps.{filled};
-ghost use Rattle·sheet·specs.specs.Promise.{Promised};
-use refusals::Checked;
-use refusals::Refusal;
+ghost use Rattle.std.specs.Prelude.{◌≡◌, [], ◌∷◌, ◌+◌, ◌*◌, ◌≤◌, ◌<◌, length, drop, get_or, take};
+ghost use Rattle.refusals.specs.Refusals.{or_next_of, first};
+ghost use Rattle.refusals.specs.Tables.{numbers_checked};
+ghost use Rattle.fronts.specs.Finite.{FiniteTo};
+ghost use Rattle.sheet.specs.Fields.{numbers_in, value_of, version_in_of, labels_in_of, words_in, states_from_of, whole_length_of};
+ghost use Rattle.sheet.specs.Rows.{wrong_head, wrong_length, file_sized, tables_short, sheet_checked};
+ghost use Rattle.std.specs.Float.{binary64};
+ghost use Rattle.std.specs.Float.Ieee.{of_bits};
+ghost use Rattle.std.specs.Float.Ieee.Scale.{finite};
+ghost use Rattle.sheet.specs.Steps.{filled};
+ghost use Rattle.sheet.specs.Promise.{Promised};
+
+use refusals::{Checked, Refusal};
 use score_tables::entries;
 
 fn wide(x: u8) -> u64
-    ensures { λ r. ⌜ (r ≡ x) × (r < 256) ⌝ }
+    ensures { (result ≡ x) × (result < 256) }
 {
     x as u64
 }
 
 // A number of 16 bits.
 pub fn half_at(bytes: &[u8], at: usize) -> u64
-    requires { ⌜ at + 2 ≤ length (now bytes) ⌝ }
-    ensures { λ r. ⌜ (r ≡ getD (now (bytes .entry)) at 0 + 256 * getD (now (bytes .entry)) (at + 1) 0) × (r < 65536) ⌝ }
+    requires { at + 2 ≤ length bytes.now }
+    ensures { (result ≡ get_or bytes.now at 0 + 256 * get_or bytes.now (at + 1) 0) × (result < 65536) }
 {
     let low = wide(bytes[at]);
     low + 256 * wide(bytes[at + 1])
@@ -33,8 +31,8 @@ pub fn half_at(bytes: &[u8], at: usize) -> u64
 
 // A number of 64 bits.
 pub fn word_at(bytes: &[u8], at: usize) -> u64
-    requires { ⌜ at + 8 ≤ length (now bytes) ⌝ }
-    ensures { λ r. ⌜ r ≡ valueOf (take 8 (drop at (now (bytes .entry)))) ⌝ }
+    requires { at + 8 ≤ length bytes.now }
+    ensures { result ≡ value_of (take 8 (drop at bytes.now)) }
 {
     let a = half_at(bytes, at);
     let b = half_at(bytes, at + 2);
@@ -45,33 +43,33 @@ pub fn word_at(bytes: &[u8], at: usize) -> u64
 
 // The pattern of a number that is neither a NaN nor an infinity: its exponent's field is not all ones.
 pub fn is_finite_pattern(pattern: u64) -> bool
-    ensures { λ r. ⌜ r ≡ finite (ofBits binary64 pattern) ⌝ }
+    ensures { result ≡ finite (of_bits binary64 pattern) }
 {
     pattern % 9223372036854775808 / 4503599627370496 != 2047
 }
 
 // A byte of the file; 0 past its end.
 pub fn byte_at(bytes: &[u8], at: usize) -> u64
-    ensures { λ r. ⌜ (r ≡ getD (now (bytes .entry)) at 0) × (r < 256) ⌝ }
+    ensures { (result ≡ get_or bytes.now at 0) × (result < 256) }
 {
     if at < bytes.len() { wide(bytes[at]) } else { 0 }
 }
 
 pub fn version_in(bytes: &[u8]) -> u64
-    ensures { λ r. ⌜ r ≡ versionIn (now (bytes .entry)) ⌝ }
+    ensures { result ≡ version_in_of bytes.now }
 {
     let low = byte_at(bytes, 3);
     low + 256 * byte_at(bytes, 4)
 }
 
 pub fn labels_in(bytes: &[u8]) -> u32
-    ensures { λ r. ⌜ (r ≡ labelsIn (now (bytes .entry))) × (r < 256) ⌝ }
+    ensures { (result ≡ labels_in_of bytes.now) × (result < 256) }
 {
     byte_at(bytes, 5) as u32
 }
 
 pub fn words_in(bytes: &[u8]) -> u32
-    ensures { λ r. ⌜ (r ≡ wordsIn (now (bytes .entry))) × (r < 65536) ⌝ }
+    ensures { (result ≡ words_in bytes.now) × (result < 65536) }
 {
     let low = byte_at(bytes, 6);
     (low + 256 * byte_at(bytes, 7)) as u32
@@ -79,7 +77,7 @@ pub fn words_in(bytes: &[u8]) -> u32
 
 // Where the states stand: after the head and the transitions.
 pub fn states_from(bytes: &[u8]) -> usize
-    ensures { λ r. ⌜ r ≡ statesFrom (now (bytes .entry)) ⌝ }
+    ensures { result ≡ states_from_of bytes.now }
 {
     let labels = labels_in(bytes) as usize;
     8 + 8 * (labels * labels)
@@ -87,7 +85,7 @@ pub fn states_from(bytes: &[u8]) -> usize
 
 // How long a file with this head has to be.
 pub fn whole_length(bytes: &[u8]) -> usize
-    ensures { λ r. ⌜ r ≡ wholeLength (now (bytes .entry)) ⌝ }
+    ensures { result ≡ whole_length_of bytes.now }
 {
     let labels = labels_in(bytes) as usize;
     let words = words_in(bytes) as usize;
@@ -96,7 +94,7 @@ pub fn whole_length(bytes: &[u8]) -> usize
 
 // 10 on mark, version and the eight bytes of head. The mark is `TLG`, in ASCII 84, 76, 71.
 fn is_wrong_head(bytes: &[u8]) -> bool
-    ensures { λ r. ⌜ r ≡ wrongHead (now (bytes .entry)) ⌝ }
+    ensures { result ≡ wrong_head bytes.now }
 {
     (bytes.len() < 8)
         | (byte_at(bytes, 0) != 84)
@@ -107,14 +105,14 @@ fn is_wrong_head(bytes: &[u8]) -> bool
 
 // 10 on length.
 fn is_wrong_length(bytes: &[u8]) -> bool
-    ensures { λ r. ⌜ r ≡ wrongLength (now (bytes .entry)) ⌝ }
+    ensures { result ≡ wrong_length bytes.now }
 {
     bytes.len() != whole_length(bytes)
 }
 
 // The rows of the sizes in their order: 10 on the head, 1 and 4, 12, 10 on length.
 fn in_order(head: Checked, bounds: Checked, room: Checked, length: Checked) -> Checked
-    ensures { λ r. ⌜ r ≡ first (head ∷ bounds ∷ room ∷ length ∷ []) ⌝ }
+    ensures { result ≡ first (head ∷ bounds ∷ room ∷ length ∷ []) }
 {
     let a = refusals::or_next(head, bounds);
     let b = refusals::or_next(a, room);
@@ -123,7 +121,7 @@ fn in_order(head: Checked, bounds: Checked, room: Checked, length: Checked) -> C
 
 // Every row before a number is read. The bytes are the call's first buffer, the two tables come next.
 fn check_sizes(bytes: &[u8], transitions: &[f64], states: &[f64]) -> Checked
-    ensures { λ r. ⌜ r ≡ fileSized (now (bytes .entry)) (tablesShort (now (bytes .entry)) (record { transitions = now (transitions .entry); states = now (states .entry) })) ⌝ }
+    ensures { result ≡ file_sized bytes.now (tables_short bytes.now (record { transitions = transitions.entry.now; states = states.now })) }
 {
     let labels = labels_in(bytes);
     let words = words_in(bytes);
@@ -136,8 +134,8 @@ fn check_sizes(bytes: &[u8], transitions: &[f64], states: &[f64]) -> Checked
 
 // 6 over the n numbers from a place on, which are those of a table.
 fn check_part(answer: Checked, table: u32, bytes: &[u8], at: usize, n: usize) -> Checked
-    requires { ⌜ at + 8 * n ≤ length (now bytes) ⌝ }
-    ensures { λ r. ⌜ r ≡ orNext answer (numbersChecked table (numbersIn n (drop at (now (bytes .entry)))) n) ⌝ }
+    requires { at + 8 * n ≤ length bytes.now }
+    ensures { result ≡ or_next_of answer (numbers_checked table (numbers_in n (drop at bytes.now)) n) }
 {
     let end = refusals::to_check(answer, n);
     let mut i = 0usize;
@@ -153,7 +151,7 @@ fn check_part(answer: Checked, table: u32, bytes: &[u8], at: usize, n: usize) ->
 
 // Every row, before anything is stored.
 pub fn check_sheet(bytes: &[u8], transitions: &[f64], states: &[f64]) -> Checked
-    ensures { λ r. ⌜ r ≡ sheetChecked (record { bytes = now (bytes .entry) }) (record { transitions = now (transitions .entry); states = now (states .entry) }) ⌝ }
+    ensures { result ≡ sheet_checked (record { bytes = bytes.entry.now }) (record { transitions = transitions.entry.now; states = states.now }) }
 {
     let sizes = check_sizes(bytes, transitions, states);
     if let Checked::Refused(why) = sizes {
@@ -172,6 +170,7 @@ pub fn check_sheet(bytes: &[u8], transitions: &[f64], states: &[f64]) -> Checked
     check_part(first, refusals::STATES, bytes, at, entries(words, labels))
 }
 
+#[derive(Drop)]
 pub enum Reading {
     Read { labels: u32, words: u32 },
     Refused(Refusal),
@@ -179,10 +178,10 @@ pub enum Reading {
 
 // The n numbers from a place on, into the front of a table.
 fn read_part(bytes: &[u8], at: usize, n: usize, table: &mut [f64])
-    requires { ⌜ at + 8 * n ≤ length (now bytes) ⌝ }
-    requires { ⌜ n ≤ length (now table) ⌝ }
-    requires { ⌜ FiniteTo (numbersIn n (drop at (now bytes))) n ⌝ }
-    ensures { λ _. ⌜ now (table .exit) ≡ filled (numbersIn n (drop at (now (bytes .entry)))) n (now (table .entry)) ⌝ }
+    requires n_in_bounds { at + 8 * n ≤ length bytes.now }
+    requires n_in_bounds_2 { n ≤ length table.old }
+    requires finite_to { FiniteTo (numbers_in n (drop at bytes.now)) n }
+    ensures { table.new ≡ filled (numbers_in n (drop at bytes.now)) n table.old }
 {
     let mut i = 0usize;
     while i < n {
@@ -193,7 +192,7 @@ fn read_part(bytes: &[u8], at: usize, n: usize, table: &mut [f64])
 
 // The whole file, or a refusal.
 pub fn read_sheet(bytes: &[u8], transitions: &mut [f64], states: &mut [f64]) -> Reading
-    ensures { λ r. ⌜ Promised (record { bytes = now (bytes .entry) }) (record { transitions = now (transitions .entry); states = now (states .entry) }) (record { answer = r; transitions = now (transitions .exit); states = now (states .exit) }) ⌝ }
+    ensures { Promised (record { bytes = bytes.entry.now }) (record { transitions = transitions.entry.now; states = states.old }) (record { answer = result; transitions = transitions.exit.now; states = states.new }) }
 {
     if let Checked::Refused(why) = check_sheet(bytes, transitions, states) {
         return Reading::Refused(why);

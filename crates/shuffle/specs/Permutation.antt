@@ -1,10 +1,5 @@
 -- What a shuffle may do to an order: its first n are a permutation of what they were, and the rest stays. The proof is in proofs/Permutes.
-use mathlib.Core.Path.{_≡_}
-use mathlib.Core.Bool.{cond}
-use mathlib.Core.List.{List, [], _∷_}
-use Prim.Native.Nat.{ℕ, _+_}
-use lib.Dec.{eqb}
-use lib.ListN.{length, take, drop}
+use Rattle.std.specs.Prelude.{◌≡◌, cond, List, [], ◌∷◌, ℕ, ◌+◌, eqb, length, take, drop}
 
 -- how often a number stands in a list
 unfoldable pub times : ℕ → List ℕ → ℕ

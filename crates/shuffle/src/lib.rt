@@ -1,21 +1,19 @@
 // The shuffle: the order in which an epoch visits its instances.
-ghost use mathlib.Core.Path.{_≡_};
-ghost use Prim.Native.Nat.{_<_, _≤_};
-ghost use lib.ListN.{length};
-ghost use Rattle·shuffle·specs.specs.Shuffle.{Deal, chosen, swapped, shuffled};
+ghost use Rattle.std.specs.Prelude.{◌≡◌, ◌<◌, ◌≤◌, length};
+ghost use Rattle.shuffle.specs.Shuffle.{Deal, chosen, swapped, shuffled};
 
 // The place among 0 to i that a drawn number stands for: the draw rule.
 pub fn choose(number: u64, i: usize) -> usize
-    requires { ⌜ i < 16384 ⌝ }
-    ensures { λ r. ⌜ r ≡ chosen number i ⌝ }
+    requires { i < 16384 }
+    ensures { result ≡ chosen number i }
 {
     (number % ((i + 1) as u64)) as usize
 }
 
 // Two places of an order change their contents.
 pub fn swap(i: usize, j: usize, order: &mut [u32])
-    requires { ⌜ (i < length (now order)) × (j < length (now order)) ⌝ }
-    ensures { λ _. ⌜ now (order .exit) ≡ swapped (now (order .entry)) i j ⌝ }
+    requires { (i < length order.old) × (j < length order.old) }
+    ensures { order.new ≡ swapped order.old i j }
 {
     let a = order[i];
     order[i] = order[j];
@@ -24,8 +22,8 @@ pub fn swap(i: usize, j: usize, order: &mut [u32])
 
 // The first n of an order, shuffled; the answer is the generator's state to go on with.
 pub fn shuffle(state: u64, n: usize, order: &mut [u32]) -> u64
-    requires { ⌜ (0 < n) × (n ≤ 16384) × (n ≤ length (now order)) ⌝ }
-    ensures { λ r. ⌜ _≡_ {A = Deal} (record { state = r; order = now (order .exit) }) (shuffled n (record { state = state; order = now (order .entry) })) ⌝ }
+    requires { (0 < n) × (n ≤ 16384) × (n ≤ length order.old) }
+    ensures { ◌≡◌ {A = Deal} (record { state = result; order = order.new }) (shuffled n (record { state = state; order = order.old })) }
 {
     let mut s = state;
     let mut i = n - 1;

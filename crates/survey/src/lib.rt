@@ -1,25 +1,21 @@
 // The counting pass over a training text that is known to be well-formed: sequences, words, attributes, bytes of scales, the first
 // sequence above 128 words, and the names by first appearance, each known by where it first stands. Nothing that is lent to the
 // reader's caller is written.
-ghost use mathlib.Core.Path.{_≡_};
-ghost use mathlib.Core.Bool.{cond, _&&_};
-ghost use mathlib.Core.List.{List, []};
-ghost use Prim.Native.Nat.{ℕ, _+_, _-_, _≤_};
-ghost use lib.Dec.{eqb, ltb};
-ghost use lib.ListN.{length};
-ghost use lib.Seq.{slice};
-ghost use Rattle·layout.specs.Layout.{Bytes, WellFormed};
-ghost use Rattle·text_tables.specs.Pieces.{Piece, piecesOf};
-ghost use Rattle·text_tables.specs.Tally.{Tally, tallied, tallyOf};
-ghost use Rattle·pieces.specs.Standing.{Named, Stands};
-ghost use Rattle·pieces.specs.Unescaped.{unescaped};
-ghost use Rattle·text_tables.specs.Distinct.{learnt};
-ghost use Rattle·survey·specs.specs.Surveyed.{untouched, blanked, worded, attributed, grown, KnowsFront, KnowsNames, FewFigures, LabelAsked, NameAsked, Surveys, StepAsked, SurveyAsked};
-use pieces::Kind;
-use pieces::Span;
+ghost use Rattle.std.specs.Prelude.{◌≡◌, cond, ◌&&◌, List, [], ℕ, ◌+◌, ◌-◌, ◌≤◌, eqb, ltb, length};
+ghost use Rattle.std.proofs.Math.Seq.{slice};
+ghost use Rattle.layout.specs.Layout.{Bytes, WellFormed};
+ghost use Rattle.text_tables.specs.Pieces.{Piece, pieces_of};
+ghost use Rattle.text_tables.specs.Tally.{Tally, tallied, tally_of};
+ghost use Rattle.pieces.specs.Standing.{Named, Stands};
+ghost use Rattle.pieces.specs.Unescaped.{unescaped};
+ghost use Rattle.text_tables.specs.Distinct.{learnt};
+ghost use Rattle.survey.specs.Surveyed.{untouched, blanked, worded, attributed, grown, KnowsFront, KnowsNames, FewFigures, LabelAsked, NameAsked, Surveys, StepAsked, SurveyAsked};
+
+use pieces::{Kind, Span};
 
 // Sequences begun, words and attributes so far, the words of the present sequence, the bytes of the scales; the first sequence
 // above 128 words, counted from 1, and 0 while there is none.
+#[derive(Drop)]
 pub struct Figures {
     pub sequences: usize,
     pub words: usize,
@@ -30,11 +26,13 @@ pub struct Figures {
 }
 
 // How many names are known, and how many bytes they have.
+#[derive(Drop)]
 pub struct NameSums {
     pub count: usize,
     pub bytes: usize,
 }
 
+#[derive(Drop)]
 pub struct Survey {
     pub figures: Figures,
     pub labels: NameSums,
@@ -43,8 +41,8 @@ pub struct Survey {
 
 // An empty line ends the sequence; a further one changes nothing.
 fn with_blank(f: Figures) -> Figures
-    requires { ⌜ FewFigures f ⌝ }
-    ensures { λ r. ⌜ r ≡ blanked f ⌝ }
+    requires { FewFigures f }
+    ensures { result ≡ blanked f }
 {
     let sequences = f.sequences;
     Figures {
@@ -59,8 +57,8 @@ fn with_blank(f: Figures) -> Figures
 
 // Sequences begun once a word begins: one more where none is open.
 fn begun(present: usize, sequences: usize) -> usize
-    requires { ⌜ sequences ≤ 4294967295 ⌝ }
-    ensures { λ r. ⌜ r ≡ cond (eqb present 0) (sequences + 1) sequences ⌝ }
+    requires { sequences ≤ 4294967295 }
+    ensures { result ≡ cond (eqb present 0) (sequences + 1) sequences }
 {
     if present == 0 {
         sequences + 1
@@ -71,7 +69,7 @@ fn begun(present: usize, sequences: usize) -> usize
 
 // The first sequence above 128 words: this one, if there was none and it has so many now.
 fn first_long(long: usize, present: usize, sequence: usize) -> usize
-    ensures { λ r. ⌜ r ≡ cond (eqb long 0 && ltb 128 present) sequence long ⌝ }
+    ensures { result ≡ cond (eqb long 0 && ltb 128 present) sequence long }
 {
     if (long == 0) & (128 < present) {
         sequence
@@ -82,8 +80,8 @@ fn first_long(long: usize, present: usize, sequence: usize) -> usize
 
 // A label begins a word.
 fn with_word(f: Figures) -> Figures
-    requires { ⌜ FewFigures f ⌝ }
-    ensures { λ r. ⌜ r ≡ worded f ⌝ }
+    requires { FewFigures f }
+    ensures { result ≡ worded f }
 {
     let sequences = begun(f.present, f.sequences);
     let present = f.present + 1;
@@ -99,15 +97,15 @@ fn with_word(f: Figures) -> Figures
 
 // How many bytes the scale has whose colon stands at `split`; none where nothing does.
 fn scale_length(split: usize, to: usize) -> usize
-    ensures { λ r. ⌜ r ≡ to - split - 1 ⌝ }
+    ensures { result ≡ to - split - 1 }
 {
     if split < to { to - split - 1 } else { 0 }
 }
 
 // An attribute with so many bytes of scale.
 fn with_attribute(f: Figures, scale: usize) -> Figures
-    requires { ⌜ FewFigures f × (scale ≤ 4294967295) ⌝ }
-    ensures { λ r. ⌜ r ≡ attributed f scale ⌝ }
+    requires { FewFigures f × (scale ≤ 4294967295) }
+    ensures { result ≡ attributed f scale }
 {
     Figures {
         sequences: f.sequences,
@@ -121,16 +119,16 @@ fn with_attribute(f: Figures, scale: usize) -> Figures
 
 // Whether a name with this id is new, where so many are known.
 fn is_new(id: usize, count: usize) -> bool
-    ensures { λ r. ⌜ r ≡ eqb id count ⌝ }
+    ensures { result ≡ eqb id count }
 {
     id == count
 }
 
 // A name with this id: where the id is the count it is new, and its bytes are counted.
 fn with_id(text: &[u8], known: NameSums, id: usize, from: usize, to: usize) -> NameSums
-    requires { ⌜ (from ≤ to) × (to ≤ length (now text)) × (length (now text) ≤ 4294967295) ⌝ }
-    requires { ⌜ (known .count ≤ 4294967295) × (known .bytes ≤ 4294967295) ⌝ }
-    ensures { λ r. ⌜ r ≡ grown known id (length (unescaped (slice from to (now (text .entry))))) ⌝ }
+    requires from_le_to { (from ≤ to) × (to ≤ length text.now) × (length text.now ≤ 4294967295) }
+    requires count_bound { (known.count ≤ 4294967295) × (known.bytes ≤ 4294967295) }
+    ensures { result ≡ grown known id (length (unescaped (slice from to text.now))) }
 {
     if is_new(id, known.count) {
         let bytes = pieces::unescaped_length(text, from, to);
@@ -144,11 +142,10 @@ fn with_id(text: &[u8], known: NameSums, id: usize, from: usize, to: usize) -> N
 
 // One label more. Where there is no room for another, there are too many already.
 fn with_label(text: &[u8], labels: &mut [u32], known: NameSums, from: usize, to: usize) -> NameSums
-    requires { ⌜ LabelAsked (now text) (now labels) known from to ⌝ }
-    ensures { λ r.
-        let t = now (text .entry) in
-        ⌜ ((before : List Bytes) (name : Bytes) → KnowsFront t (now (labels .entry)) before known → Named t from to name
-        → KnowsFront t (now (labels .exit)) (learnt before name) r) ⌝ }
+    requires { LabelAsked text.now labels.old known from to }
+    ensures { let t = text.now in
+        ((before : List Bytes) (name : Bytes) → KnowsFront t labels.old before known → Named t from to name
+        → KnowsFront t labels.new (learnt before name) result) }
 {
     if known.count < labels.len() {
         let id = distinct::learn_label(text, labels, known.count, from, to);
@@ -166,11 +163,10 @@ fn with_name(
     from: usize,
     to: usize,
 ) -> NameSums
-    requires { ⌜ NameAsked (now text) (now slots) (now positions) known from to ⌝ }
-    ensures { λ r.
-        let t = now (text .entry) in
-        ⌜ ((before : List Bytes) (name : Bytes) → KnowsNames t (now (slots .entry)) (now (positions .entry)) before known → Named t from to name
-        → KnowsNames t (now (slots .exit)) (now (positions .exit)) (learnt before name) r) ⌝ }
+    requires { NameAsked text.now slots.old positions.old known from to }
+    ensures { let t = text.now in
+        ((before : List Bytes) (name : Bytes) → KnowsNames t slots.old positions.old before known → Named t from to name
+        → KnowsNames t slots.new positions.new (learnt before name) result) }
 {
     if known.count < positions.len() {
         let id = distinct::learn(text, slots, positions, known.count, from, to);
@@ -188,11 +184,10 @@ fn with_piece(
     survey: Survey,
     span: Span,
 ) -> Survey
-    requires { ⌜ StepAsked (now text) (now labels) (now slots) (now positions) survey span ⌝ }
-    ensures { λ r.
-        let t = now (text .entry) in
-        ⌜ ((before : Tally) (p : Piece) → Surveys t (now (labels .entry)) (now (slots .entry)) (now (positions .entry)) survey before → Stands t span p
-        → Surveys t (now (labels .exit)) (now (slots .exit)) (now (positions .exit)) r (tallied before p)) ⌝ }
+    requires { StepAsked text.now labels.old slots.old positions.old survey span }
+    ensures { let t = text.now in
+        ((before : Tally) (p : Piece) → Surveys t labels.old slots.old positions.old survey before → Stands t span p
+        → Surveys t labels.new slots.new positions.new result (tallied before p)) }
 {
     let figures = survey.figures;
     let known = survey.labels;
@@ -218,7 +213,7 @@ fn with_piece(
 }
 
 fn nothing() -> Survey
-    ensures { λ r. ⌜ r ≡ untouched ⌝ }
+    ensures { result ≡ untouched }
 {
     Survey {
         figures: Figures {
@@ -241,11 +236,10 @@ pub fn survey_text(
     slots: &mut [u32],
     positions: &mut [u32],
 ) -> Survey
-    requires { ⌜ WellFormed (now text) ⌝ }
-    requires { ⌜ SurveyAsked (now text) (now labels) (now slots) (now positions) ⌝ }
-    ensures { λ r.
-        let t = now (text .entry) in
-        ⌜ ((h : WellFormed t) → Surveys t (now (labels .exit)) (now (slots .exit)) (now (positions .exit)) r (tallyOf (piecesOf (h .lines)))) ⌝ }
+    requires well_formed { WellFormed text.now }
+    requires survey_asked { SurveyAsked text.now labels.old slots.old positions.old }
+    ensures { let t = text.now in
+        ((h : WellFormed t) → Surveys t labels.new slots.new positions.new result (tally_of (pieces_of h.lines))) }
 {
     let mut cursor = pieces::start(text);
     let mut found = nothing();

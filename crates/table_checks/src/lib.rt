@@ -1,25 +1,23 @@
 // The checks of one table, which every call shares: the answer so far where that refuses, or else a refusal at the lowest bad
 // place. A pass without a way out in the middle tells first whether all is well, at a fraction of what a branch an entry costs;
 // only where it is not does a search find the place.
-ghost use mathlib.Core.Path.{_≡_};
-ghost use mathlib.Core.Bool.{true, cond};
-ghost use Prim.Native.Nat.{_<_, _≤_};
-ghost use lib.ListN.{length};
-ghost use Rattle·refusals.specs.Refusals.{orNext};
-ghost use Rattle·refusals.specs.Tables.{NoneBad, badKind, notBelow, badSource, startsChecked, kindsChecked, idsChecked, sourcesChecked, numbersChecked};
+ghost use Rattle.std.specs.Prelude.{◌≡◌, true, cond, ◌<◌, ◌≤◌, length};
+ghost use Rattle.refusals.specs.Refusals.{or_next_of};
+ghost use Rattle.refusals.specs.Tables.{NoneBad, bad_kind, not_below, bad_source, starts_checked, kinds_checked, ids_checked, sources_checked, numbers_checked};
+
 use refusals::Checked;
 
 // Where a search begins: at its end where all is well.
 fn begin_at(all: bool, end: usize) -> usize
-    ensures { λ r. ⌜ r ≡ cond all end 0 ⌝ }
+    ensures { result ≡ cond all end 0 }
 {
     if all { end } else { 0 }
 }
 
 // 3: n lists have n + 1 starts, the first 0, none below the one before it, the last equal to the entry count.
 pub fn check_starts(answer: Checked, starts: &[u32], n: usize, entries: u32) -> Checked
-    requires { ⌜ n < length (now starts) ⌝ }
-    ensures { λ r. ⌜ r ≡ orNext answer (startsChecked (now (starts .entry)) n entries) ⌝ }
+    requires { n < length starts.now }
+    ensures { result ≡ or_next_of answer (starts_checked starts.now n entries) }
 {
     let end = refusals::to_check(answer, n + 1);
     let mut low = 0u32;
@@ -38,8 +36,8 @@ pub fn check_starts(answer: Checked, starts: &[u32], n: usize, entries: u32) -> 
 
 // True only where every kind is 0 or 1.
 fn all_kinds(kinds: &[u8], n: usize) -> bool
-    requires { ⌜ n ≤ length (now kinds) ⌝ }
-    ensures { λ r. ⌜ (r ≡ true → NoneBad (badKind (now (kinds .entry))) n) ⌝ }
+    requires { n ≤ length kinds.now }
+    ensures { result ≡ true → NoneBad (bad_kind kinds.now) n }
 {
     let mut all = true;
     let mut i = 0usize;
@@ -52,8 +50,8 @@ fn all_kinds(kinds: &[u8], n: usize) -> bool
 
 // 5: a kind is 0 or 1. As with every 5 and 6, a refusal tells the table.
 pub fn check_kinds(answer: Checked, table: u32, kinds: &[u8], n: usize) -> Checked
-    requires { ⌜ n ≤ length (now kinds) ⌝ }
-    ensures { λ r. ⌜ r ≡ orNext answer (kindsChecked table (now (kinds .entry)) n) ⌝ }
+    requires { n ≤ length kinds.now }
+    ensures { result ≡ or_next_of answer (kinds_checked table kinds.now n) }
 {
     let end = refusals::to_check(answer, n);
     let mut i = begin_at(all_kinds(kinds, end), end);
@@ -69,8 +67,8 @@ pub fn check_kinds(answer: Checked, table: u32, kinds: &[u8], n: usize) -> Check
 
 // True only where every id is below the bound.
 fn all_below(ids: &[u32], n: usize, bound: u32) -> bool
-    requires { ⌜ n ≤ length (now ids) ⌝ }
-    ensures { λ r. ⌜ (r ≡ true → NoneBad (notBelow (now (ids .entry)) bound) n) ⌝ }
+    requires { n ≤ length ids.now }
+    ensures { result ≡ true → NoneBad (not_below ids.now bound) n }
 {
     let mut all = true;
     let mut i = 0usize;
@@ -83,8 +81,8 @@ fn all_below(ids: &[u32], n: usize, bound: u32) -> bool
 
 // 5: a destination or label is below L, a list id below F.
 pub fn check_ids(answer: Checked, table: u32, ids: &[u32], n: usize, bound: u32) -> Checked
-    requires { ⌜ n ≤ length (now ids) ⌝ }
-    ensures { λ r. ⌜ r ≡ orNext answer (idsChecked table (now (ids .entry)) n bound) ⌝ }
+    requires { n ≤ length ids.now }
+    ensures { result ≡ or_next_of answer (ids_checked table ids.now n bound) }
 {
     let end = refusals::to_check(answer, n);
     let mut i = begin_at(all_below(ids, end, bound), end);
@@ -100,9 +98,9 @@ pub fn check_ids(answer: Checked, table: u32, ids: &[u32], n: usize, bound: u32)
 
 // True only where every Transition's source is below L.
 fn all_sources(kinds: &[u8], sources: &[u32], n: usize, labels: u32) -> bool
-    requires { ⌜ n ≤ length (now kinds) ⌝ }
-    requires { ⌜ n ≤ length (now sources) ⌝ }
-    ensures { λ r. ⌜ (r ≡ true → NoneBad (badSource (now (kinds .entry)) (now (sources .entry)) labels) n) ⌝ }
+    requires n_in_bounds { n ≤ length kinds.now }
+    requires n_in_bounds_2 { n ≤ length sources.now }
+    ensures { result ≡ true → NoneBad (bad_source kinds.now sources.now labels) n }
 {
     let mut all = true;
     let mut i = 0usize;
@@ -122,9 +120,9 @@ pub fn check_sources(
     n: usize,
     labels: u32,
 ) -> Checked
-    requires { ⌜ n ≤ length (now kinds) ⌝ }
-    requires { ⌜ n ≤ length (now sources) ⌝ }
-    ensures { λ r. ⌜ r ≡ orNext answer (sourcesChecked table (now (kinds .entry)) (now (sources .entry)) n labels) ⌝ }
+    requires n_in_bounds { n ≤ length kinds.now }
+    requires n_in_bounds_2 { n ≤ length sources.now }
+    ensures { result ≡ or_next_of answer (sources_checked table kinds.now sources.now n labels) }
 {
     let end = refusals::to_check(answer, n);
     let mut i = begin_at(all_sources(kinds, sources, end, labels), end);
@@ -140,8 +138,8 @@ pub fn check_sources(
 
 // 6: neither a NaN nor an infinity.
 pub fn check_numbers(answer: Checked, table: u32, numbers: &[f64], n: usize) -> Checked
-    requires { ⌜ n ≤ length (now numbers) ⌝ }
-    ensures { λ r. ⌜ r ≡ orNext answer (numbersChecked table (now (numbers .entry)) n) ⌝ }
+    requires { n ≤ length numbers.now }
+    ensures { result ≡ or_next_of answer (numbers_checked table numbers.now n) }
 {
     let end = refusals::to_check(answer, n);
     let mut i = begin_at(fronts::all_finite(numbers, end), end);

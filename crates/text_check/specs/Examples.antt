@@ -1,42 +1,39 @@
 -- Desk cases T3 to T6: what is refused of the sequences of a text, and in which order. Assumes nothing.
-use mathlib.Core.Path.{_≡_, refl}
-use mathlib.Core.Bool.{true}
-use mathlib.Core.List.{List, [], _∷_, map, flatten}
-use Prim.Native.Nat.{ℕ}
-use lib.ListN.{replicate}
-use Rattle·refusals.specs.declared.Checked.the-variants.{Accepted}
-use Rattle·refusals.specs.Refusals.{refusedAt, refuseIn, orNext, lowestIn}
-use Rattle·refusal_rows.specs.Limits.{inOrder, inCallOrder}
-use Rattle·layout.specs.Layout.{Word}
-use Rattle·text_tables.specs.Distinct.{same, idIn, learnt, learntAll}
-use Rattle·text_tables.specs.Tables.{startsFrom, tables}
-use Rattle·text_check·specs.specs.declared.Lengths.{Lengths}
-use Rattle·text_check·specs.specs.Rows.{textCounts, textRooms, textSized, textChecked}
+use Rattle.std.specs.Prelude.{◌≡◌, refl, true, ℕ, replicate}
+use mathlib.Core.List.{List, [], ◌∷◌, map, flatten}
+use Rattle.refusals.specs.declared.Checked.TheVariants.{Accepted}
+use Rattle.refusals.specs.Refusals.{refused_at, refuse_in_of, or_next_of, lowest_in}
+use Rattle.refusal_rows.specs.Limits.{in_order_of, in_call_order}
+use Rattle.layout.specs.Layout.{Word}
+use Rattle.text_tables.specs.Distinct.{same, id_in, learnt, learnt_all}
+use Rattle.text_tables.specs.Tables.{starts_from, tables}
+use Rattle.text_check.specs.declared.Lengths.{Lengths}
+use Rattle.text_check.specs.Rows.{text_counts, text_rooms, text_sized, text_checked}
 
 -- a word of one byte without attributes
 abbrev bare : ℕ → Word
 bare b = record { label = b ∷ []; attributes = [] }
 
 -- T3: "the empty text .. 2/7", "`A`: one word"
-none : textSized 0 [] ≡ refusedAt 2 7
-unfolding textSized tables startsFrom flatten learntAll learnt idIn same lowestIn orNext refuseIn
+none : text_sized 0 [] ≡ refused_at 2 7
+unfolding text_sized tables starts_from flatten learnt_all learnt id_in same lowest_in or_next_of refuse_in_of
 none = refl
 
-one : textSized 1 ((bare 65 ∷ []) ∷ []) ≡ Accepted
-unfolding textSized tables startsFrom flatten learntAll learnt idIn same lowestIn orNext refuseIn
+one : text_sized 1 ((bare 65 ∷ []) ∷ []) ≡ Accepted
+unfolding text_sized tables starts_from flatten learnt_all learnt id_in same lowest_in or_next_of refuse_in_of
 one = refl
 
 -- T4: "128 times `A␊`, `␊`, 129 times `A␊`: 4/1"
-long : (textSized 515 (replicate 128 (bare 65) ∷ replicate 129 (bare 65) ∷ []) ≡ refusedAt 4 1) × (textSized 513 (replicate 128 (bare 65) ∷ replicate 128 (bare 65) ∷ []) ≡ Accepted)
-unfolding textSized tables startsFrom flatten learntAll learnt idIn same lowestIn orNext refuseIn
+long : (text_sized 515 (replicate 128 (bare 65) ∷ replicate 129 (bare 65) ∷ []) ≡ refused_at 4 1) × (text_sized 513 (replicate 128 (bare 65) ∷ replicate 128 (bare 65) ∷ []) ≡ Accepted)
+unfolding text_sized tables starts_from flatten learnt_all learnt id_in same lowest_in or_next_of refuse_in_of
 long = (refl, refl)
 
 -- T5: "lines `L0` to `L32`: 2/0", here with labels of one byte; and 32 of them
 abbrev bytes : List ℕ
 bytes = 65 ∷ 66 ∷ 67 ∷ 68 ∷ 69 ∷ 70 ∷ 71 ∷ 72 ∷ 73 ∷ 74 ∷ 75 ∷ 76 ∷ 77 ∷ 78 ∷ 79 ∷ 80 ∷ 81 ∷ 82 ∷ 83 ∷ 84 ∷ 85 ∷ 86 ∷ 87 ∷ 88 ∷ 89 ∷ 90 ∷ 91 ∷ 92 ∷ 93 ∷ 94 ∷ 95 ∷ 96 ∷ []
 
-many : (textSized 65 (map bare (97 ∷ bytes) ∷ []) ≡ refusedAt 2 0) × (textSized 63 (map bare bytes ∷ []) ≡ Accepted)
-unfolding textSized tables startsFrom flatten learntAll learnt idIn same lowestIn orNext refuseIn
+many : (text_sized 65 (map bare (97 ∷ bytes) ∷ []) ≡ refused_at 2 0) × (text_sized 63 (map bare bytes ∷ []) ≡ Accepted)
+unfolding text_sized tables starts_from flatten learnt_all learnt id_in same lowest_in or_next_of refuse_in_of
 many = (refl, refl)
 
 -- T6: "T1 with room for one id: .. 12/3", "With room for one id and one line start: 12/1"; with room for all it is accepted
@@ -51,21 +48,21 @@ t1 =
     ∷ (record { label = 65 ∷ []; attributes = record { name = 98 ∷ []; scale = 45 ∷ 48 ∷ [] } ∷ [] } ∷ [])
     ∷ []
 
-abbrev room-for : (lines ids : ℕ) → Lengths
-room-for lines ids = record { lines = lines; begins = 4; ids = ids; values = 3; references = 3; weights = 2; «label_starts» = 3; «label_bytes» = 2; «name_starts» = 3; «name_bytes» = 2; «scale_starts» = 4; «scale_bytes» = 5 }
+abbrev room_for : (lines ids : ℕ) → Lengths
+room_for lines ids = record { lines = lines; begins = 4; ids = ids; values = 3; references = 3; weights = 2; label_starts = 3; label_bytes = 2; name_starts = 3; name_bytes = 2; scale_starts = 4; scale_bytes = 5 }
 
-rooms : (textChecked 21 t1 (room-for 3 1) ≡ refusedAt 12 3) × (textChecked 21 t1 (room-for 1 1) ≡ refusedAt 12 1) × (textChecked 21 t1 (room-for 3 3) ≡ Accepted)
-unfolding textChecked tables startsFrom flatten learntAll learnt idIn same lowestIn orNext refuseIn
+rooms : (text_checked 21 t1 (room_for 3 1) ≡ refused_at 12 3) × (text_checked 21 t1 (room_for 1 1) ≡ refused_at 12 1) × (text_checked 21 t1 (room_for 3 3) ≡ Accepted)
+unfolding text_checked tables starts_from flatten learnt_all learnt id_in same lowest_in or_next_of refuse_in_of
 rooms = (refl, refl, refl)
 
 -- the text's length goes before the other counts, and these before the rooms
-length-first : (textChecked 4294967296 [] (room-for 0 0) ≡ refusedAt 2 11) × (textChecked 0 [] (room-for 0 0) ≡ refusedAt 2 7)
-unfolding textChecked tables startsFrom flatten learntAll learnt idIn same lowestIn orNext refuseIn
-length-first = (refl, refl)
+length_first : (text_checked 4294967296 [] (room_for 0 0) ≡ refused_at 2 11) × (text_checked 0 [] (room_for 0 0) ≡ refused_at 2 7)
+unfolding text_checked tables starts_from flatten learnt_all learnt id_in same lowest_in or_next_of refuse_in_of
+length_first = (refl, refl)
 
 -- the counts go in document 01's order, the rooms in the call's
-in-order : inOrder (textCounts t1) ≡ true
-in-order = refl
+in_order : in_order_of (text_counts t1) ≡ true
+in_order = refl
 
-in-call-order : inCallOrder (textRooms (tables t1) (room-for 3 3)) ≡ true
-in-call-order = refl
+in_call_order_lem : in_call_order (text_rooms (tables t1) (room_for 3 3)) ≡ true
+in_call_order_lem = refl

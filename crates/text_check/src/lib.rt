@@ -1,19 +1,18 @@
 // What the reader of a training text refuses once the text is known to be well-formed, from the figures of its survey and the
 // lengths of the twelve tables: 2 of the counts, 12 of the rooms, then 4. 2 of the text's own length comes before the survey.
-ghost use mathlib.Core.Path.{_≡_};
-ghost use mathlib.Core.List.{List, []};
-ghost use Prim.Native.Nat.{ℕ, _≤_};
-ghost use Rattle·refusals.specs.Refusals.{orNext, first, firstFrom};
-ghost use Rattle·refusal_rows.specs.Limits.{limitChecks};
-ghost use lib.ListN.{length};
-ghost use Rattle·layout.specs.Layout.{Word, WellFormed, sequences};
-ghost use Rattle·distinct.specs.Slots.{Filed};
-ghost use Rattle·text_check·specs.specs.Rows.{textSized, textChecked};
-ghost use Rattle·text_check·specs.specs.Told.{TellsSequences, surveyCounts, corpusRooms, stringRooms, longRefused, FewSurvey, TextSurveyed};
+ghost use Rattle.std.specs.Prelude.{◌≡◌, List, [], ℕ, ◌≤◌, length};
+ghost use Rattle.refusals.specs.Refusals.{or_next_of, first, first_from};
+ghost use Rattle.refusal_rows.specs.Limits.{limit_checks};
+ghost use Rattle.layout.specs.Layout.{Word, WellFormed, sequences};
+ghost use Rattle.distinct.specs.Slots.{Filed};
+ghost use Rattle.text_check.specs.Rows.{text_sized, text_checked};
+ghost use Rattle.text_check.specs.Told.{TellsSequences, survey_counts, corpus_rooms, string_rooms, long_refused, FewSurvey, TextSurveyed};
+
 use refusals::Checked;
 use survey::Survey;
 
 // How long the tables are that the reader is lent, in the call's order.
+#[derive(Drop)]
 pub struct Lengths {
     pub lines: usize,
     pub begins: usize,
@@ -31,7 +30,7 @@ pub struct Lengths {
 
 // 2: the first count outside its bound. No word at all is no instance.
 fn check_counts(survey: Survey) -> Checked
-    ensures { λ r. ⌜ r ≡ first (limitChecks (surveyCounts survey)) ⌝ }
+    ensures { result ≡ first (limit_checks (survey_counts survey)) }
 {
     let figures = survey.figures;
     let labels = survey.labels;
@@ -46,8 +45,8 @@ fn check_counts(survey: Survey) -> Checked
 
 // 12: the first table of words and attributes that is too short. The text is the call's buffer 0.
 fn check_corpus(answer: Checked, survey: Survey, have: Lengths) -> Checked
-    requires { ⌜ FewSurvey survey ⌝ }
-    ensures { λ r. ⌜ r ≡ firstFrom answer (limitChecks (corpusRooms survey have)) ⌝ }
+    requires { FewSurvey survey }
+    ensures { result ≡ first_from answer (limit_checks (corpus_rooms survey have)) }
 {
     let figures = survey.figures;
     let lines = figures.sequences + 1;
@@ -62,8 +61,8 @@ fn check_corpus(answer: Checked, survey: Survey, have: Lengths) -> Checked
 
 // 12: the first table of byte strings that is too short.
 fn check_strings(answer: Checked, survey: Survey, have: Lengths) -> Checked
-    requires { ⌜ FewSurvey survey ⌝ }
-    ensures { λ r. ⌜ r ≡ firstFrom answer (limitChecks (stringRooms survey have)) ⌝ }
+    requires { FewSurvey survey }
+    ensures { result ≡ first_from answer (limit_checks (string_rooms survey have)) }
 {
     let figures = survey.figures;
     let labels = survey.labels;
@@ -81,7 +80,7 @@ fn check_strings(answer: Checked, survey: Survey, have: Lengths) -> Checked
 
 // 4: the first sequence above 128 words, if there is one.
 fn check_long(answer: Checked, long: usize) -> Checked
-    ensures { λ r. ⌜ r ≡ orNext answer (longRefused long) ⌝ }
+    ensures { result ≡ or_next_of answer (long_refused long) }
 {
     if long == 0 {
         return answer;
@@ -91,7 +90,7 @@ fn check_long(answer: Checked, long: usize) -> Checked
 
 // 2 and 4, where nothing is to be filled.
 pub fn check_sizes(survey: Survey) -> Checked
-    ensures { λ r. ⌜ ((bytes : ℕ) (ss : List (List Word)) → bytes ≤ 4294967295 → TellsSequences ss survey → r ≡ textSized bytes ss) ⌝ }
+    ensures { (bytes : ℕ) (ss : List (List Word)) → bytes ≤ 4294967295 → TellsSequences ss survey → result ≡ text_sized bytes ss }
 {
     let figures = survey.figures;
     check_long(check_counts(survey), figures.long)
@@ -99,8 +98,8 @@ pub fn check_sizes(survey: Survey) -> Checked
 
 // 2, 12 and 4, with tables of these lengths.
 pub fn check_text(survey: Survey, have: Lengths) -> Checked
-    requires { ⌜ FewSurvey survey ⌝ }
-    ensures { λ r. ⌜ ((bytes : ℕ) (ss : List (List Word)) → bytes ≤ 4294967295 → TellsSequences ss survey → r ≡ textChecked bytes ss have) ⌝ }
+    requires { FewSurvey survey }
+    ensures { (bytes : ℕ) (ss : List (List Word)) → bytes ≤ 4294967295 → TellsSequences ss survey → result ≡ text_checked bytes ss have }
 {
     let figures = survey.figures;
     let roomy = check_corpus(check_counts(survey), survey, have);
@@ -110,9 +109,9 @@ pub fn check_text(survey: Survey, have: Lengths) -> Checked
 
 // The survey, with lists of its own for the places of names: one more than may be, so that too many are seen.
 fn survey_with(text: &[u8], slots: &mut [u32]) -> Survey
-    requires { ⌜ WellFormed (now text) ⌝ }
-    requires { ⌜ (length (now text) ≤ 4294967295) × (length (now slots) ≡ 131072) × Filed (length (now slots)) [] (now slots) ⌝ }
-    ensures { λ r. ⌜ ((h : WellFormed (now (text .entry))) → TextSurveyed (sequences (h .lines)) r) ⌝ }
+    requires well_formed { WellFormed text.now }
+    requires text_len_bound { (length text.now ≤ 4294967295) × (length slots.old ≡ 131072) × Filed (length slots.old) [] slots.old }
+    ensures { (h : WellFormed text.now) → TextSurveyed (sequences h.lines) result }
 {
     let mut labels = [0u32; 33];
     let mut positions = [0u32; 65536];
@@ -121,9 +120,9 @@ fn survey_with(text: &[u8], slots: &mut [u32]) -> Survey
 
 // The survey of a text whose tables are not filled.
 pub fn survey_alone(text: &[u8]) -> Survey
-    requires { ⌜ WellFormed (now text) ⌝ }
-    requires { ⌜ length (now text) ≤ 4294967295 ⌝ }
-    ensures { λ r. ⌜ ((h : WellFormed (now (text .entry))) → TextSurveyed (sequences (h .lines)) r) ⌝ }
+    requires well_formed { WellFormed text.now }
+    requires text_len_bound { length text.now ≤ 4294967295 }
+    ensures { (h : WellFormed text.now) → TextSurveyed (sequences h.lines) result }
 {
     let mut slots = [0u32; 131072];
     survey_with(text, &mut slots)

@@ -1,11 +1,12 @@
 // The training text, for programs in C and Rust: reading, its sizes, writing. Each is thin: one call, and its answer as numbers.
-ghost use mathlib.Core.Path.{_≡_};
-ghost use Rattle·read_text.specs.Promise.{said as readingSaid};
-ghost use Rattle·read_text.specs.Lent.{buffersWere, buffersAre};
-ghost use Rattle·write_check.specs.Rows.{uncheckedWas};
-ghost use Rattle·write_text.specs.Promise.{said as writingSaid};
-ghost use Rattle·text_exports·specs.specs.Numbers.{readNumbers, writtenNumbers};
-ghost use Rattle·text_exports·specs.specs.Promise.{Reads, Sizes, Writes};
+ghost use Rattle.std.specs.Prelude.{◌≡◌};
+ghost use Rattle.read_text.specs.Promise.{said as reading_said};
+ghost use Rattle.read_text.specs.Lent.{buffers_were, buffers_are};
+ghost use Rattle.write_check.specs.Rows.{unchecked_was};
+ghost use Rattle.write_text.specs.Promise.{said as writing_said};
+ghost use Rattle.text_exports.specs.Numbers.{read_numbers, written_numbers};
+ghost use Rattle.text_exports.specs.Promise.{Reads, Sizes, Writes};
+
 use lines::Totals;
 use read_text::TextReading;
 use write_check::Names;
@@ -14,6 +15,7 @@ use write_text::Written;
 // The refusal's number, table and place, or how many names, instances, words and attributes there are and how many bytes the names and
 // the scales have; what has no value is 0.
 #[repr(C)]
+#[derive(Drop)]
 pub struct ReadText {
     pub number: u32,
     pub table: u32,
@@ -29,7 +31,7 @@ pub struct ReadText {
 }
 
 fn numbers_of_reading(answer: TextReading) -> ReadText
-    ensures { λ r. ⌜ r ≡ readNumbers (readingSaid answer) ⌝ }
+    ensures { result ≡ read_numbers (reading_said answer) }
 {
     match answer {
         TextReading::Read(sizes) => ReadText {
@@ -62,7 +64,7 @@ fn numbers_of_reading(answer: TextReading) -> ReadText
 }
 
 // The tables of a text, at the fronts of those that are lent.
-#[no_mangle]
+#[unsafe(no_mangle)]
 pub extern "C" fn bodkinbloom_read_text(
     text: &[u8],
     line_starts: &mut [u32],
@@ -78,10 +80,9 @@ pub extern "C" fn bodkinbloom_read_text(
     scale_starts: &mut [u32],
     scales: &mut [u8],
 ) -> ReadText
-    ensures { λ r.
-        let before = buffersWere «line_starts» «word_starts» ids values references «instance_weights» «label_name_starts» «label_names» «attribute_name_starts» «attribute_names» «scale_starts» scales in
-        let after = buffersAre «line_starts» «word_starts» ids values references «instance_weights» «label_name_starts» «label_names» «attribute_name_starts» «attribute_names» «scale_starts» scales in
-        ⌜ Reads (now (text .entry)) before (record { answer = r; after = after }) ⌝ }
+    ensures { let before = buffers_were line_starts word_starts ids values references instance_weights label_name_starts label_names attribute_name_starts attribute_names scale_starts scales in
+        let after = buffers_are line_starts word_starts ids values references instance_weights label_name_starts label_names attribute_name_starts attribute_names scale_starts scales in
+        Reads text.now before (record { answer = result; after = after }) }
 {
     let reading = read_text::read_text(
         text,
@@ -102,15 +103,16 @@ pub extern "C" fn bodkinbloom_read_text(
 }
 
 // The sizes of a text: what reading it answers where every table is long enough.
-#[no_mangle]
+#[unsafe(no_mangle)]
 pub extern "C" fn bodkinbloom_text_sizes(text: &[u8]) -> ReadText
-    ensures { λ r. ⌜ Sizes (now (text .entry)) r ⌝ }
+    ensures { Sizes text.now result }
 {
     numbers_of_reading(read_text::text_sizes(text))
 }
 
 // The refusal's number, table and place, or how many bytes were written; what has no value is 0.
 #[repr(C)]
+#[derive(Drop)]
 pub struct WrittenText {
     pub number: u32,
     pub table: u32,
@@ -119,7 +121,7 @@ pub struct WrittenText {
 }
 
 fn numbers_of_writing(answer: Written) -> WrittenText
-    ensures { λ r. ⌜ r ≡ writtenNumbers (writingSaid answer) ⌝ }
+    ensures { result ≡ written_numbers (writing_said answer) }
 {
     match answer {
         Written::Length(length) => WrittenText {
@@ -138,7 +140,7 @@ fn numbers_of_writing(answer: Written) -> WrittenText
 }
 
 // The text of tables, at the front of `text`.
-#[no_mangle]
+#[unsafe(no_mangle)]
 pub extern "C" fn bodkinbloom_write_text(
     labels: u32,
     totals: Totals,
@@ -155,9 +157,8 @@ pub extern "C" fn bodkinbloom_write_text(
     scales: &[u8],
     text: &mut [u8],
 ) -> WrittenText
-    ensures { λ r.
-        let given = uncheckedWas labels totals names «line_starts» «word_starts» ids references «label_name_starts» «label_names» «attribute_name_starts» «attribute_names» «scale_starts» scales in
-        ⌜ Writes given (now (text .entry)) (record { answer = r; text = now (text .exit) }) ⌝ }
+    ensures { let given = unchecked_was labels totals names line_starts word_starts ids references label_name_starts label_names attribute_name_starts attribute_names scale_starts scales in
+        Writes given text.old (record { answer = result; text = text.new }) }
 {
     let answer = write_text::write_text(
         labels,

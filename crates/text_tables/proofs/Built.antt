@@ -1,200 +1,200 @@
 -- What is built of the pieces of lines is the tables of their sequences, and each list is as long as the tally says. Assumes nothing.
-use mathlib.Core.Path.{_≡_, refl, sym, ap, subst, _∙_}
+use mathlib.Core.Path.{◌≡◌, refl, sym, ap, subst, ◌∙◌}
 use mathlib.Core.Bool.{Bool, true, false, cond}
-use mathlib.Core.List.{List, [], _∷_, _++_, map, flatten, append-assoc, append-nil}
-use Prim.Native.Nat.{ℕ, _+_}
+use mathlib.Core.List.{List, [], ◌∷◌, ◌++◌, map, flatten, append_assoc, append-nil}
+use Prim.Native.Nat.{ℕ, ◌+◌}
 use native.Mathlib.Nat.{zero-add}
 use lib.ListN.{length, length-append, length-map}
-use Rattle·layout.specs.Layout.{Bytes, TextAttribute, Word, Line, word, ended, sequences}
-use Rattle·scales.specs.Value.{valueOf}
-use Rattle·text_tables·specs.specs.Distinct.{idIn, distinct}
-use Rattle·text_tables·specs.specs.Tables.{startsFrom, allWords, allAttributes, labelsOf, namesOf, scalesOf, tables}
-use Rattle·text_tables·specs.specs.Pieces.{blank, label, attribute, linePieces, piecesOf, afterEach}
-use Rattle·text_tables·specs.specs.Built.{Built, builtOn, builtOf, Builds, BuiltMeans}
-use Rattle·text_tables·specs.specs.Written.{inAll}
-use Rattle·text_tables·proofs.proofs.Lists.{map-append, length-flatten, beginsFrom, starts-begins, begins-append, begins-more, flat-starts}
-use Rattle·text_tables·proofs.proofs.Passed.{open-words, AtEnd, passed}
-use Rattle·text_tables·proofs.proofs.Tallied.{attributes-more, scales-more}
+use Rattle.layout.specs.Layout.{Bytes, TextAttribute, Word, Line, word, ended, sequences}
+use Rattle.scales.specs.Value.{value_of}
+use Rattle.text_tables.specs.Distinct.{id_in, distinct}
+use Rattle.text_tables.specs.Tables.{starts_from, all_words, all_attributes, labels_of, names_of, scales_of, tables}
+use Rattle.text_tables.specs.Pieces.{blank, label, attribute, line_pieces, pieces_of, after_each}
+use Rattle.text_tables.specs.Built.{Built, built_on, built_of, Builds, BuiltMeans}
+use Rattle.text_tables.specs.Written.{in_all}
+use Rattle.text_tables.proofs.Lists.{map_append, length_flatten, begins_from, starts_begins, begins_append, begins_more, flat_starts}
+use Rattle.text_tables.proofs.Passed.{open_words, AtEnd, passed}
+use Rattle.text_tables.proofs.Tallied.{attributes_more, scales_more}
 
-abbrev attributeCount : Word → ℕ
-attributeCount w = length (w .attributes)
+abbrev attribute_count : Word → ℕ
+attribute_count w = length w.attributes
 
-abbrev wordCount : List Word → ℕ
-wordCount s = length s
+abbrev word_count : List Word → ℕ
+word_count s = length s
 
-abbrev someOpen : List Word → Bool
-someOpen [] = false
-someOpen (w ∷ ws) = true
+abbrev some_open : List Word → Bool
+some_open [] = false
+some_open (w ∷ ws) = true
 
 module _ (labels names : List Bytes) where
   -- ---- the pass: sequences that are done, and one that is open
-  abbrev listsOf : List (List Word) → Bool → List Word → Built
-  listsOf ss within vs = record {
-    lineStarts = beginsFrom 0 (map wordCount ss);
-    wordStarts = beginsFrom 0 (map attributeCount vs);
-    references = map (idIn labels) (labelsOf vs);
-    ids = map (idIn names) (namesOf (allAttributes vs));
-    values = map valueOf (scalesOf (allAttributes vs));
-    scaleStarts = beginsFrom 0 (map length (scalesOf (allAttributes vs)));
-    scales = flatten (scalesOf (allAttributes vs));
+  abbrev lists_of : List (List Word) → Bool → List Word → Built
+  lists_of ss within vs = record {
+    line_starts = begins_from 0 (map word_count ss);
+    word_starts_of = begins_from 0 (map attribute_count vs);
+    references = map (id_in labels) (labels_of vs);
+    ids = map (id_in names) (names_of (all_attributes vs));
+    values = map value_of (scales_of (all_attributes vs));
+    scale_starts_of = begins_from 0 (map length (scales_of (all_attributes vs)));
+    scales = flatten (scales_of (all_attributes vs));
     within = within;
   }
 
   abbrev built : List (List Word) → List Word → Built
-  built ss ws = listsOf (ss ++ ended ws) (someOpen ws) (flatten ss ++ ws)
+  built ss ws = lists_of (ss ++ ended ws) (some_open ws) (flatten ss ++ ws)
 
-  at-blank : (ss : List (List Word)) (ws : List Word) → builtOn labels names (built ss ws) blank ≡ built (ss ++ ended ws) []
-  at-blank ss ws =
-      ap (λ (rs : List (List Word)). listsOf rs false (flatten ss ++ ws)) (sym (append-nil (ss ++ ended ws)))
-      ∙ ap (listsOf (ss ++ ended ws ++ []) false) (sym (open-words ss ws) ∙ sym (append-nil (flatten (ss ++ ended ws))))
+  at_blank : (ss : List (List Word)) (ws : List Word) → built_on labels names (built ss ws) blank ≡ built (ss ++ ended ws) []
+  at_blank ss ws =
+      ap (λ (rs : List (List Word)). lists_of rs false (flatten ss ++ ws)) (sym (append-nil (ss ++ ended ws)))
+      ∙ ap (lists_of (ss ++ ended ws ++ []) false) (sym (open_words ss ws) ∙ sym (append-nil (flatten (ss ++ ended ws))))
 
   -- attributes one after the other
-  abbrev withAttributes : Built → List TextAttribute → Built
-  withAttributes b xs = record {
-    lineStarts = b .lineStarts;
-    wordStarts = b .wordStarts;
-    references = b .references;
-    ids = b .ids ++ map (idIn names) (namesOf xs);
-    values = b .values ++ map valueOf (scalesOf xs);
-    scaleStarts = b .scaleStarts ++ beginsFrom (length (b .scales)) (map length (scalesOf xs));
-    scales = b .scales ++ flatten (scalesOf xs);
-    within = b .within;
+  abbrev with_attributes : Built → List TextAttribute → Built
+  with_attributes b xs = record {
+    line_starts = b.line_starts;
+    word_starts_of = b.word_starts_of;
+    references = b.references;
+    ids = b.ids ++ map (id_in names) (names_of xs);
+    values = b.values ++ map value_of (scales_of xs);
+    scale_starts_of = b.scale_starts_of ++ begins_from (length b.scales) (map length (scales_of xs));
+    scales = b.scales ++ flatten (scales_of xs);
+    within = b.within;
   }
 
-  built-attributes : (b : Built) (xs : List TextAttribute) → afterEach (builtOn labels names) b (map attribute xs) ≡ withAttributes b xs
-  unfolding afterEach flatten beginsFrom
-  built-attributes b [] = λ i. record {
-    lineStarts = b .lineStarts;
-    wordStarts = b .wordStarts;
-    references = b .references;
-    ids = sym (append-nil (b .ids)) i;
-    values = sym (append-nil (b .values)) i;
-    scaleStarts = sym (append-nil (b .scaleStarts)) i;
-    scales = sym (append-nil (b .scales)) i;
-    within = b .within;
+  built_attributes : (b : Built) (xs : List TextAttribute) → after_each (built_on labels names) b (map attribute xs) ≡ with_attributes b xs
+  unfolding after_each flatten begins_from
+  built_attributes b [] = λ i. record {
+    line_starts = b.line_starts;
+    word_starts_of = b.word_starts_of;
+    references = b.references;
+    ids = sym (append-nil b.ids) i;
+    values = sym (append-nil b.values) i;
+    scale_starts_of = sym (append-nil b.scale_starts_of) i;
+    scales = sym (append-nil b.scales) i;
+    within = b.within;
   }
-  built-attributes b (x ∷ xs) =
-      let starts : (b .scaleStarts ++ (length (b .scales) ∷ [])) ++ beginsFrom (length (b .scales ++ x .scale)) (map length (scalesOf xs)) ≡ b .scaleStarts ++ (length (b .scales) ∷ beginsFrom (length (b .scales) + length (x .scale)) (map length (scalesOf xs))) =
-      append-assoc (b .scaleStarts) (length (b .scales) ∷ []) (beginsFrom (length (b .scales ++ x .scale)) (map length (scalesOf xs)))
-      ∙ ap (λ (k : ℕ). b .scaleStarts ++ (length (b .scales) ∷ beginsFrom k (map length (scalesOf xs)))) (length-append (b .scales) (x .scale)) in
-      built-attributes (builtOn labels names b (attribute x)) xs
+  built_attributes b (x ∷ xs) =
+      let starts : (b.scale_starts_of ++ (length b.scales ∷ [])) ++ begins_from (length (b.scales ++ x.scale)) (map length (scales_of xs)) ≡ b.scale_starts_of ++ (length b.scales ∷ begins_from (length b.scales + length x.scale) (map length (scales_of xs))) =
+      append_assoc b.scale_starts_of (length b.scales ∷ []) (begins_from (length (b.scales ++ x.scale)) (map length (scales_of xs)))
+      ∙ ap (λ (k : ℕ). b.scale_starts_of ++ (length b.scales ∷ begins_from k (map length (scales_of xs)))) (length-append b.scales x.scale) in
+      built_attributes (built_on labels names b (attribute x)) xs
       ∙ (λ i. record {
-        lineStarts = b .lineStarts;
-        wordStarts = b .wordStarts;
-        references = b .references;
-        ids = append-assoc (b .ids) (idIn names (x .name) ∷ []) (map (idIn names) (namesOf xs)) i;
-        values = append-assoc (b .values) (valueOf (x .scale) ∷ []) (map valueOf (scalesOf xs)) i;
-        scaleStarts = starts i;
-        scales = append-assoc (b .scales) (x .scale) (flatten (scalesOf xs)) i;
-        within = b .within;
+        line_starts = b.line_starts;
+        word_starts_of = b.word_starts_of;
+        references = b.references;
+        ids = append_assoc b.ids (id_in names x.name ∷ []) (map (id_in names) (names_of xs)) i;
+        values = append_assoc b.values (value_of x.scale ∷ []) (map value_of (scales_of xs)) i;
+        scale_starts_of = starts i;
+        scales = append_assoc b.scales x.scale (flatten (scales_of xs)) i;
+        within = b.within;
       })
 
   -- a word begins
-  line-begun : (ss : List (List Word)) (ws : List Word) (w : Word)
-      → cond (someOpen ws) (beginsFrom 0 (map wordCount (ss ++ ended ws))) (beginsFrom 0 (map wordCount (ss ++ ended ws)) ++ (length (map (idIn labels) (labelsOf (flatten ss ++ ws))) ∷ []))
-      ≡ beginsFrom 0 (map wordCount (ss ++ ended (ws ++ (w ∷ []))))
-  line-begun ss [] w =
-      let count : length (map (idIn labels) (labelsOf (flatten ss ++ []))) ≡ inAll (map wordCount ss) =
-      length-map (labelsOf (flatten ss ++ [])) (idIn labels) ∙ length-map (flatten ss ++ []) (λ (v : Word). v .label) ∙ ap length (append-nil (flatten ss)) ∙ length-flatten ss in
-      ap (λ (rs : List (List Word)). beginsFrom 0 (map wordCount rs) ++ (length (map (idIn labels) (labelsOf (flatten ss ++ []))) ∷ [])) (append-nil ss)
-      ∙ ap (λ (k : ℕ). beginsFrom 0 (map wordCount ss) ++ (k ∷ [])) count
-      ∙ sym (begins-more (map wordCount ss) 1)
-      ∙ ap (beginsFrom 0) (sym (map-append wordCount ss ((w ∷ []) ∷ [])))
-  line-begun ss (v ∷ ws) w =
-      ap (beginsFrom 0) (map-append wordCount ss ((v ∷ ws) ∷ []))
-      ∙ begins-more (map wordCount ss) (length (v ∷ ws))
-      ∙ sym (begins-more (map wordCount ss) (length (v ∷ (ws ++ (w ∷ [])))))
-      ∙ ap (beginsFrom 0) (sym (map-append wordCount ss ((v ∷ (ws ++ (w ∷ []))) ∷ [])))
+  line_begun : (ss : List (List Word)) (ws : List Word) (w : Word)
+      → cond (some_open ws) (begins_from 0 (map word_count (ss ++ ended ws))) (begins_from 0 (map word_count (ss ++ ended ws)) ++ (length (map (id_in labels) (labels_of (flatten ss ++ ws))) ∷ []))
+      ≡ begins_from 0 (map word_count (ss ++ ended (ws ++ (w ∷ []))))
+  line_begun ss [] w =
+      let count : length (map (id_in labels) (labels_of (flatten ss ++ []))) ≡ in_all (map word_count ss) =
+      length-map (labels_of (flatten ss ++ [])) (id_in labels) ∙ length-map (flatten ss ++ []) (λ (v : Word). v.label) ∙ ap length (append-nil (flatten ss)) ∙ length_flatten ss in
+      ap (λ (rs : List (List Word)). begins_from 0 (map word_count rs) ++ (length (map (id_in labels) (labels_of (flatten ss ++ []))) ∷ [])) (append-nil ss)
+      ∙ ap (λ (k : ℕ). begins_from 0 (map word_count ss) ++ (k ∷ [])) count
+      ∙ sym (begins_more (map word_count ss) 1)
+      ∙ ap (begins_from 0) (sym (map_append word_count ss ((w ∷ []) ∷ [])))
+  line_begun ss (v ∷ ws) w =
+      ap (begins_from 0) (map_append word_count ss ((v ∷ ws) ∷ []))
+      ∙ begins_more (map word_count ss) (length (v ∷ ws))
+      ∙ sym (begins_more (map word_count ss) (length (v ∷ (ws ++ (w ∷ [])))))
+      ∙ ap (begins_from 0) (sym (map_append word_count ss ((v ∷ (ws ++ (w ∷ []))) ∷ [])))
 
-  count-attributes : (vs : List Word) → length (map (idIn names) (namesOf (allAttributes vs))) ≡ inAll (map attributeCount vs)
-  count-attributes vs =
-      length-map (namesOf (allAttributes vs)) (idIn names) ∙ length-map (allAttributes vs) (λ (x : TextAttribute). x .name) ∙ length-flatten (map (λ (v : Word). v .attributes) vs) ∙ ap inAll (counts vs)
+  count_attributes : (vs : List Word) → length (map (id_in names) (names_of (all_attributes vs))) ≡ in_all (map attribute_count vs)
+  count_attributes vs =
+      length-map (names_of (all_attributes vs)) (id_in names) ∙ length-map (all_attributes vs) (λ (x : TextAttribute). x.name) ∙ length_flatten (map (λ (v : Word). v.attributes) vs) ∙ ap in_all (counts vs)
     where
-      counts : (vs : List Word) → map length (map (λ (v : Word). v .attributes) vs) ≡ map attributeCount vs
+      counts : (vs : List Word) → map length (map (λ (v : Word). v.attributes) vs) ≡ map attribute_count vs
       counts [] = refl
-      counts (v ∷ vs) = ap (λ (ks : List ℕ). attributeCount v ∷ ks) (counts vs)
+      counts (v ∷ vs) = ap (λ (ks : List ℕ). attribute_count v ∷ ks) (counts vs)
 
-  at-word : (ss : List (List Word)) (ws : List Word) (w : Word) → afterEach (builtOn labels names) (built ss ws) (linePieces (word w)) ≡ built ss (ws ++ (w ∷ []))
-  unfolding afterEach
-  at-word ss ws w =
+  at_word : (ss : List (List Word)) (ws : List Word) (w : Word) → after_each (built_on labels names) (built ss ws) (line_pieces (word w)) ≡ built ss (ws ++ (w ∷ []))
+  unfolding after_each
+  at_word ss ws w =
       let vs : List Word = flatten ss ++ ws in
-      let old : List TextAttribute = allAttributes vs in
-      let new : List TextAttribute = w .attributes in
-      let b : Built = builtOn labels names (built ss ws) (label (w .label)) in
-      let starts : beginsFrom 0 (map attributeCount vs) ++ (length (map (idIn names) (namesOf old)) ∷ []) ≡ beginsFrom 0 (map attributeCount (vs ++ (w ∷ []))) =
-      ap (λ (k : ℕ). beginsFrom 0 (map attributeCount vs) ++ (k ∷ [])) (count-attributes vs)
-      ∙ sym (begins-more (map attributeCount vs) (attributeCount w))
-      ∙ ap (beginsFrom 0) (sym (map-append attributeCount vs (w ∷ []))) in
-      let refs : map (idIn labels) (labelsOf vs) ++ (idIn labels (w .label) ∷ []) ≡ map (idIn labels) (labelsOf (vs ++ (w ∷ []))) =
-      sym (map-append (idIn labels) (labelsOf vs) (w .label ∷ [])) ∙ ap (map (idIn labels)) (sym (map-append (λ (v : Word). v .label) vs (w ∷ []))) in
-      let ids : map (idIn names) (namesOf old) ++ map (idIn names) (namesOf new) ≡ map (idIn names) (namesOf (allAttributes (vs ++ (w ∷ [])))) =
-      sym (map-append (idIn names) (namesOf old) (namesOf new))
-      ∙ ap (map (idIn names)) (sym (map-append (λ (x : TextAttribute). x .name) old new))
-      ∙ ap (λ (xs : List TextAttribute). map (idIn names) (namesOf xs)) (sym (attributes-more vs w)) in
-      let values : map valueOf (scalesOf old) ++ map valueOf (scalesOf new) ≡ map valueOf (scalesOf (allAttributes (vs ++ (w ∷ [])))) =
-      sym (map-append valueOf (scalesOf old) (scalesOf new))
-      ∙ ap (map valueOf) (sym (map-append (λ (x : TextAttribute). x .scale) old new))
-      ∙ ap (λ (xs : List TextAttribute). map valueOf (scalesOf xs)) (sym (attributes-more vs w)) in
-      let kept : beginsFrom 0 (map length (scalesOf old)) ++ beginsFrom (length (flatten (scalesOf old))) (map length (scalesOf new)) ≡ beginsFrom 0 (map length (scalesOf (allAttributes (vs ++ (w ∷ []))))) =
-      ap (λ (k : ℕ). beginsFrom 0 (map length (scalesOf old)) ++ beginsFrom k (map length (scalesOf new))) (length-flatten (scalesOf old) ∙ sym (zero-add (inAll (map length (scalesOf old)))))
-      ∙ sym (begins-append 0 (map length (scalesOf old)) (map length (scalesOf new)))
-      ∙ ap (beginsFrom 0) (sym (map-append length (scalesOf old) (scalesOf new)) ∙ ap (map length) (sym (map-append (λ (x : TextAttribute). x .scale) old new)))
-      ∙ ap (λ (xs : List TextAttribute). beginsFrom 0 (map length (scalesOf xs))) (sym (attributes-more vs w)) in
-      built-attributes b new
+      let old : List TextAttribute = all_attributes vs in
+      let new : List TextAttribute = w.attributes in
+      let b : Built = built_on labels names (built ss ws) (label w.label) in
+      let starts : begins_from 0 (map attribute_count vs) ++ (length (map (id_in names) (names_of old)) ∷ []) ≡ begins_from 0 (map attribute_count (vs ++ (w ∷ []))) =
+      ap (λ (k : ℕ). begins_from 0 (map attribute_count vs) ++ (k ∷ [])) (count_attributes vs)
+      ∙ sym (begins_more (map attribute_count vs) (attribute_count w))
+      ∙ ap (begins_from 0) (sym (map_append attribute_count vs (w ∷ []))) in
+      let refs : map (id_in labels) (labels_of vs) ++ (id_in labels w.label ∷ []) ≡ map (id_in labels) (labels_of (vs ++ (w ∷ []))) =
+      sym (map_append (id_in labels) (labels_of vs) (w.label ∷ [])) ∙ ap (map (id_in labels)) (sym (map_append (λ (v : Word). v.label) vs (w ∷ []))) in
+      let ids : map (id_in names) (names_of old) ++ map (id_in names) (names_of new) ≡ map (id_in names) (names_of (all_attributes (vs ++ (w ∷ [])))) =
+      sym (map_append (id_in names) (names_of old) (names_of new))
+      ∙ ap (map (id_in names)) (sym (map_append (λ (x : TextAttribute). x.name) old new))
+      ∙ ap (λ (xs : List TextAttribute). map (id_in names) (names_of xs)) (sym (attributes_more vs w)) in
+      let values : map value_of (scales_of old) ++ map value_of (scales_of new) ≡ map value_of (scales_of (all_attributes (vs ++ (w ∷ [])))) =
+      sym (map_append value_of (scales_of old) (scales_of new))
+      ∙ ap (map value_of) (sym (map_append (λ (x : TextAttribute). x.scale) old new))
+      ∙ ap (λ (xs : List TextAttribute). map value_of (scales_of xs)) (sym (attributes_more vs w)) in
+      let kept : begins_from 0 (map length (scales_of old)) ++ begins_from (length (flatten (scales_of old))) (map length (scales_of new)) ≡ begins_from 0 (map length (scales_of (all_attributes (vs ++ (w ∷ []))))) =
+      ap (λ (k : ℕ). begins_from 0 (map length (scales_of old)) ++ begins_from k (map length (scales_of new))) (length_flatten (scales_of old) ∙ sym (zero-add (in_all (map length (scales_of old)))))
+      ∙ sym (begins_append 0 (map length (scales_of old)) (map length (scales_of new)))
+      ∙ ap (begins_from 0) (sym (map_append length (scales_of old) (scales_of new)) ∙ ap (map length) (sym (map_append (λ (x : TextAttribute). x.scale) old new)))
+      ∙ ap (λ (xs : List TextAttribute). begins_from 0 (map length (scales_of xs))) (sym (attributes_more vs w)) in
+      built_attributes b new
       ∙ (λ i. record {
-        lineStarts = line-begun ss ws w i;
-        wordStarts = starts i;
+        line_starts = line_begun ss ws w i;
+        word_starts_of = starts i;
         references = refs i;
         ids = ids i;
         values = values i;
-        scaleStarts = kept i;
-        scales = sym (scales-more vs w) i;
+        scale_starts_of = kept i;
+        scales = sym (scales_more vs w) i;
         within = some ws i;
       })
-      ∙ ap (listsOf (ss ++ ended (ws ++ (w ∷ []))) (someOpen (ws ++ (w ∷ [])))) (append-assoc (flatten ss) ws (w ∷ []))
+      ∙ ap (lists_of (ss ++ ended (ws ++ (w ∷ []))) (some_open (ws ++ (w ∷ [])))) (append_assoc (flatten ss) ws (w ∷ []))
     where
-      some : (ws : List Word) → true ≡ someOpen (ws ++ (w ∷ []))
+      some : (ws : List Word) → true ≡ some_open (ws ++ (w ∷ []))
       some [] = refl
       some (v ∷ ws) = refl
 
-  built-end : (ls : List Line) → AtEnd (builtOn labels names) built (sequences ls) (builtOf labels names (piecesOf ls))
-  unfolding flatten beginsFrom
-  built-end ls = passed (builtOn labels names) built at-blank at-word [] [] ls
+  built_end : (ls : List Line) → AtEnd (built_on labels names) built (sequences ls) (built_of labels names (pieces_of ls))
+  unfolding flatten begins_from
+  built_end ls = passed (built_on labels names) built at_blank at_word [] [] ls
 
-  built-is : (ls : List Line) → (within : Bool) × (builtOf labels names (piecesOf ls) ≡ listsOf (sequences ls) within (allWords (sequences ls)))
-  built-is ls =
-      let r = built-end ls in (
-        someOpen (r .last),
-        r .is ∙ ap (listsOf (r .done ++ ended (r .last)) (someOpen (r .last))) (sym (open-words (r .done) (r .last)))
-            ∙ ap (λ (ss : List (List Word)). listsOf ss (someOpen (r .last)) (flatten ss)) (r .all),
+  built_is : (ls : List Line) → (within : Bool) × (built_of labels names (pieces_of ls) ≡ lists_of (sequences ls) within (all_words (sequences ls)))
+  built_is ls =
+      let r = built_end ls in (
+        some_open r.last,
+        r.is ∙ ap (lists_of (r.done ++ ended r.last) (some_open r.last)) (sym (open_words r.done r.last))
+            ∙ ap (λ (ss : List (List Word)). lists_of ss (some_open r.last) (flatten ss)) r.all,
       )
 
-  starts-with-last : (ns : List ℕ) (k : ℕ) → k ≡ inAll ns → beginsFrom 0 ns ++ (k ∷ []) ≡ startsFrom 0 ns
-  starts-with-last ns k e = ap (λ (j : ℕ). beginsFrom 0 ns ++ (j ∷ [])) (e ∙ sym (zero-add (inAll ns))) ∙ sym (starts-begins 0 ns)
+  starts_with_last : (ns : List ℕ) (k : ℕ) → k ≡ in_all ns → begins_from 0 ns ++ (k ∷ []) ≡ starts_from 0 ns
+  starts_with_last ns k e = ap (λ (j : ℕ). begins_from 0 ns ++ (j ∷ [])) (e ∙ sym (zero-add (in_all ns))) ∙ sym (starts_begins 0 ns)
 
-  line-starts : (ss : List (List Word)) → beginsFrom 0 (map wordCount ss) ++ (length (map (idIn labels) (labelsOf (flatten ss))) ∷ []) ≡ startsFrom 0 (map wordCount ss)
-  line-starts ss =
-      starts-with-last (map wordCount ss) (length (map (idIn labels) (labelsOf (flatten ss))))
-      (length-map (labelsOf (flatten ss)) (idIn labels) ∙ length-map (flatten ss) (λ (v : Word). v .label) ∙ length-flatten ss)
+  line_starts_lem : (ss : List (List Word)) → begins_from 0 (map word_count ss) ++ (length (map (id_in labels) (labels_of (flatten ss))) ∷ []) ≡ starts_from 0 (map word_count ss)
+  line_starts_lem ss =
+      starts_with_last (map word_count ss) (length (map (id_in labels) (labels_of (flatten ss))))
+      (length-map (labels_of (flatten ss)) (id_in labels) ∙ length-map (flatten ss) (λ (v : Word). v.label) ∙ length_flatten ss)
 
-  word-starts : (vs : List Word) → beginsFrom 0 (map attributeCount vs) ++ (length (map (idIn names) (namesOf (allAttributes vs))) ∷ []) ≡ startsFrom 0 (map attributeCount vs)
-  word-starts vs = starts-with-last (map attributeCount vs) (length (map (idIn names) (namesOf (allAttributes vs)))) (count-attributes vs)
+  word_starts : (vs : List Word) → begins_from 0 (map attribute_count vs) ++ (length (map (id_in names) (names_of (all_attributes vs))) ∷ []) ≡ starts_from 0 (map attribute_count vs)
+  word_starts vs = starts_with_last (map attribute_count vs) (length (map (id_in names) (names_of (all_attributes vs)))) (count_attributes vs)
 
-pub built-means : BuiltMeans
+pub built_means : BuiltMeans
 unfolding tables
-built-means ls =
+built_means ls =
     let ss : List (List Word) = sequences ls in
     let vs : List Word = flatten ss in
-    let labels : List Bytes = distinct (labelsOf vs) in
-    let names : List Bytes = distinct (namesOf (allAttributes vs)) in
-    let r = built-is labels names ls in
-    let done : Builds ss (listsOf labels names ss (r .0) vs) = record {
-      lineStarts = line-starts labels names ss;
-      wordStarts = word-starts labels names vs;
+    let labels : List Bytes = distinct (labels_of vs) in
+    let names : List Bytes = distinct (names_of (all_attributes vs)) in
+    let r = built_is labels names ls in
+    let done : Builds ss (lists_of labels names ss r.0 vs) = record {
+      line_starts = line_starts_lem labels names ss;
+      word_starts_of = word_starts labels names vs;
       references = refl;
       ids = refl;
       values = refl;
-      scaleStarts = sym (flat-starts (scalesOf (allAttributes vs)));
+      scale_starts_of = sym (flat_starts (scales_of (all_attributes vs)));
       scales = refl;
     } in
-    subst (Builds ss) (sym (r .1)) done
+    subst (Builds ss) (sym r.1) done

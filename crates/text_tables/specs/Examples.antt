@@ -1,19 +1,18 @@
 -- Desk cases T1 to T4, computed: the texts of T1 and T2, their tables whole with numbers by their bits, and what is written of them; counts of T3 and T4, and T7's length. Assumes nothing.
-use mathlib.Core.Path.{_≡_, refl}
-use mathlib.Core.List.{List, [], _∷_, _++_, flatten}
-use Prim.Native.Nat.{ℕ}
-use lib.ListN.{length, replicate}
-use lib.Ieee.{Float, binary64, ofBits, ofInt, round}
-use Rattle·layout.specs.Layout.{Line, empty, word, escaped, scaleText, attributesText, lineText, moreLines, textOf, sequencesFrom, sequences}
-use Rattle·scales.specs.Value.{digitsWorth, digitsIn, behindPoint, valueOf}
-use Rattle·text_tables·specs.specs.Distinct.{same, idIn, learnt, learntAll}
-use Rattle·text_tables·specs.specs.Tables.{startsFrom, Tables, tables}
-use Rattle·text_tables·specs.specs.Pieces.{piecesOf, afterEach}
-use Rattle·text_tables·specs.specs.Tally.{nothingYet, tallyOf}
-use Rattle·text_tables·specs.specs.Written.{unwritten, stringAt, placesFrom, allLines, writtenText}
+use Rattle.std.specs.Prelude.{◌≡◌, refl, ℕ, length, replicate, Float}
+use mathlib.Core.List.{List, [], ◌∷◌, ◌++◌, flatten}
+use Rattle.std.specs.Float.{binary64}
+use Rattle.std.specs.Float.Ieee.{of_bits, of_int, round}
+use Rattle.layout.specs.Layout.{Line, empty, word, escaped, scale_text, attributes_text, line_text, more_lines, text_of, sequences_from, sequences}
+use Rattle.scales.specs.Value.{digits_worth, digits_in, behind_point, value_of}
+use Rattle.text_tables.specs.Distinct.{same, id_in, learnt, learnt_all}
+use Rattle.text_tables.specs.Tables.{starts_from, Tables, tables}
+use Rattle.text_tables.specs.Pieces.{pieces_of, after_each}
+use Rattle.text_tables.specs.Tally.{nothing_yet, tally_of}
+use Rattle.text_tables.specs.Written.{unwritten, string_at, places_from, all_lines, written_text}
 
 abbrev number : ℕ → Float
-number bits = ofBits binary64 bits
+number bits = of_bits binary64 bits
 
 -- T1: `A␉a:0.5␉b␊B␊␊␊A␉b:-0␊`
 abbrev t1 : List Line
@@ -29,14 +28,14 @@ t1 =
     ∷ empty
     ∷ []
 
-t1-text : textOf t1 ≡ 65 ∷ 9 ∷ 97 ∷ 58 ∷ 48 ∷ 46 ∷ 53 ∷ 9 ∷ 98 ∷ 10 ∷ 66 ∷ 10 ∷ 10 ∷ 10 ∷ 65 ∷ 9 ∷ 98 ∷ 58 ∷ 45 ∷ 48 ∷ 10 ∷ []
-unfolding textOf moreLines lineText attributesText escaped scaleText
-t1-text = refl
+t1_text : text_of t1 ≡ 65 ∷ 9 ∷ 97 ∷ 58 ∷ 48 ∷ 46 ∷ 53 ∷ 9 ∷ 98 ∷ 10 ∷ 66 ∷ 10 ∷ 10 ∷ 10 ∷ 65 ∷ 9 ∷ 98 ∷ 58 ∷ 45 ∷ 48 ∷ 10 ∷ []
+unfolding text_of more_lines line_text attributes_text escaped scale_text
+t1_text = refl
 
 -- "lines 0,2,3; begins 0,2,2,3; ids 0,1,1; values 0.5, 1, −0; references 0,1,0; shares 1,1; label names A,B (starts 0,1,2); attribute names a,b;
 -- scales `0.5`, none, `-0` (starts 0,3,3,5; bytes `0.5-0`)"
-abbrev t1-tables : Tables
-t1-tables = record {
+abbrev t1_tables : Tables
+t1_tables = record {
   corpus = record {
     instances = 2;
     starts = 0 ∷ 2 ∷ 3 ∷ [];
@@ -55,31 +54,31 @@ t1-tables = record {
   scales = record { starts = 0 ∷ 3 ∷ 3 ∷ 5 ∷ []; bytes = 48 ∷ 46 ∷ 53 ∷ 45 ∷ 48 ∷ [] };
 }
 
-t1-read : tables (sequences t1) ≡ t1-tables
-unfolding tables sequencesFrom startsFrom flatten learntAll learnt idIn same valueOf digitsWorth digitsIn behindPoint round ofInt ofBits
-t1-read = refl
+t1_read : tables (sequences t1) ≡ t1_tables
+unfolding tables sequences_from starts_from flatten learnt_all learnt id_in same value_of digits_worth digits_in behind_point round of_int of_bits
+t1_read = refl
 
 -- "Written: `A␉a:0.5␉b␊B␊␊A␉b:-0␊␊`"
-t1-written : writtenText (unwritten t1-tables) ≡ 65 ∷ 9 ∷ 97 ∷ 58 ∷ 48 ∷ 46 ∷ 53 ∷ 9 ∷ 98 ∷ 10 ∷ 66 ∷ 10 ∷ 10 ∷ 65 ∷ 9 ∷ 98 ∷ 58 ∷ 45 ∷ 48 ∷ 10 ∷ 10 ∷ []
-unfolding textOf moreLines lineText attributesText escaped scaleText allLines stringAt placesFrom flatten
-t1-written = refl
+t1_written : written_text (unwritten t1_tables) ≡ 65 ∷ 9 ∷ 97 ∷ 58 ∷ 48 ∷ 46 ∷ 53 ∷ 9 ∷ 98 ∷ 10 ∷ 66 ∷ 10 ∷ 10 ∷ 65 ∷ 9 ∷ 98 ∷ 58 ∷ 45 ∷ 48 ∷ 10 ∷ 10 ∷ []
+unfolding text_of more_lines line_text attributes_text escaped scale_text all_lines string_at places_from flatten
+t1_written = refl
 
 -- T7: "a text of 20 bytes 2/0 .., of 21 accepted": 21 bytes are needed
-t1-needs : length (writtenText (unwritten t1-tables)) ≡ 21
-unfolding textOf moreLines lineText attributesText escaped scaleText allLines stringAt placesFrom flatten
-t1-needs = refl
+t1_needs : length (written_text (unwritten t1_tables)) ≡ 21
+unfolding text_of more_lines line_text attributes_text escaped scale_text all_lines string_at places_from flatten
+t1_needs = refl
 
 -- T2: `h\:m␉C\:\\x:1`
 abbrev t2 : List Line
 t2 = word (record { label = 104 ∷ 58 ∷ 109 ∷ []; attributes = record { name = 67 ∷ 58 ∷ 92 ∷ 120 ∷ []; scale = 49 ∷ [] } ∷ [] }) ∷ []
 
-t2-text : textOf t2 ≡ 104 ∷ 92 ∷ 58 ∷ 109 ∷ 9 ∷ 67 ∷ 92 ∷ 58 ∷ 92 ∷ 92 ∷ 120 ∷ 58 ∷ 49 ∷ []
-unfolding textOf moreLines lineText attributesText escaped scaleText
-t2-text = refl
+t2_text : text_of t2 ≡ 104 ∷ 92 ∷ 58 ∷ 109 ∷ 9 ∷ 67 ∷ 92 ∷ 58 ∷ 92 ∷ 92 ∷ 120 ∷ 58 ∷ 49 ∷ []
+unfolding text_of more_lines line_text attributes_text escaped scale_text
+t2_text = refl
 
 -- "One word; label `h:m` (3 bytes), attribute `C:\x` (4 bytes), value 1, text `1`"
-abbrev t2-tables : Tables
-t2-tables = record {
+abbrev t2_tables : Tables
+t2_tables = record {
   corpus = record {
     instances = 1;
     starts = 0 ∷ 1 ∷ [];
@@ -93,37 +92,37 @@ t2-tables = record {
   scales = record { starts = 0 ∷ 1 ∷ []; bytes = 49 ∷ [] };
 }
 
-t2-read : tables (sequences t2) ≡ t2-tables
-unfolding tables sequencesFrom startsFrom flatten learntAll learnt idIn same valueOf digitsWorth digitsIn behindPoint round ofInt ofBits
-t2-read = refl
+t2_read : tables (sequences t2) ≡ t2_tables
+unfolding tables sequences_from starts_from flatten learnt_all learnt id_in same value_of digits_worth digits_in behind_point round of_int of_bits
+t2_read = refl
 
 -- "Written: the same and two line feeds"
-t2-written : writtenText (unwritten t2-tables) ≡ 104 ∷ 92 ∷ 58 ∷ 109 ∷ 9 ∷ 67 ∷ 92 ∷ 58 ∷ 92 ∷ 92 ∷ 120 ∷ 58 ∷ 49 ∷ 10 ∷ 10 ∷ []
-unfolding textOf moreLines lineText attributesText escaped scaleText allLines stringAt placesFrom flatten
-t2-written = refl
+t2_written : written_text (unwritten t2_tables) ≡ 104 ∷ 92 ∷ 58 ∷ 109 ∷ 9 ∷ 67 ∷ 92 ∷ 58 ∷ 92 ∷ 92 ∷ 120 ∷ 58 ∷ 49 ∷ 10 ∷ 10 ∷ []
+unfolding text_of more_lines line_text attributes_text escaped scale_text all_lines string_at places_from flatten
+t2_written = refl
 
 -- T3: "the empty text, and `␊␊`" have no word; "`A`: one word"
-t3-texts : (textOf (empty ∷ []) ≡ []) × (textOf (empty ∷ empty ∷ empty ∷ []) ≡ 10 ∷ 10 ∷ []) × (textOf (word (record { label = 65 ∷ []; attributes = [] }) ∷ []) ≡ 65 ∷ [])
-unfolding textOf moreLines lineText attributesText escaped
-t3-texts = (refl, refl, refl)
+t3_texts : (text_of (empty ∷ []) ≡ []) × (text_of (empty ∷ empty ∷ empty ∷ []) ≡ 10 ∷ 10 ∷ []) × (text_of (word (record { label = 65 ∷ []; attributes = [] }) ∷ []) ≡ 65 ∷ [])
+unfolding text_of more_lines line_text attributes_text escaped
+t3_texts = (refl, refl, refl)
 
-t3-none : (tallyOf (piecesOf (empty ∷ [])) ≡ nothingYet) × (tallyOf (piecesOf (empty ∷ empty ∷ empty ∷ [])) ≡ nothingYet)
-unfolding afterEach piecesOf
-t3-none = (refl, refl)
+t3_none : (tally_of (pieces_of (empty ∷ [])) ≡ nothing_yet) × (tally_of (pieces_of (empty ∷ empty ∷ empty ∷ [])) ≡ nothing_yet)
+unfolding after_each pieces_of
+t3_none = (refl, refl)
 
-t3-one : tallyOf (piecesOf (word (record { label = 65 ∷ []; attributes = [] }) ∷ [])) ≡ record { sequences = 1; words = 1; attributes = 0; present = 1; scaleBytes = 0; labels = (65 ∷ []) ∷ []; names = []; long = 0 }
-unfolding afterEach piecesOf learnt idIn
-t3-one = refl
+t3_one : tally_of (pieces_of (word (record { label = 65 ∷ []; attributes = [] }) ∷ [])) ≡ record { sequences = 1; words = 1; attributes = 0; present = 1; scale_bytes_of = 0; labels = (65 ∷ []) ∷ []; names = []; long = 0 }
+unfolding after_each pieces_of learnt id_in
+t3_one = refl
 
 -- T1's counts: "Two sequences"
-t1-tally : tallyOf (piecesOf t1) ≡ record { sequences = 2; words = 3; attributes = 3; present = 0; scaleBytes = 5; labels = (65 ∷ []) ∷ (66 ∷ []) ∷ []; names = (97 ∷ []) ∷ (98 ∷ []) ∷ []; long = 0 }
-unfolding afterEach piecesOf learnt idIn same
-t1-tally = refl
+t1_tally : tally_of (pieces_of t1) ≡ record { sequences = 2; words = 3; attributes = 3; present = 0; scale_bytes_of = 5; labels = (65 ∷ []) ∷ (66 ∷ []) ∷ []; names = (97 ∷ []) ∷ (98 ∷ []) ∷ []; long = 0 }
+unfolding after_each pieces_of learnt id_in same
+t1_tally = refl
 
 -- T4: "128 times `A␊`, `␊`, 129 times `A␊`: 4/1": the second is too long
-abbrev manyA : ℕ → List Line
-manyA n = replicate n (word (record { label = 65 ∷ []; attributes = [] }))
+abbrev many_a : ℕ → List Line
+many_a n = replicate n (word (record { label = 65 ∷ []; attributes = [] }))
 
-t4-long : (tallyOf (piecesOf (manyA 128 ++ (empty ∷ manyA 129))) .long ≡ 2) × (tallyOf (piecesOf (manyA 128 ++ (empty ∷ manyA 128))) .long ≡ 0)
-unfolding afterEach piecesOf learnt idIn same
-t4-long = (refl, refl)
+t4_long : ((tally_of (pieces_of (many_a 128 ++ (empty ∷ many_a 129)))).long ≡ 2) × ((tally_of (pieces_of (many_a 128 ++ (empty ∷ many_a 128)))).long ≡ 0)
+unfolding after_each pieces_of learnt id_in same
+t4_long = (refl, refl)

@@ -1,32 +1,27 @@
 // What the writer writes, and how long it is, part by part. Each function that writes appends from a place on, leaves the rest as it
 // was, and answers the place after what it wrote: that there is room is known before, from the length. Tables within their bounds
 // make a length that a 64-bit number holds: at most 8,589,934,591 bytes a word, and half as much more an attribute.
-ghost use mathlib.Core.Path.{_≡_};
-ghost use mathlib.Core.Bool.{_||_};
-ghost use mathlib.Core.List.{[], _∷_};
-ghost use Prim.Native.Nat.{ℕ, _+_, _*_, _-_, _≤_, _<_};
-ghost use lib.Dec.{eqb};
-ghost use lib.ListN.{length, getD};
-ghost use lib.Seq.{slice};
-ghost use Rattle·refusals.specs.Meaning.{Starts};
-ghost use Rattle·layout.specs.Layout.{escaped, scaleText};
-ghost use Rattle·byte_buffers.specs.Stored.{RoomFor, Put};
-ghost use Rattle·text_tables.specs.Written.{stringAt, writtenText};
-ghost use Rattle·text_writing·specs.specs.Ready.{strings, StringStands, AttributeStands, WordStands, SequenceStands, wordTables, lentTables, attributeBytes, wordBytes, sequenceBytes, eachFrom};
-ghost use Rattle·text_writing·specs.specs.Sums.{sumTo, labelBytes, attributeSize, LabelStands, Measurable};
+ghost use Rattle.std.specs.Prelude.{◌≡◌, ◌||◌, [], ◌∷◌, ℕ, ◌+◌, ◌*◌, ◌-◌, ◌≤◌, ◌<◌, eqb, length, get_or};
+ghost use Rattle.std.proofs.Math.Seq.{slice};
+ghost use Rattle.refusals.specs.Meaning.{Starts};
+ghost use Rattle.layout.specs.Layout.{escaped, scale_text};
+ghost use Rattle.byte_buffers.specs.Stored.{RoomFor, Put};
+ghost use Rattle.text_tables.specs.Written.{string_at, written_text};
+ghost use Rattle.text_writing.specs.Ready.{strings, StringStands, AttributeStands, WordStands, SequenceStands, word_tables, lent_tables, attribute_bytes, word_bytes, sequence_bytes, each_from};
+ghost use Rattle.text_writing.specs.Sums.{sum_to, label_bytes_of, attribute_size, LabelStands, Measurable};
 
 // Whether a byte of a name has a backslash before it.
 fn needs_slash(b: u8) -> bool
-    ensures { λ r. ⌜ r ≡ (eqb b 58 || eqb b 92) ⌝ }
+    ensures { result ≡ (eqb b 58 || eqb b 92) }
 {
     (b == 58) | (b == 92)
 }
 
 // The bytes of a name, a backslash before each colon and each backslash.
 fn put_escaped(text: &mut [u8], at: usize, bytes: &[u8], from: usize, to: usize) -> usize
-    requires { ⌜ (from ≤ to) × (to ≤ length (now bytes)) ⌝ }
-    requires { ⌜ RoomFor (escaped (slice from to (now bytes))) (now text) at ⌝ }
-    ensures { λ r. ⌜ Put (escaped (slice from to (now (bytes .entry)))) (now (text .entry)) at r (now (text .exit)) ⌝ }
+    requires from_le_to { (from ≤ to) × (to ≤ length bytes.now) }
+    requires room_for { RoomFor (escaped (slice from to bytes.now)) text.old at }
+    ensures { Put (escaped (slice from to bytes.now)) text.old at result text.new }
 {
     let mut i = from;
     let mut k = at;
@@ -47,9 +42,9 @@ fn put_escaped(text: &mut [u8], at: usize, bytes: &[u8], from: usize, to: usize)
 
 // String i of a list of names.
 fn put_name(text: &mut [u8], at: usize, starts: &[u32], bytes: &[u8], i: usize) -> usize
-    requires { ⌜ StringStands (strings (now starts) (now bytes)) i ⌝ }
-    requires { ⌜ RoomFor (escaped (stringAt (strings (now starts) (now bytes)) i)) (now text) at ⌝ }
-    ensures { λ r. ⌜ Put (escaped (stringAt (strings (now (starts .entry)) (now (bytes .entry))) i)) (now (text .entry)) at r (now (text .exit)) ⌝ }
+    requires string_stands { StringStands (strings starts.now bytes.now) i }
+    requires room_for { RoomFor (escaped (string_at (strings starts.now bytes.now) i)) text.old at }
+    ensures { Put (escaped (string_at (strings starts.now bytes.now) i)) text.old at result text.new }
 {
     let from = lines::at(starts, i);
     let to = lines::at(starts, i + 1);
@@ -58,9 +53,9 @@ fn put_name(text: &mut [u8], at: usize, starts: &[u32], bytes: &[u8], i: usize) 
 
 // String i of a list of kept texts, behind a colon; nothing where it is empty.
 fn put_scale(text: &mut [u8], at: usize, starts: &[u32], bytes: &[u8], i: usize) -> usize
-    requires { ⌜ StringStands (strings (now starts) (now bytes)) i ⌝ }
-    requires { ⌜ RoomFor (scaleText (stringAt (strings (now starts) (now bytes)) i)) (now text) at ⌝ }
-    ensures { λ r. ⌜ Put (scaleText (stringAt (strings (now (starts .entry)) (now (bytes .entry))) i)) (now (text .entry)) at r (now (text .exit)) ⌝ }
+    requires string_stands { StringStands (strings starts.now bytes.now) i }
+    requires room_for { RoomFor (scale_text (string_at (strings starts.now bytes.now) i)) text.old at }
+    ensures { Put (scale_text (string_at (strings starts.now bytes.now) i)) text.old at result text.new }
 {
     let from = lines::at(starts, i);
     let to = lines::at(starts, i + 1);
@@ -82,11 +77,10 @@ fn put_attribute(
     scales: &[u8],
     a: usize,
 ) -> usize
-    requires { ⌜ AttributeStands (now ids) (strings (now «name_starts») (now names)) (strings (now «scale_starts») (now scales)) a ⌝ }
-    requires { ⌜ RoomFor (attributeBytes (now ids) (strings (now «name_starts») (now names)) (strings (now «scale_starts») (now scales)) a) (now text) at ⌝ }
-    ensures { λ r.
-        let bytes = attributeBytes (now (ids .entry)) (strings (now («name_starts» .entry)) (now (names .entry))) (strings (now («scale_starts» .entry)) (now (scales .entry))) a in
-        ⌜ Put bytes (now (text .entry)) at r (now (text .exit)) ⌝ }
+    requires attribute_stands { AttributeStands ids.now (strings name_starts.now names.now) (strings scale_starts.now scales.now) a }
+    requires room_for { RoomFor (attribute_bytes ids.now (strings name_starts.now names.now) (strings scale_starts.now scales.now) a) text.old at }
+    ensures { let bytes = attribute_bytes ids.now (strings name_starts.now names.now) (strings scale_starts.now scales.now) a in
+        Put bytes text.old at result text.new }
 {
     let tab = byte_buffers::put_byte(text, at, 9);
     let id = lines::at(ids, a);
@@ -106,11 +100,10 @@ fn put_attributes(
     first: usize,
     end: usize,
 ) -> usize
-    requires { ⌜ ((a : ℕ) → a < end → AttributeStands (now ids) (strings (now «name_starts») (now names)) (strings (now «scale_starts») (now scales)) a) ⌝ }
-    requires { ⌜ RoomFor (eachFrom (attributeBytes (now ids) (strings (now «name_starts») (now names)) (strings (now «scale_starts») (now scales))) first (end - first)) (now text) at ⌝ }
-    ensures { λ r.
-        let f = attributeBytes (now (ids .entry)) (strings (now («name_starts» .entry)) (now (names .entry))) (strings (now («scale_starts» .entry)) (now (scales .entry))) in
-        ⌜ Put (eachFrom f first (end - first)) (now (text .entry)) at r (now (text .exit)) ⌝ }
+    requires by_index { (a : ℕ) → a < end → AttributeStands ids.now (strings name_starts.now names.now) (strings scale_starts.now scales.now) a }
+    requires room_for { RoomFor (each_from (attribute_bytes ids.now (strings name_starts.now names.now) (strings scale_starts.now scales.now)) first (end - first)) text.old at }
+    ensures { let f = attribute_bytes ids.now (strings name_starts.now names.now) (strings scale_starts.now scales.now) in
+        Put (each_from f first (end - first)) text.old at result text.new }
 {
     let mut a = first;
     let mut k = at;
@@ -136,11 +129,10 @@ fn put_word(
     scales: &[u8],
     w: usize,
 ) -> usize
-    requires { ⌜ WordStands (wordTables (now begins) (now ids) (now references) (strings (now «label_starts») (now labels)) (strings (now «name_starts») (now names)) (strings (now «scale_starts») (now scales))) w ⌝ }
-    requires { ⌜ RoomFor (wordBytes (wordTables (now begins) (now ids) (now references) (strings (now «label_starts») (now labels)) (strings (now «name_starts») (now names)) (strings (now «scale_starts») (now scales))) w) (now text) at ⌝ }
-    ensures { λ r.
-        let t = wordTables (now (begins .entry)) (now (ids .entry)) (now (references .entry)) (strings (now («label_starts» .entry)) (now (labels .entry))) (strings (now («name_starts» .entry)) (now (names .entry))) (strings (now («scale_starts» .entry)) (now (scales .entry))) in
-        ⌜ Put (wordBytes t w) (now (text .entry)) at r (now (text .exit)) ⌝ }
+    requires word_stands { WordStands (word_tables begins.now ids.now references.now (strings label_starts.now labels.now) (strings name_starts.now names.now) (strings scale_starts.now scales.now)) w }
+    requires room_for { RoomFor (word_bytes (word_tables begins.now ids.now references.now (strings label_starts.now labels.now) (strings name_starts.now names.now) (strings scale_starts.now scales.now)) w) text.old at }
+    ensures { let t = word_tables begins.now ids.now references.now (strings label_starts.now labels.now) (strings name_starts.now names.now) (strings scale_starts.now scales.now) in
+        Put (word_bytes t w) text.old at result text.new }
 {
     let label = lines::at(references, w);
     let name = put_name(text, at, label_starts, labels, label);
@@ -176,11 +168,10 @@ fn put_words(
     first: usize,
     end: usize,
 ) -> usize
-    requires { ⌜ ((w : ℕ) → w < end → WordStands (wordTables (now begins) (now ids) (now references) (strings (now «label_starts») (now labels)) (strings (now «name_starts») (now names)) (strings (now «scale_starts») (now scales))) w) ⌝ }
-    requires { ⌜ RoomFor (eachFrom (wordBytes (wordTables (now begins) (now ids) (now references) (strings (now «label_starts») (now labels)) (strings (now «name_starts») (now names)) (strings (now «scale_starts») (now scales)))) first (end - first)) (now text) at ⌝ }
-    ensures { λ r.
-        let t = wordTables (now (begins .entry)) (now (ids .entry)) (now (references .entry)) (strings (now («label_starts» .entry)) (now (labels .entry))) (strings (now («name_starts» .entry)) (now (names .entry))) (strings (now («scale_starts» .entry)) (now (scales .entry))) in
-        ⌜ Put (eachFrom (wordBytes t) first (end - first)) (now (text .entry)) at r (now (text .exit)) ⌝ }
+    requires by_index { (w : ℕ) → w < end → WordStands (word_tables begins.now ids.now references.now (strings label_starts.now labels.now) (strings name_starts.now names.now) (strings scale_starts.now scales.now)) w }
+    requires room_for { RoomFor (each_from (word_bytes (word_tables begins.now ids.now references.now (strings label_starts.now labels.now) (strings name_starts.now names.now) (strings scale_starts.now scales.now))) first (end - first)) text.old at }
+    ensures { let t = word_tables begins.now ids.now references.now (strings label_starts.now labels.now) (strings name_starts.now names.now) (strings scale_starts.now scales.now) in
+        Put (each_from (word_bytes t) first (end - first)) text.old at result text.new }
 {
     let mut w = first;
     let mut k = at;
@@ -206,8 +197,8 @@ fn put_words(
 
 // One more line feed, an empty line, ends each sequence.
 fn end_sequence(text: &mut [u8], at: usize) -> usize
-    requires { ⌜ RoomFor (10 ∷ []) (now text) at ⌝ }
-    ensures { λ r. ⌜ Put (10 ∷ []) (now (text .entry)) at r (now (text .exit)) ⌝ }
+    requires { RoomFor (10 ∷ []) text.old at }
+    ensures { Put (10 ∷ []) text.old at result text.new }
 {
     byte_buffers::put_byte(text, at, 10)
 }
@@ -227,13 +218,12 @@ pub fn put_sequences(
     scale_starts: &[u32],
     scales: &[u8],
 ) -> usize
-    requires { ⌜ ((i : ℕ) → i < instances → SequenceStands (lentTables instances (now lines) (now begins) (now ids) (now references) (strings (now «label_starts») (now labels)) (strings (now «name_starts») (now names)) (strings (now «scale_starts») (now scales))) i) ⌝ }
-    requires { let t = lentTables instances (now lines) (now begins) (now ids) (now references) (strings (now «label_starts») (now labels)) (strings (now «name_starts») (now names)) (strings (now «scale_starts») (now scales)) in
-        ⌜ RoomFor (eachFrom (sequenceBytes t) 0 instances) (now text) 0 ⌝ }
-    ensures { λ r.
-        let t = lentTables instances (now (lines .entry)) (now (begins .entry)) (now (ids .entry)) (now (references .entry))
-        (strings (now («label_starts» .entry)) (now (labels .entry))) (strings (now («name_starts» .entry)) (now (names .entry))) (strings (now («scale_starts» .entry)) (now (scales .entry))) in
-        ⌜ Put (eachFrom (sequenceBytes t) 0 instances) (now (text .entry)) 0 r (now (text .exit)) ⌝ }
+    requires by_index { (i : ℕ) → i < instances → SequenceStands (lent_tables instances lines.now begins.now ids.now references.now (strings label_starts.now labels.now) (strings name_starts.now names.now) (strings scale_starts.now scales.now)) i }
+    requires fact { let t = lent_tables instances lines.now begins.now ids.now references.now (strings label_starts.now labels.now) (strings name_starts.now names.now) (strings scale_starts.now scales.now) in
+        RoomFor (each_from (sequence_bytes t) 0 instances) text.old 0 }
+    ensures { let t = lent_tables instances lines.now begins.now ids.now references.now
+        (strings label_starts.now labels.now) (strings name_starts.now names.now) (strings scale_starts.now scales.now) in
+        Put (each_from (sequence_bytes t) 0 instances) text.old 0 result text.new }
 {
     let mut i = 0usize;
     let mut k = 0usize;
@@ -263,9 +253,9 @@ pub fn put_sequences(
 
 // How many bytes a name has with its backslashes.
 fn escaped_length(bytes: &[u8], from: usize, to: usize) -> usize
-    requires { ⌜ (from ≤ to) × (to ≤ length (now bytes)) × (to ≤ 4294967295) ⌝ }
-    ensures { λ r. ⌜ r ≡ length (escaped (slice from to (now (bytes .entry)))) ⌝ }
-    ensures { λ r. ⌜ r ≤ 8589934590 ⌝ }
+    requires { (from ≤ to) × (to ≤ length bytes.now) × (to ≤ 4294967295) }
+    ensures value { result ≡ length (escaped (slice from to bytes.now)) }
+    ensures upper_bound { result ≤ 8589934590 }
 {
     let mut i = from;
     let mut count = 0usize;
@@ -282,16 +272,16 @@ fn escaped_length(bytes: &[u8], from: usize, to: usize) -> usize
 }
 
 fn wide(x: u32) -> usize
-    ensures { λ r. ⌜ (r ≡ x) × (r ≤ 4294967295) ⌝ }
+    ensures { (result ≡ x) × (result ≤ 4294967295) }
 {
     x as usize
 }
 
 // String i of a list of names.
 fn name_length(starts: &[u32], bytes: &[u8], i: usize) -> usize
-    requires { ⌜ StringStands (strings (now starts) (now bytes)) i ⌝ }
-    ensures { λ r. ⌜ r ≡ length (escaped (stringAt (strings (now (starts .entry)) (now (bytes .entry))) i)) ⌝ }
-    ensures { λ r. ⌜ r ≤ 8589934590 ⌝ }
+    requires { StringStands (strings starts.now bytes.now) i }
+    ensures value { result ≡ length (escaped (string_at (strings starts.now bytes.now) i)) }
+    ensures upper_bound { result ≤ 8589934590 }
 {
     let from = wide(starts[i]);
     let to = wide(starts[i + 1]);
@@ -300,9 +290,9 @@ fn name_length(starts: &[u32], bytes: &[u8], i: usize) -> usize
 
 // String i of a list of kept texts, with its colon; 0 where it is empty.
 fn scale_length(starts: &[u32], bytes: &[u8], i: usize) -> usize
-    requires { ⌜ StringStands (strings (now starts) (now bytes)) i ⌝ }
-    ensures { λ r. ⌜ r ≡ length (scaleText (stringAt (strings (now (starts .entry)) (now (bytes .entry))) i)) ⌝ }
-    ensures { λ r. ⌜ r ≤ 4294967296 ⌝ }
+    requires { StringStands (strings starts.now bytes.now) i }
+    ensures value { result ≡ length (scale_text (string_at (strings starts.now bytes.now) i)) }
+    ensures upper_bound { result ≤ 4294967296 }
 {
     let from = wide(starts[i]);
     let to = wide(starts[i + 1]);
@@ -314,10 +304,10 @@ fn scale_length(starts: &[u32], bytes: &[u8], i: usize) -> usize
 
 // The labels of all words, each with its line feed.
 fn labels_length(references: &[u32], starts: &[u32], bytes: &[u8], words: usize) -> usize
-    requires { ⌜ words ≤ 1048576 ⌝ }
-    requires { ⌜ ((w : ℕ) → w < words → LabelStands (now references) (strings (now starts) (now bytes)) w) ⌝ }
-    ensures { λ r. ⌜ r ≡ sumTo (labelBytes (now (references .entry)) (strings (now (starts .entry)) (now (bytes .entry)))) words ⌝ }
-    ensures { λ r. ⌜ r ≤ words * 8589934591 ⌝ }
+    requires words_bound { words ≤ 1048576 }
+    requires by_index { (w : ℕ) → w < words → LabelStands references.now (strings starts.now bytes.now) w }
+    ensures value { result ≡ sum_to (label_bytes_of references.now (strings starts.now bytes.now)) words }
+    ensures upper_bound { result ≤ words * 8589934591 }
 {
     let mut w = 0usize;
     let mut total = 0usize;
@@ -338,9 +328,9 @@ fn attribute_length(
     scales: &[u8],
     a: usize,
 ) -> usize
-    requires { ⌜ AttributeStands (now ids) (strings (now «name_starts») (now names)) (strings (now «scale_starts») (now scales)) a ⌝ }
-    ensures { λ r. ⌜ r ≡ attributeSize (now (ids .entry)) (strings (now («name_starts» .entry)) (now (names .entry))) (strings (now («scale_starts» .entry)) (now (scales .entry))) a ⌝ }
-    ensures { λ r. ⌜ r ≤ 12884901887 ⌝ }
+    requires { AttributeStands ids.now (strings name_starts.now names.now) (strings scale_starts.now scales.now) a }
+    ensures value { result ≡ attribute_size ids.now (strings name_starts.now names.now) (strings scale_starts.now scales.now) a }
+    ensures upper_bound { result ≤ 12884901887 }
 {
     let id = lines::at(ids, a);
     1 + (name_length(name_starts, names, id) + scale_length(scale_starts, scales, a))
@@ -355,10 +345,10 @@ fn attributes_length(
     scales: &[u8],
     attributes: usize,
 ) -> usize
-    requires { ⌜ attributes ≤ 4194304 ⌝ }
-    requires { ⌜ ((a : ℕ) → a < attributes → AttributeStands (now ids) (strings (now «name_starts») (now names)) (strings (now «scale_starts») (now scales)) a) ⌝ }
-    ensures { λ r. ⌜ r ≡ sumTo (attributeSize (now (ids .entry)) (strings (now («name_starts» .entry)) (now (names .entry))) (strings (now («scale_starts» .entry)) (now (scales .entry)))) attributes ⌝ }
-    ensures { λ r. ⌜ r ≤ attributes * 12884901887 ⌝ }
+    requires attributes_bound { attributes ≤ 4194304 }
+    requires by_index { (a : ℕ) → a < attributes → AttributeStands ids.now (strings name_starts.now names.now) (strings scale_starts.now scales.now) a }
+    ensures value { result ≡ sum_to (attribute_size ids.now (strings name_starts.now names.now) (strings scale_starts.now scales.now)) attributes }
+    ensures upper_bound { result ≤ attributes * 12884901887 }
 {
     let mut a = 0usize;
     let mut total = 0usize;
@@ -385,11 +375,10 @@ pub fn written_length(
     scale_starts: &[u32],
     scales: &[u8],
 ) -> usize
-    requires { ⌜ Measurable (lentTables instances (now lines) (now begins) (now ids) (now references) (strings (now «label_starts») (now labels)) (strings (now «name_starts») (now names)) (strings (now «scale_starts») (now scales))) words attributes ⌝ }
-    ensures { λ r.
-        let t = lentTables instances (now (lines .entry)) (now (begins .entry)) (now (ids .entry)) (now (references .entry))
-        (strings (now («label_starts» .entry)) (now (labels .entry))) (strings (now («name_starts» .entry)) (now (names .entry))) (strings (now («scale_starts» .entry)) (now (scales .entry))) in
-        ⌜ r ≡ length (writtenText t) ⌝ }
+    requires { Measurable (lent_tables instances lines.now begins.now ids.now references.now (strings label_starts.now labels.now) (strings name_starts.now names.now) (strings scale_starts.now scales.now)) words attributes }
+    ensures { let t = lent_tables instances lines.now begins.now ids.now references.now
+        (strings label_starts.now labels.now) (strings name_starts.now names.now) (strings scale_starts.now scales.now) in
+        result ≡ length (written_text t) }
 {
     let named = labels_length(references, label_starts, labels, words);
     let marked = attributes_length(ids, name_starts, names, scale_starts, scales, attributes);

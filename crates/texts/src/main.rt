@@ -3,8 +3,7 @@
 mod print;
 
 use lines::Totals;
-use read_text::TextReading;
-use read_text::TextSizes;
+use read_text::{TextReading, TextSizes};
 use write_check::Names;
 use write_text::Written;
 

@@ -1,147 +1,147 @@
 -- What a trainer answers means what `Meaning` says. Assumes nothing.
-use mathlib.Core.Path.{_≡_, refl, sym, _∙_, ap}
-use mathlib.Core.List.{List, [], _∷_, _++_}
-use mathlib.Core.Logic.{_⊎_, inl, inr}
-use Prim.Native.Nat.{ℕ, _≤_, _<_}
+use mathlib.Core.Path.{◌≡◌, refl, sym, ◌∙◌, ap}
+use mathlib.Core.List.{List, [], ◌∷◌, ◌++◌}
+use mathlib.Core.Logic.{◌⊎◌, inl, inr}
+use Prim.Native.Nat.{ℕ, ◌≤◌, ◌<◌}
 use native.Mathlib.Omega.{arith}
-use lib.ListN.{drop, List·getD-append}
+use lib.ListN.{drop, get_or-append}
 use lib.Ieee.{nan}
-use Rattle·refusals.specs.declared.Checked.{Checked}
-use Rattle·refusals.specs.declared.Checked.the-variants.{Accepted, Refused}
-use Rattle·refusals.specs.Refusals.{numberedIn, refusedIn}
-use Rattle·refusals.specs.Said.{Said, refused, orRefused}
-use Rattle·refusals.proofs.Said.{same-given, same-refusal}
-use Rattle·refusal_rows.specs.Given.{OneOf}
-use Rattle·training.specs.declared.Training.{Training}
-use Rattle·training.specs.declared.Trained.{Trained}
-use Rattle·training.proofs.Accepted.{answers-true}
-use Rattle·parameters.specs.Parameters.{AllFit, ownOf}
-use Rattle·training_check.proofs.Meant.{training-means}
-use Rattle·parameters.specs.declared.Method.{Method}
-use Rattle·parameters.specs.Trainers.{ruleFor, settingsFor}
-use Rattle·trainers·specs.specs.Promise.{Given, Buffers, Outcome, trainedWith, said, inputOf, checkedOf, trainedOf, answerTo, buffersAfter, Promised}
-use Rattle·trainers·specs.specs.Meaning.{AcceptedTrue, RefusedMeans, RefusedTrue}
-use Rattle·trainers·proofs.proofs.Trained.{trained-late, trained-zero}
-use Rattle·trainers·proofs.proofs.Fronts.{after-is, fronts}
+use Rattle.refusals.specs.declared.Checked.{Checked}
+use Rattle.refusals.specs.declared.Checked.TheVariants.{Accepted, Refused}
+use Rattle.refusals.specs.Refusals.{numbered_in_of, refused_in_of}
+use Rattle.refusals.specs.Said.{Said, refused, or_refused}
+use Rattle.refusals.proofs.Said.{same_given, same_refusal}
+use Rattle.refusal_rows.specs.Given.{OneOf}
+use Rattle.training.specs.declared.Training.{Training}
+use Rattle.training.specs.declared.Trained.{Trained}
+use Rattle.training.proofs.Accepted.{answers_true}
+use Rattle.parameters.specs.Parameters.{AllFit, own_of}
+use Rattle.training_check.proofs.Meant.{training_means}
+use Rattle.parameters.specs.declared.Method.{Method}
+use Rattle.parameters.specs.Trainers.{rule_for, settings_for}
+use Rattle.trainers.specs.Promise.{Given, Buffers, Outcome, trained_with, said, input_of, checked_of, trained_of, answer_to, buffers_after, Promised}
+use Rattle.trainers.specs.Meaning.{AcceptedTrue, RefusedMeans, RefusedTrue}
+use Rattle.trainers.proofs.Trained.{trained_late, trained_zero}
+use Rattle.trainers.proofs.Fronts.{after_is, fronts}
 
 -- an answer that is accepted comes from the training
-pub accepts : (checked : Checked) (next : Said Trained) (epochs visits updates : ℕ) → orRefused checked next ≡ trainedWith epochs visits updates → (checked ≡ Accepted) × (next ≡ trainedWith epochs visits updates)
+pub accepts : (checked : Checked) (next : Said Trained) (epochs visits updates : ℕ) → or_refused checked next ≡ trained_with epochs visits updates → (checked ≡ Accepted) × (next ≡ trained_with epochs visits updates)
 accepts Accepted next epochs visits updates h = (refl, h)
-accepts (Refused why) next epochs visits updates h = let z : _≡_ {A = ℕ} 0 1 = cc in absurd (omega arith)
+accepts (Refused why) next epochs visits updates h = let z : ◌≡◌ {A = ℕ} 0 1 = cc in absurd (omega arith)
 
-pub trained-so : (a : Training) (epochs visits updates : ℕ) → said a ≡ trainedWith epochs visits updates → a ≡ Training.Accepted (record { epochs = epochs; visits = visits; updates = updates })
-trained-so (Training.Accepted t) epochs visits updates h = ap Training.Accepted (same-given h)
-trained-so (Training.Refused why) epochs visits updates h = let z : _≡_ {A = ℕ} 0 1 = cc in absurd (omega arith)
+pub trained_so : (a : Training) (epochs visits updates : ℕ) → said a ≡ trained_with epochs visits updates → a ≡ Training.Accepted (record { epochs = epochs; visits = visits; updates = updates })
+trained_so (Training.Accepted t) epochs visits updates h = ap Training.Accepted (same_given h)
+trained_so (Training.Refused why) epochs visits updates h = let z : ◌≡◌ {A = ℕ} 0 1 = cc in absurd (omega arith)
 
 -- 7 has seen to it that an epoch is allowed
-some-epochs : (method : Method) → AllFit (ownOf method) → 1 ≤ settingsFor method .epochs
-some-epochs (Method.AveragedPerceptron p) f = f .0 .0
-some-epochs (Method.PassiveAggressive p) f = f .0 .0
-some-epochs (Method.Arow p) f = f .0 .0
+some_epochs : (method : Method) → AllFit (own_of method) → 1 ≤ (settings_for method).epochs
+some_epochs (Method.AveragedPerceptron p) f = f.0.0
+some_epochs (Method.PassiveAggressive p) f = f.0.0
+some_epochs (Method.Arow p) f = f.0.0
 
-pub accepted-true : AcceptedTrue
-unfolding answerTo
-accepted-true method given before outcome kept epochs visits updates answer =
-    let a = accepts (checkedOf method given before) _ epochs visits updates (sym (kept .answers) ∙ answer) in
-    let means = training-means (inputOf given before) (ownOf method) in
-    let f = given .model .features .count in
-    let t = answers-true (ruleFor method) (settingsFor method) (given .model) (given .corpus) _ (some-epochs method (means .sound (a .0) .1)) (trained-so _ epochs visits updates (a .1)) in
+pub accepted_true : AcceptedTrue
+unfolding answer_to
+accepted_true method given before outcome kept epochs visits updates answer =
+    let a = accepts (checked_of method given before) _ epochs visits updates (sym kept.answers ∙ answer) in
+    let means = training_means (input_of given before) (own_of method) in
+    let f = given.model.features.count in
+    let t = answers_true (rule_for method) (settings_for method) given.model given.corpus _ (some_epochs method (means.sound a.0).1) (trained_so _ epochs visits updates a.1) in
     record {
-      unrefused = means .accepted .0 (a .0);
-      least = t .least;
-      most = t .most;
-      visits-are = t .visits;
-      made = t .made;
-      none-refused = t .sound;
-      updates-are = t .updates;
-      all-finite = λ i l.
-          let g = List·getD-append (trainedOf method given .weights) (drop f (before .weights)) nan i (omega (arith, l, t .long)) in
-          rw (after-is method given before outcome kept (a .0), g) (t .all-finite i l);
+      unrefused = means.accepted.0 a.0;
+      least = t.least;
+      most = t.most;
+      visits_are = t.visits;
+      made = t.made;
+      none_refused = t.sound;
+      updates_are = t.updates;
+      all_finite = λ i l.
+          let g = get_or-append (trained_of method given).weights (drop f before.weights) nan i (omega (arith, l, t.long)) in
+          rw (after_is method given before outcome kept a.0, g) (t.all_finite i l);
     }
 
 -- ---- refusals
 
-pub trained-not : (a : Training) (number table place : ℕ) → said a ≡ refused (numberedIn number table place) → a ≡ Training.Refused (numberedIn number table place)
-trained-not (Training.Accepted t) number table place h = let z : _≡_ {A = ℕ} 0 1 = cc in absurd (omega arith)
-trained-not (Training.Refused why) number table place h = ap Training.Refused (same-refusal h)
+pub trained_not : (a : Training) (number table place : ℕ) → said a ≡ refused (numbered_in_of number table place) → a ≡ Training.Refused (numbered_in_of number table place)
+trained_not (Training.Accepted t) number table place h = let z : ◌≡◌ {A = ℕ} 0 1 = cc in absurd (omega arith)
+trained_not (Training.Refused why) number table place h = ap Training.Refused (same_refusal h)
 
-pub refuses : (checked : Checked) (next : Said Trained) (number table place : ℕ) → orRefused checked next ≡ refused (numberedIn number table place) → (checked ≡ refusedIn number table place) ⊎ ((checked ≡ Accepted) × (next ≡ refused (numberedIn number table place)))
+pub refuses : (checked : Checked) (next : Said Trained) (number table place : ℕ) → or_refused checked next ≡ refused (numbered_in_of number table place) → (checked ≡ refused_in_of number table place) ⊎ ((checked ≡ Accepted) × (next ≡ refused (numbered_in_of number table place)))
 refuses Accepted next number table place h = inr (refl, h)
-refuses (Refused why) next number table place h = inl (ap Refused (same-refusal h))
+refuses (Refused why) next number table place h = inl (ap Refused (same_refusal h))
 
 -- 1 to 7 and 12 are not 8 and 9
-early-one : (number : ℕ) → OneOf (1 ∷ 2 ∷ 12 ∷ 3 ∷ 4 ∷ 5 ∷ 6 ∷ 7 ∷ []) number → (number ≤ 7) ⊎ (9 < number)
-early-one number (inl e) = inl (omega arith)
-early-one number (inr (inl e)) = inl (omega arith)
-early-one number (inr (inr (inl e))) = inr (omega arith)
-early-one number (inr (inr (inr (inl e)))) = inl (omega arith)
-early-one number (inr (inr (inr (inr (inl e))))) = inl (omega arith)
-early-one number (inr (inr (inr (inr (inr (inl e)))))) = inl (omega arith)
-early-one number (inr (inr (inr (inr (inr (inr (inl e))))))) = inl (omega arith)
-early-one number (inr (inr (inr (inr (inr (inr (inr (inl e)))))))) = inl (omega arith)
+early_one : (number : ℕ) → OneOf (1 ∷ 2 ∷ 12 ∷ 3 ∷ 4 ∷ 5 ∷ 6 ∷ 7 ∷ []) number → (number ≤ 7) ⊎ (9 < number)
+early_one number (inl e) = inl (omega arith)
+early_one number (inr (inl e)) = inl (omega arith)
+early_one number (inr (inr (inl e))) = inr (omega arith)
+early_one number (inr (inr (inr (inl e)))) = inl (omega arith)
+early_one number (inr (inr (inr (inr (inl e))))) = inl (omega arith)
+early_one number (inr (inr (inr (inr (inr (inl e)))))) = inl (omega arith)
+early_one number (inr (inr (inr (inr (inr (inr (inl e))))))) = inl (omega arith)
+early_one number (inr (inr (inr (inr (inr (inr (inr (inl e)))))))) = inl (omega arith)
 
-late-one : (number : ℕ) → OneOf (8 ∷ 9 ∷ []) number → (7 < number) × (number ≤ 9)
-late-one number (inl e) = (omega arith, omega arith)
-late-one number (inr (inl e)) = (omega arith, omega arith)
+late_one : (number : ℕ) → OneOf (8 ∷ 9 ∷ []) number → (7 < number) × (number ≤ 9)
+late_one number (inl e) = (omega arith, omega arith)
+late_one number (inr (inl e)) = (omega arith, omega arith)
 
 pub apart : (number : ℕ) → OneOf (1 ∷ 2 ∷ 12 ∷ 3 ∷ 4 ∷ 5 ∷ 6 ∷ 7 ∷ []) number → OneOf (8 ∷ 9 ∷ []) number → ⊥
-apart number h k = go (early-one number h) (late-one number k)
+apart number h k = go (early_one number h) (late_one number k)
   where
     go : (number ≤ 7) ⊎ (9 < number) → (7 < number) × (number ≤ 9) → ⊥
     go (inl l) (m, n) = omega arith
     go (inr l) (m, n) = omega arith
 
 -- one of some is one of more
-in-more : (some more : List ℕ) (number : ℕ) → OneOf some number → OneOf (some ++ more) number
-in-more [] more number h = absurd h
-in-more (this ∷ some) more number (inl e) = inl e
-in-more (this ∷ some) more number (inr h) = inr (in-more some more number h)
+in_more : (some more : List ℕ) (number : ℕ) → OneOf some number → OneOf (some ++ more) number
+in_more [] more number h = absurd h
+in_more (this ∷ some) more number (inl e) = inl e
+in_more (this ∷ some) more number (inr h) = inr (in_more some more number h)
 
 pub among : (number : ℕ) → OneOf (1 ∷ 2 ∷ 12 ∷ 3 ∷ 4 ∷ 5 ∷ 6 ∷ 7 ∷ []) number → OneOf (1 ∷ 2 ∷ 12 ∷ 3 ∷ 4 ∷ 5 ∷ 6 ∷ 7 ∷ 8 ∷ 9 ∷ []) number
-among number h = in-more (1 ∷ 2 ∷ 12 ∷ 3 ∷ 4 ∷ 5 ∷ 6 ∷ 7 ∷ []) (8 ∷ 9 ∷ []) number h
+among number h = in_more (1 ∷ 2 ∷ 12 ∷ 3 ∷ 4 ∷ 5 ∷ 6 ∷ 7 ∷ []) (8 ∷ 9 ∷ []) number h
 
-pub among-late : (number : ℕ) → OneOf (8 ∷ 9 ∷ []) number → OneOf (1 ∷ 2 ∷ 12 ∷ 3 ∷ 4 ∷ 5 ∷ 6 ∷ 7 ∷ 8 ∷ 9 ∷ []) number
-among-late number h = inr (inr (inr (inr (inr (inr (inr (inr h)))))))
+pub among_late : (number : ℕ) → OneOf (8 ∷ 9 ∷ []) number → OneOf (1 ∷ 2 ∷ 12 ∷ 3 ∷ 4 ∷ 5 ∷ 6 ∷ 7 ∷ 8 ∷ 9 ∷ []) number
+among_late number h = inr (inr (inr (inr (inr (inr (inr (inr h)))))))
 
 module _ (method : Method) (given : Given) (before : Buffers) (outcome : Outcome) (kept : Promised method given before outcome) (number table place : ℕ) where
-  early-means : checkedOf method given before ≡ refusedIn number table place → RefusedMeans method given before (outcome .after) number table place
-  unfolding buffersAfter
-  early-means h =
-      let one = training-means (inputOf given before) (ownOf method) .only _ h in
+  early_means : checked_of method given before ≡ refused_in_of number table place → RefusedMeans method given before outcome.after number table place
+  unfolding buffers_after
+  early_means h =
+      let one = (training_means (input_of given before) (own_of method)).only _ h in
       record {
         only = among number one;
-        early = λ l. (h, rw h at (kept .after));
+        early = λ l. (h, rw h at kept.after);
         late = λ l. absurd (apart number one l);
       }
 
-  late-means : checkedOf method given before ≡ Accepted → said (trainedOf method given .answer) ≡ refused (numberedIn number table place) → RefusedMeans method given before (outcome .after) number table place
-  late-means h t =
-      let e = trained-not (trainedOf method given .answer) number table place t in
-      let one = trained-late (ruleFor method) (settingsFor method) (given .model) (given .corpus) _ e in
+  late_means : checked_of method given before ≡ Accepted → said (trained_of method given).answer ≡ refused (numbered_in_of number table place) → RefusedMeans method given before outcome.after number table place
+  late_means h t =
+      let e = trained_not (trained_of method given).answer number table place t in
+      let one = trained_late (rule_for method) (settings_for method) given.model given.corpus _ e in
       let f = fronts method given before outcome kept h in
       record {
-        only = among-late number (one .0);
-        early = λ l. absurd (apart number l (one .0));
+        only = among_late number one.0;
+        early = λ l. absurd (apart number l one.0);
         late = λ l. (
-          one .1,
+          one.1,
           (
-            training-means (inputOf given before) (ownOf method) .accepted .0 h,
+            (training_means (input_of given before) (own_of method)).accepted.0 h,
             record {
-              weights = f .weights ∙ trained-zero (ruleFor method) (settingsFor method) (given .model) (given .corpus) _ e;
-              beside = f .beside;
-              truly = f .truly;
-              predicted = f .predicted;
-              order = f .order;
+              weights = f.weights ∙ trained_zero (rule_for method) (settings_for method) given.model given.corpus _ e;
+              beside = f.beside;
+              truly = f.truly;
+              predicted = f.predicted;
+              order = f.order;
             },
           ),
         );
       }
 
-  refused-means : (checkedOf method given before ≡ refusedIn number table place) ⊎ ((checkedOf method given before ≡ Accepted) × (said (trainedOf method given .answer) ≡ refused (numberedIn number table place))) → RefusedMeans method given before (outcome .after) number table place
-  refused-means (inl h) = early-means h
-  refused-means (inr h) = late-means (h .0) (h .1)
+  refused_means : (checked_of method given before ≡ refused_in_of number table place) ⊎ ((checked_of method given before ≡ Accepted) × (said (trained_of method given).answer ≡ refused (numbered_in_of number table place))) → RefusedMeans method given before outcome.after number table place
+  refused_means (inl h) = early_means h
+  refused_means (inr h) = late_means h.0 h.1
 
-pub refused-true : RefusedTrue
-unfolding answerTo
-refused-true method given before outcome kept number table place answer =
-    refused-means method given before outcome kept number table place (refuses (checkedOf method given before) _ number table place (sym (kept .answers) ∙ answer))
+pub refused_true : RefusedTrue
+unfolding answer_to
+refused_true method given before outcome kept number table place answer =
+    refused_means method given before outcome kept number table place (refuses (checked_of method given before) _ number table place (sym kept.answers ∙ answer))

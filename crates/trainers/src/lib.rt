@@ -1,9 +1,10 @@
 // The trainers, as one call with the method as a parameter. It tests all that it is given, with refusals 1 to 7, then learns.
-ghost use mathlib.Core.Path.{_≡_};
-ghost use Rattle·feature_gen.specs.Lent.{modelWas};
-ghost use Rattle·lines.specs.Entry.{dataWas};
-ghost use Rattle·trainers·specs.specs.Promise.{Given, Promised};
-ghost use Rattle·trainers·specs.specs.Lent.{buffersWere, buffersAre, sizesOf};
+ghost use Rattle.std.specs.Prelude.{◌≡◌};
+ghost use Rattle.feature_gen.specs.Lent.{model_was};
+ghost use Rattle.lines.specs.Entry.{data_was};
+ghost use Rattle.trainers.specs.Promise.{Given, Promised};
+ghost use Rattle.trainers.specs.Lent.{buffers_were, buffers_are, sizes_for};
+
 use feature_gen::Counts;
 use lines::Totals;
 use parameters::Method;
@@ -14,7 +15,7 @@ use training_check::Lent;
 
 // The counts of the call, as they are used inside.
 fn sizes_of(labels: u32, counts: Counts, totals: Totals) -> Sizes
-    ensures { λ r. ⌜ r ≡ sizesOf labels counts totals ⌝ }
+    ensures { result ≡ sizes_for labels counts totals }
 {
     Sizes {
         labels: labels as usize,
@@ -54,14 +55,13 @@ pub fn train(
     predicted: &mut [f64],
     order: &mut [u32],
 ) -> Training
-    ensures { λ r.
-        let given : Given = record {
-          model = modelWas labels counts kinds destinations sources «attribute_starts» «attribute_entries» «label_starts» «label_entries»;
-          corpus = dataWas totals lines begins ids values references shares;
-        } in
-        let before = buffersWere weights beside truly predicted order in
-        let after = buffersAre weights beside truly predicted order in
-        ⌜ Promised method given before (record { answer = r; after = after }) ⌝ }
+    ensures { let given : Given = record {
+      model = model_was labels counts kinds destinations sources attribute_starts attribute_entries label_starts label_entries;
+      corpus = data_was totals lines begins ids values references shares;
+    } in
+        let before = buffers_were weights beside truly predicted order in
+        let after = buffers_are weights beside truly predicted order in
+        Promised method given before (record { answer = result; after = after }) }
 {
     let lent = Lent {
         weights: weights.len(),

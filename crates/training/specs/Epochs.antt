@@ -1,25 +1,21 @@
 -- Epochs, the stop, the final averaging and the result, from document 01's section on training. Assumes nothing.
-use mathlib.Core.Bool.{Bool, true, false, cond, _||_}
-use mathlib.Core.List.{List, [], _∷_}
-use Prim.Native.Nat.{ℕ, zero, suc, _+_}
-use lib.ListN.{getD, replicate}
-use lib.Ieee.{Float}
-use Rattle·refusals.specs.Refusals.{numbered}
-use Rattle·refusals.specs.declared.Refusal.{Refusal}
-use Rattle·training·specs.specs.declared.Visit.{Visit}
-use Rattle·training·specs.specs.declared.Visit.the-variants.{Unchanged, Updated, Refused}
-use Rattle·training·specs.specs.declared.Progress.{Progress}
-use Rattle·training·specs.specs.declared.Trained.{Trained}
-use Rattle·training·specs.specs.declared.Training.{Training}
-use Rattle·training·specs.specs.declared.Training.the-variants.{Accepted, Refused as NotTrained}
-use Rattle·shuffle.specs.Shuffle.{Deal, shuffled}
-use Rattle·lines.specs.Passes.{through}
-use Rattle·binary64.specs.Numbers.{nought, whole}
-use Rattle·lines.specs.Tables.{Model}
-use Rattle·lines.specs.Data.{Data}
-use Rattle·fronts.specs.Finite.{allFinite}
-use Rattle·training·specs.specs.Rules.{Rule, Learned, besideAtFirst, stops, averagedBy, _⊘_}
-use Rattle·training·specs.specs.Visits.{TrainingState, visited}
+use Rattle.std.specs.Prelude.{Bool, true, false, cond, ◌||◌, List, [], ◌∷◌, ℕ, zero, suc, ◌+◌, get_or, replicate, Float}
+use Rattle.refusals.specs.Refusals.{numbered}
+use Rattle.refusals.specs.declared.Refusal.{Refusal}
+use Rattle.training.specs.declared.Visit.{Visit}
+use Rattle.training.specs.declared.Visit.TheVariants.{Unchanged, Updated, Refused}
+use Rattle.training.specs.declared.Progress.{Progress}
+use Rattle.training.specs.declared.Trained.{Trained}
+use Rattle.training.specs.declared.Training.{Training}
+use Rattle.training.specs.declared.Training.TheVariants.{Accepted, Refused as NotTrained}
+use Rattle.shuffle.specs.Shuffle.{Deal, shuffled}
+use Rattle.lines.specs.Passes.{through}
+use Rattle.binary64.specs.Numbers.{nought, whole}
+use Rattle.lines.specs.Tables.{Model}
+use Rattle.lines.specs.Data.{Data}
+use Rattle.fronts.specs.Finite.{all_finite_of}
+use Rattle.training.specs.Rules.{Rule, Learned, beside_at_first, stops, averaged_by, ◌⊘◌}
+use Rattle.training.specs.Visits.{TrainingState, visited}
 
 pub record Settings : Type 0 where
   pub epochs : ℕ
@@ -38,51 +34,51 @@ pub record Result : Type 0 where
   pub answer : Training
   pub weights : List Float
 
-abbrev pub isRefused : Visit → Bool
-isRefused Unchanged = false
-isRefused Updated = false
-isRefused (Refused why) = true
+abbrev pub is_refused : Visit → Bool
+is_refused Unchanged = false
+is_refused Updated = false
+is_refused (Refused why) = true
 
 -- i, i + 1, ..: n of them
-unfoldable pub countedFrom : ℕ → ℕ → List ℕ
-countedFrom i zero = []
-countedFrom i (suc n) = i ∷ countedFrom (suc i) n
+unfoldable pub counted_from : ℕ → ℕ → List ℕ
+counted_from i zero = []
+counted_from i (suc n) = i ∷ counted_from (suc i) n
 
 -- "Order starts 0 to N−1"
-abbrev pub upTo : ℕ → List ℕ
-upTo n = countedFrom 0 n
+abbrev pub up_to : ℕ → List ℕ
+up_to n = counted_from 0 n
 
 -- an epoch begins with a loss of +0
 unfoldable pub opened : TrainingState → TrainingState
 opened s = record {
-  progress = record { visit = Unchanged; visits = s .progress .visits; updates = s .progress .updates; loss = nought };
-  learned = s .learned;
+  progress = record { visit = Unchanged; visits = s.progress.visits; updates = s.progress.updates; loss = nought };
+  learned = s.learned;
 }
 
 -- an epoch's visits, whatever a visit is
 module _ (visit : ℕ → TrainingState → TrainingState) (order : List ℕ) where
   -- the instance at a place of the order, unless a visit was refused
-  unfoldable pub visitedAt : ℕ → TrainingState → TrainingState
-  visitedAt place s = cond (isRefused (s .progress .visit)) s (visit (getD order place 0) s)
+  unfoldable pub visited_at : ℕ → TrainingState → TrainingState
+  visited_at place s = cond (is_refused s.progress.visit) s (visit (get_or order place 0) s)
 
-  unfoldable pub epochOver : ℕ → TrainingState → TrainingState
-  epochOver instances s = through visitedAt 0 instances (opened s)
+  unfoldable pub epoch_over : ℕ → TrainingState → TrainingState
+  epoch_over instances s = through visited_at 0 instances (opened s)
 
 -- training ends after an epoch in which a visit was refused, or whose loss/N is low enough
-abbrev pub endsAfter : (Float → Bool) → ℕ → Progress → Bool
-endsAfter stop instances s = isRefused (s .visit) || stop (s .loss ⊘ whole instances)
+abbrev pub ends_after : (Float → Bool) → ℕ → Progress → Bool
+ends_after stop instances s = is_refused s.visit || stop (s.loss ⊘ whole instances)
 
 -- epochs, whatever a visit is and whichever rate of loss ends training
 module _ (visit : ℕ → TrainingState → TrainingState) (stop : Float → Bool) (instances : ℕ) where
   -- "shuffled before each epoch, keeping the order of the epoch before"; "The generator's state goes from epoch to epoch"
   unfoldable pub epoch : Run → Run
   epoch r =
-      let deal = shuffled instances (r .deal) in
-      let s = epochOver visit (deal .order) instances (r .state) in
-      record { state = s; deal = deal; epochs = r .epochs + 1; over = endsAfter stop instances (s .progress) }
+      let deal = shuffled instances r.deal in
+      let s = epoch_over visit deal.order instances r.state in
+      record { state = s; deal = deal; epochs = r.epochs + 1; over = ends_after stop instances s.progress }
 
-  unfoldable pub epochUnlessOver : ℕ → Run → Run
-  epochUnlessOver e r = cond (r .over) r (epoch r)
+  unfoldable pub epoch_unless_over : ℕ → Run → Run
+  epoch_unless_over e r = cond r.over r (epoch r)
 
 module _ (rule : Rule) (set : Settings) (m : Model) (d : Data) where
   -- "Weights start at 0", "The state starts at the seed"
@@ -91,36 +87,36 @@ module _ (rule : Rule) (set : Settings) (m : Model) (d : Data) where
     state = record {
       progress = record { visit = Unchanged; visits = 0; updates = 0; loss = nought };
       learned = record {
-        weights = replicate (m .features .count) nought;
-        beside = replicate (m .features .count) (besideAtFirst rule);
+        weights = replicate m.features.count nought;
+        beside = replicate m.features.count (beside_at_first rule);
       };
     };
-    deal = record { state = set .seed; order = upTo (d .instances) };
+    deal = record { state = set.seed; order = up_to d.instances };
     epochs = 0;
     over = false;
   }
 
   unfoldable pub ran : Run
-  ran = through (epochUnlessOver (visited rule m d) (stops rule (set .epsilon)) (d .instances)) 0 (set .epochs) begun
+  ran = through (epoch_unless_over (visited rule m d) (stops rule set.epsilon) d.instances) 0 set.epochs begun
 
   -- "After 8 and 9 the needed front of every result and work buffer is zero"
-  unfoldable pub refusedWith : Refusal → Result
-  refusedWith why = record { answer = NotTrained why; weights = replicate (m .features .count) nought }
+  unfoldable pub refused_with : Refusal → Result
+  refused_with why = record { answer = NotTrained why; weights = replicate m.features.count nought }
 
   -- the final averaging; 9 has "all visits for the averaging" as place
   unfoldable pub averaged : Run → Result
   averaged r =
-      let progress = r .state .progress in
-      let w = averagedBy rule (m .features .count) (whole (progress .visits + 1)) (r .state .learned) in
-      cond (allFinite w (m .features .count))
-      (record { answer = Accepted (record { epochs = r .epochs; visits = progress .visits; updates = progress .updates }); weights = w })
-      (refusedWith (numbered 9 (progress .visits)))
+      let progress = r.state.progress in
+      let w = averaged_by rule m.features.count (whole (progress.visits + 1)) r.state.learned in
+      cond (all_finite_of w m.features.count)
+      (record { answer = Accepted (record { epochs = r.epochs; visits = progress.visits; updates = progress.updates }); weights = w })
+      (refused_with (numbered 9 progress.visits))
 
   unfoldable pub finished : Visit → Run → Result
   finished Unchanged r = averaged r
   finished Updated r = averaged r
-  finished (Refused why) r = refusedWith why
+  finished (Refused why) r = refused_with why
 
   -- what is trained on tables that are not refused under 1 to 7
   unfoldable pub trained : Result
-  trained = let r = ran in finished (r .state .progress .visit) r
+  trained = let r = ran in finished r.state.progress.visit r

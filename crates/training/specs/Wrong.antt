@@ -1,14 +1,10 @@
 -- How many labels of a path are wrong. Assumes nothing.
-use mathlib.Core.Bool.{cond}
-use mathlib.Core.List.{List}
-use Prim.Native.Nat.{ℕ, _+_}
-use lib.Dec.{eqb}
-use lib.ListN.{getD}
-use Rattle·lines.specs.Passes.{through}
+use Rattle.std.specs.Prelude.{cond, List, ℕ, ◌+◌, eqb, get_or}
+use Rattle.lines.specs.Passes.{through}
 
 -- in how many of so many words two paths differ
-unfoldable pub wrongAt : List ℕ → List ℕ → ℕ → ℕ → ℕ
-wrongAt p q word n = cond (eqb (getD p word 0) (getD q word 0)) n (n + 1)
+unfoldable pub wrong_at : List ℕ → List ℕ → ℕ → ℕ → ℕ
+wrong_at p q word n = cond (eqb (get_or p word 0) (get_or q word 0)) n (n + 1)
 
-unfoldable pub wrongOf : List ℕ → List ℕ → ℕ → ℕ
-wrongOf p q words = through (wrongAt p q) 0 words 0
+unfoldable pub wrong_of : List ℕ → List ℕ → ℕ → ℕ
+wrong_of p q words = through (wrong_at p q) 0 words 0

@@ -2,6 +2,7 @@
 // types that the trainers' code shares.
 
 // "A visit ends as unchanged, updated or refused."
+#[derive(Drop)]
 pub enum Visit {
     Unchanged,
     Updated,
@@ -9,6 +10,7 @@ pub enum Visit {
 }
 
 // A training step: how the last visit ended, beside the counters and the epoch's loss.
+#[derive(Drop)]
 pub struct Progress {
     pub visit: Visit,
     pub visits: u64,
@@ -17,12 +19,14 @@ pub struct Progress {
 }
 
 // "The answer gives epochs run, visits and updates."
+#[derive(Drop)]
 pub struct Trained {
     pub epochs: u64,
     pub visits: u64,
     pub updates: u64,
 }
 
+#[derive(Drop)]
 pub enum Training {
     Accepted(Trained),
     Refused(refusals::Refusal),

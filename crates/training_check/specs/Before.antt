@@ -1,25 +1,25 @@
 -- What a trainer refused before "Say which table is short", and that nothing else moved. Assumes nothing.
-use mathlib.Core.List.{List, [], _∷_, _++_}
-use Rattle·refusals.specs.declared.Checked.{Checked}
-use Rattle·refusals.specs.Refusals.{first}
-use Rattle·score_tables.specs.Rows.{one}
-use Rattle·refusal_rows.specs.Before.{twoBefore, checksBefore, Renumbered}
-use Rattle·parameters.specs.Parameters.{Parameter, sevens}
-use Rattle·training_check·specs.specs.Rows.{Input, inputCounts, inputRooms, inputStarts, lengthTests, inputIds, inputNumbers, trainingChecked}
+use Rattle.std.specs.Prelude.{List, [], ◌∷◌, ◌++◌}
+use Rattle.refusals.specs.declared.Checked.{Checked}
+use Rattle.refusals.specs.Refusals.{first}
+use Rattle.score_tables.specs.Rows.{one}
+use Rattle.refusal_rows.specs.Before.{two_before, checks_before, Renumbered}
+use Rattle.parameters.specs.Parameters.{Parameter, sevens}
+use Rattle.training_check.specs.Rows.{Input, input_counts, input_rooms, input_starts, length_tests, input_ids, input_numbers, training_checked}
 
 -- the rows as they stood
-abbrev pub trainingBefore : Input → List Parameter → Checked
-trainingBefore g parameters =
+abbrev pub training_before : Input → List Parameter → Checked
+training_before g parameters =
     first
-    ((one (g .model .labels)
-    ∷ twoBefore (inputCounts g)
-    ∷ twoBefore (inputRooms g)
-    ∷ checksBefore (inputStarts g)
-    ++ checksBefore (lengthTests (g .corpus))
-    ++ checksBefore (inputIds g)
-    ++ checksBefore (inputNumbers (g .corpus)))
+    ((one g.model.labels
+    ∷ two_before (input_counts g)
+    ∷ two_before (input_rooms g)
+    ∷ checks_before (input_starts g)
+    ++ checks_before (length_tests g.corpus)
+    ++ checks_before (input_ids g)
+    ++ checks_before (input_numbers g.corpus))
     ++ sevens parameters)
 
 -- "Nothing else moves"; proved in proofs/Meant
 abbrev pub TrainingRenumbered : Type 0
-TrainingRenumbered = (g : Input) (parameters : List Parameter) → Renumbered (trainingBefore g parameters) (trainingChecked g parameters)
+TrainingRenumbered = (g : Input) (parameters : List Parameter) → Renumbered (training_before g parameters) (training_checked g parameters)

@@ -1,56 +1,54 @@
 -- The rows of a trainer in the parts that are checked apart: the model's tables, the instances with what they are made of, the buffers. Assumes nothing.
-use mathlib.Core.List.{List, [], _∷_, _++_}
-use Prim.Native.Nat.{ℕ, _+_}
-use lib.ListN.{length}
-use Rattle·refusals.specs.declared.Checked.{Checked}
-use Rattle·refusals.specs.Refusals.{first}
-use Rattle·refusals.specs.Bounds.{theInstances, theWords, wordTable, attributeTable, referenceTable}
-use Rattle·refusal_rows.specs.Limits.{Limit, count, room, limitChecks}
-use Rattle·refusal_rows.specs.Tests.{Test, startsRise, linesFit, idsBelow}
-use Rattle·refusal_rows.specs.Parts.{partChecked}
-use Rattle·lines.specs.Data.{Data}
-use Rattle·training_check·specs.specs.declared.Lent.{Lent}
-use Rattle·training_check·specs.specs.Rows.{Input, dataCounts, dataRooms, lentRooms, inputNumbers, inputRows}
+use Rattle.std.specs.Prelude.{List, [], ◌∷◌, ◌++◌, ℕ, ◌+◌, length}
+use Rattle.refusals.specs.declared.Checked.{Checked}
+use Rattle.refusals.specs.Refusals.{first}
+use Rattle.refusals.specs.Bounds.{the_instances, the_words, word_table, attribute_table, reference_table}
+use Rattle.refusal_rows.specs.Limits.{Limit, count, room, limit_checks}
+use Rattle.refusal_rows.specs.Tests.{Test, starts_rise, lines_fit, ids_below}
+use Rattle.refusal_rows.specs.Parts.{part_checked}
+use Rattle.lines.specs.Data.{Data}
+use Rattle.training_check.specs.declared.Lent.{Lent}
+use Rattle.training_check.specs.Rows.{Input, data_counts, data_rooms, lent_rooms, input_numbers, input_rows}
 
 -- 2, 12, 3 and 4 of so many instances, with so many words in all
-abbrev pub instanceLimits : ℕ → ℕ → List ℕ → List Limit
-instanceLimits instances words starts =
-    count theInstances instances
-    ∷ count theWords words
+abbrev pub instance_limits : ℕ → ℕ → List ℕ → List Limit
+instance_limits instances words starts =
+    count the_instances instances
+    ∷ count the_words words
     ∷ room 7 (length starts) (instances + 1)
     ∷ []
 
-abbrev pub instanceTests : ℕ → ℕ → List ℕ → List Test
-instanceTests instances words starts =
-    startsRise wordTable starts instances words
-    ∷ linesFit starts instances
+abbrev pub instance_tests : ℕ → ℕ → List ℕ → List Test
+instance_tests instances words starts =
+    starts_rise word_table starts instances words
+    ∷ lines_fit starts instances
     ∷ []
 
-unfoldable pub instancesSized : ℕ → ℕ → List ℕ → Checked
-instancesSized instances words starts = first (limitChecks (instanceLimits instances words starts))
+unfoldable pub instances_sized : ℕ → ℕ → List ℕ → Checked
+instances_sized instances words starts = first (limit_checks (instance_limits instances words starts))
 
-unfoldable pub instancesChecked : ℕ → ℕ → List ℕ → Checked
-instancesChecked instances words starts = partChecked (instanceLimits instances words starts) (instanceTests instances words starts)
+unfoldable pub instances_checked : ℕ → ℕ → List ℕ → Checked
+instances_checked instances words starts = part_checked (instance_limits instances words starts) (instance_tests instances words starts)
 
 -- 2, 12 and 3 to 6 of the instances, their words, a reference label for each word and a weight for each instance
-abbrev pub dataLimits : Data → List Limit
-dataLimits d = dataCounts d ++ dataRooms d
+abbrev pub data_limits : Data → List Limit
+data_limits d = data_counts d ++ data_rooms d
 
-abbrev pub dataTests : ℕ → Data → List Test
-dataTests labels d =
-    startsRise wordTable (d .starts) (d .instances) (d .count)
-    ∷ startsRise attributeTable (d .words .starts) (d .count) (d .words .size)
-    ∷ linesFit (d .starts) (d .instances)
-    ∷ idsBelow referenceTable (d .references) (d .count) labels
-    ∷ inputNumbers d
+abbrev pub data_tests : ℕ → Data → List Test
+data_tests labels d =
+    starts_rise word_table d.starts d.instances d.count
+    ∷ starts_rise attribute_table d.words.starts d.count d.words.size
+    ∷ lines_fit d.starts d.instances
+    ∷ ids_below reference_table d.references d.count labels
+    ∷ input_numbers d
 
-unfoldable pub dataChecked : ℕ → Data → Checked
-dataChecked labels d = partChecked (dataLimits d) (dataTests labels d)
+unfoldable pub data_checked : ℕ → Data → Checked
+data_checked labels d = part_checked (data_limits d) (data_tests labels d)
 
 -- 12 of the result and work buffers
-unfoldable pub lentChecked : ℕ → ℕ → Lent → Checked
-lentChecked features instances lent = partChecked (lentRooms features instances lent) []
+unfoldable pub lent_checked : ℕ → ℕ → Lent → Checked
+lent_checked features instances lent = part_checked (lent_rooms features instances lent) []
 
 -- all of it: 1 to 6 alone
-unfoldable pub inputChecked : Input → Checked
-inputChecked g = first (inputRows g)
+unfoldable pub input_checked : Input → Checked
+input_checked g = first (input_rows g)

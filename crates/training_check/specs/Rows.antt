@@ -1,19 +1,17 @@
 -- Document 01, "Numbered refusals", the rows of a trainer, and their order: 1, 2, 12, 3, 4, 5, 6, 7. Assumes nothing.
-use mathlib.Core.List.{List, [], _∷_, _++_}
-use Prim.Native.Nat.{ℕ, _+_}
-use lib.ListN.{length}
-use Rattle·refusals.specs.declared.Checked.{Checked}
-use Rattle·refusals.specs.Refusals.{first}
-use Rattle·refusals.specs.Bounds.{theInstances, theWords, theAttributes, wordTable, attributeTable, referenceTable, instanceWeightTable}
-use Rattle·score_tables.specs.Rows.{one}
-use Rattle·refusal_rows.specs.Limits.{Limit, count, room, limitChecks}
-use Rattle·refusal_rows.specs.Tests.{Test, startsRise, linesFit, idsBelow, numbersFinite, checks}
-use Rattle·lines.specs.Tables.{Model}
-use Rattle·feature_gen.specs.Rows.{modelCounts, modelRooms, startTests, idTests}
-use Rattle·line_check.specs.Rows.{lineRooms, valueTests}
-use Rattle·lines.specs.Data.{Data}
-use Rattle·parameters.specs.Parameters.{Parameter, sevens}
-use Rattle·training_check·specs.specs.declared.Lent.{Lent}
+use Rattle.std.specs.Prelude.{List, [], ◌∷◌, ◌++◌, ℕ, ◌+◌, length}
+use Rattle.refusals.specs.declared.Checked.{Checked}
+use Rattle.refusals.specs.Refusals.{first}
+use Rattle.refusals.specs.Bounds.{the_instances, the_words, the_attributes, word_table, attribute_table, reference_table, instance_weight_table}
+use Rattle.score_tables.specs.Rows.{one}
+use Rattle.refusal_rows.specs.Limits.{Limit, count, room, limit_checks}
+use Rattle.refusal_rows.specs.Tests.{Test, starts_rise, lines_fit, ids_below, numbers_finite, checks}
+use Rattle.lines.specs.Tables.{Model}
+use Rattle.feature_gen.specs.Rows.{model_counts, model_rooms, start_tests, id_tests}
+use Rattle.line_check.specs.Rows.{line_rooms, value_tests}
+use Rattle.lines.specs.Data.{Data}
+use Rattle.parameters.specs.Parameters.{Parameter, sevens}
+use Rattle.training_check.specs.declared.Lent.{Lent}
 
 -- what every trainer is given: "Feature counts and trainers are lent no weight table"
 pub record Input : Type 0 where
@@ -24,83 +22,83 @@ pub record Input : Type 0 where
 -- ---- 2 | "counts outside their bounds" | "the count's position in document 01's list, from 0"
 
 -- "Instances N", "words in all", "attributes in all"
-abbrev pub totalLimits : (instances words attributes : ℕ) → List Limit
-totalLimits instances words attributes =
-    count theInstances instances
-    ∷ count theWords words
-    ∷ count theAttributes attributes
+abbrev pub total_limits : (instances words attributes : ℕ) → List Limit
+total_limits instances words attributes =
+    count the_instances instances
+    ∷ count the_words words
+    ∷ count the_attributes attributes
     ∷ []
 
-abbrev pub dataCounts : Data → List Limit
-dataCounts d = totalLimits (d .instances) (d .count) (d .words .size)
+abbrev pub data_counts : Data → List Limit
+data_counts d = total_limits d.instances d.count d.words.size
 
-abbrev pub inputCounts : Input → List Limit
-inputCounts g = modelCounts (g .model) ++ dataCounts (g .corpus)
+abbrev pub input_counts : Input → List Limit
+input_counts g = model_counts g.model ++ data_counts g.corpus
 
 -- ---- 12 | "for room" | "the buffer's position among the call's buffers"
 
 -- the instances, which stand behind the model's seven tables; their words and attributes have the rooms of a line of so many words
-abbrev pub dataRooms : Data → List Limit
-dataRooms d =
-    (room 7 (length (d .starts)) (d .instances + 1) ∷ [])
-    ++ lineRooms 8 (d .count) (d .words)
-    ++ (room 11 (length (d .references)) (d .count)
-    ∷ room 12 (length (d .weights)) (d .instances)
+abbrev pub data_rooms : Data → List Limit
+data_rooms d =
+    (room 7 (length d.starts) (d.instances + 1) ∷ [])
+    ++ line_rooms 8 d.count d.words
+    ++ (room 11 (length d.references) d.count
+    ∷ room 12 (length d.weights) d.instances
     ∷ [])
 
 -- the result and work buffers
-abbrev pub lentRooms : ℕ → ℕ → Lent → List Limit
-lentRooms features instances lent =
-    room 13 (lent .weights) features
-    ∷ room 14 (lent .beside) features
-    ∷ room 15 (lent .truly) features
-    ∷ room 16 (lent .predicted) features
-    ∷ room 17 (lent .order) instances
+abbrev pub lent_rooms : ℕ → ℕ → Lent → List Limit
+lent_rooms features instances lent =
+    room 13 lent.weights features
+    ∷ room 14 lent.beside features
+    ∷ room 15 lent.truly features
+    ∷ room 16 lent.predicted features
+    ∷ room 17 lent.order instances
     ∷ []
 
-abbrev pub inputRooms : Input → List Limit
-inputRooms g =
-    modelRooms 3 (g .model)
-    ++ dataRooms (g .corpus)
-    ++ lentRooms (g .model .features .count) (g .corpus .instances) (g .lent)
+abbrev pub input_rooms : Input → List Limit
+input_rooms g =
+    model_rooms 3 g.model
+    ++ data_rooms g.corpus
+    ++ lent_rooms g.model.features.count g.corpus.instances g.lent
 
 -- ---- 3 | "a rule of starts is broken" | "index of the first bad start": "attribute lists; label lists; words; attributes"
 
-abbrev pub inputStarts : Input → List Test
-inputStarts g =
-    startTests (g .model)
-    ++ (startsRise wordTable (g .corpus .starts) (g .corpus .instances) (g .corpus .count)
-    ∷ startsRise attributeTable (g .corpus .words .starts) (g .corpus .count) (g .corpus .words .size)
+abbrev pub input_starts : Input → List Test
+input_starts g =
+    start_tests g.model
+    ++ (starts_rise word_table g.corpus.starts g.corpus.instances g.corpus.count
+    ∷ starts_rise attribute_table g.corpus.words.starts g.corpus.count g.corpus.words.size
     ∷ [])
 
 -- ---- 4 | "a T outside 1 to 128" | "instance index"
 
-abbrev pub lengthTests : Data → List Test
-lengthTests d = linesFit (d .starts) (d .instances) ∷ []
+abbrev pub length_tests : Data → List Test
+length_tests d = lines_fit d.starts d.instances ∷ []
 
 -- ---- 5 | ".. label at or above L" | "index in its table": after the model's own rows the reference labels
 
-abbrev pub inputIds : Input → List Test
-inputIds g = idTests (g .model) ++ idsBelow referenceTable (g .corpus .references) (g .corpus .count) (g .model .labels) ∷ []
+abbrev pub input_ids : Input → List Test
+input_ids g = id_tests g.model ++ ids_below reference_table g.corpus.references g.corpus.count g.model.labels ∷ []
 
 -- ---- 6 | "a .. value, instance weight .. not finite" | "index in its table": "attributes; .. instance weights"
 
-abbrev pub inputNumbers : Data → List Test
-inputNumbers d = valueTests (d .words) ++ numbersFinite instanceWeightTable (d .weights) (d .instances) ∷ []
+abbrev pub input_numbers : Data → List Test
+input_numbers d = value_tests d.words ++ numbers_finite instance_weight_table d.weights d.instances ∷ []
 
 -- ---- the order: "The lowest number wins"
 
 -- 1 to 6, which every trainer shares
-abbrev pub inputRows : Input → List Checked
-inputRows g =
-    one (g .model .labels)
-    ∷ limitChecks (inputCounts g)
-    ++ limitChecks (inputRooms g)
-    ++ checks (inputStarts g)
-    ++ checks (lengthTests (g .corpus))
-    ++ checks (inputIds g)
-    ++ checks (inputNumbers (g .corpus))
+abbrev pub input_rows : Input → List Checked
+input_rows g =
+    one g.model.labels
+    ∷ limit_checks (input_counts g)
+    ++ limit_checks (input_rooms g)
+    ++ checks (input_starts g)
+    ++ checks (length_tests g.corpus)
+    ++ checks (input_ids g)
+    ++ checks (input_numbers g.corpus)
 
 -- then 7: a trainer with these parameters of its own
-unfoldable pub trainingChecked : Input → List Parameter → Checked
-trainingChecked g parameters = first (inputRows g ++ sevens parameters)
+unfoldable pub training_checked : Input → List Parameter → Checked
+training_checked g parameters = first (input_rows g ++ sevens parameters)

@@ -1,15 +1,14 @@
 // The checks of a trainer's input, which the three trainers share: document 01's refusal 1, then the sooner of the checks of the
 // model's tables, of the instances, and of the lent buffers. Refusal 7 comes after them: each trainer's own parameters are
 // tested in the crate parameters.
-ghost use mathlib.Core.Path.{_≡_};
-ghost use Prim.Native.Nat.{_-_, _<_};
-ghost use lib.ListN.{length};
-ghost use Rattle·refusals.specs.Refusals.{orNext};
-ghost use Rattle·refusals.specs.Bounds.{theLineWords, outsideIts};
-ghost use Rattle·refusal_rows.specs.Tests.{lengthsChecked};
-ghost use Rattle·feature_gen.specs.Lent.{modelWas};
-ghost use Rattle·lines.specs.Entry.{dataWas};
-ghost use Rattle·training_check·specs.specs.Parts.{instancesSized, instancesChecked, dataChecked, lentChecked, inputChecked};
+ghost use Rattle.std.specs.Prelude.{◌≡◌, ◌-◌, ◌<◌, length};
+ghost use Rattle.refusals.specs.Refusals.{or_next_of};
+ghost use Rattle.refusals.specs.Bounds.{the_line_words, outside_its};
+ghost use Rattle.refusal_rows.specs.Tests.{lengths_checked};
+ghost use Rattle.feature_gen.specs.Lent.{model_was};
+ghost use Rattle.lines.specs.Entry.{data_was};
+ghost use Rattle.training_check.specs.Parts.{instances_sized, instances_checked, data_checked, lent_checked, input_checked};
+
 use feature_gen::Counts;
 use lines::Totals;
 use refusals::Checked;
@@ -20,6 +19,7 @@ pub const MOST_WORDS_IN_ALL: u32 = 1048576;
 
 // How long the lent result and work buffers are: the weights and the table beside them, the true and the predicted counts, and
 // the order of the instances.
+#[derive(Drop)]
 pub struct Lent {
     pub weights: usize,
     pub beside: usize,
@@ -30,7 +30,7 @@ pub struct Lent {
 
 // Whether so many words, from one start to the next, are none or too many for a line.
 fn is_bad_length(start: u32, next: u32) -> bool
-    ensures { λ r. ⌜ r ≡ outsideIts theLineWords (next - start) ⌝ }
+    ensures { result ≡ outside_its the_line_words (next - start) }
 {
     if start < next {
         refusals::is_outside(1, score_tables::MOST_WORDS, next - start)
@@ -41,8 +41,8 @@ fn is_bad_length(start: u32, next: u32) -> bool
 
 // 4: an instance has 1 to 128 words.
 pub fn check_lengths(answer: Checked, lines: &[u32], n: usize) -> Checked
-    requires { ⌜ n < length (now lines) ⌝ }
-    ensures { λ r. ⌜ r ≡ orNext answer (lengthsChecked (now (lines .entry)) n) ⌝ }
+    requires { n < length lines.now }
+    ensures { result ≡ or_next_of answer (lengths_checked lines.now n) }
 {
     let end = refusals::to_check(answer, n);
     let mut i = 0usize;
@@ -58,7 +58,7 @@ pub fn check_lengths(answer: Checked, lines: &[u32], n: usize) -> Checked
 
 // 2 and 12 of the instances, whose starts stand behind the model's seven tables: what can be said before any table is read.
 fn check_sizes(totals: Totals, lines: &[u32]) -> Checked
-    ensures { λ r. ⌜ r ≡ instancesSized (totals .instances) (totals .words) (now (lines .entry)) ⌝ }
+    ensures { result ≡ instances_sized totals.instances totals.words lines.now }
 {
     let outside = refusals::is_outside(1, MOST_INSTANCES, totals.instances);
     let starts = totals.instances as usize + 1;
@@ -69,7 +69,7 @@ fn check_sizes(totals: Totals, lines: &[u32]) -> Checked
 
 // 2, 12, 3 and 4 of the instances: how many there are, where each begins, and how many words it has.
 fn check_instances(totals: Totals, lines: &[u32]) -> Checked
-    ensures { λ r. ⌜ r ≡ instancesChecked (totals .instances) (totals .words) (now (lines .entry)) ⌝ }
+    ensures { result ≡ instances_checked totals.instances totals.words lines.now }
 {
     let sizes = check_sizes(totals, lines);
     if let Checked::Refused(why) = sizes {
@@ -91,7 +91,7 @@ fn check_data(
     references: &[u32],
     shares: &[f64],
 ) -> Checked
-    ensures { λ r. ⌜ r ≡ dataChecked labels (dataWas totals lines begins ids values references shares) ⌝ }
+    ensures { result ≡ data_checked labels (data_was totals lines begins ids values references shares) }
 {
     let instances = check_instances(totals, lines);
     let line = line_check::check_line(8, totals.words, totals.attributes, begins, ids, values);
@@ -109,7 +109,7 @@ fn check_data(
 
 // 12 of the result and work buffers, the last of the call.
 fn check_lent(features: u32, instances: u32, lent: Lent) -> Checked
-    ensures { λ r. ⌜ r ≡ lentChecked features instances lent ⌝ }
+    ensures { result ≡ lent_checked features instances lent }
 {
     let n = features as usize;
     let a = refusals::refuse_if(Checked::Accepted, 12, 13, lent.weights < n);
@@ -139,9 +139,8 @@ pub fn check_input(
     shares: &[f64],
     lent: Lent,
 ) -> Checked
-    ensures { λ r.
-        let m = modelWas labels counts kinds destinations sources «attribute_starts» «attribute_entries» «label_starts» «label_entries» in
-        ⌜ r ≡ inputChecked (record { model = m; corpus = dataWas totals lines begins ids values references shares; lent = lent }) ⌝ }
+    ensures { let m = model_was labels counts kinds destinations sources attribute_starts attribute_entries label_starts label_entries in
+        result ≡ input_checked (record { model = m; corpus = data_was totals lines begins ids values references shares; lent = lent }) }
 {
     let one = score_tables::check_labels(labels);
     let tables = feature_gen::check_tables(
@@ -157,14 +156,7 @@ pub fn check_input(
         label_entries,
     );
     let data = check_data(
-        labels,
-        totals,
-        lines,
-        begins,
-        ids,
-        values,
-        references,
-        shares,
+        labels, totals, lines, begins, ids, values, references, shares,
     );
     let both = refusals::sooner(tables, data);
     let room = check_lent(counts.features, totals.instances, lent);

@@ -1,20 +1,18 @@
 // The three trainers, for programs in C and Rust. Each is thin: one call of the crate trainers, and its answer as numbers.
-ghost use Rattle·feature_gen.specs.Lent.{modelWas};
-ghost use Rattle·lines.specs.Entry.{dataWas};
-ghost use Rattle·parameters.specs.declared.Method.{Method};
-ghost use Rattle·trainers.specs.Promise.{Given};
-ghost use Rattle·trainers.specs.Lent.{buffersWere, buffersAre};
-ghost use Rattle·training_exports·specs.specs.Trains.{Trains};
+ghost use Rattle.feature_gen.specs.Lent.{model_was};
+ghost use Rattle.lines.specs.Entry.{data_was};
+ghost use Rattle.parameters.specs.declared.Method.{Method};
+ghost use Rattle.trainers.specs.Promise.{Given};
+ghost use Rattle.trainers.specs.Lent.{buffers_were, buffers_are};
+ghost use Rattle.training_exports.specs.Trains.{Trains};
+
 use answers::trainings::Trained;
 use feature_gen::Counts;
 use lines::Totals;
-use parameters::Arow;
-use parameters::Method;
-use parameters::Passive;
-use parameters::Perceptron;
+use parameters::{Arow, Method, Passive, Perceptron};
 
 // The averaged perceptron.
-#[no_mangle]
+#[unsafe(no_mangle)]
 pub extern "C" fn bodkinbloom_averaged_perceptron(
     parameters: Perceptron,
     labels: u32,
@@ -39,14 +37,13 @@ pub extern "C" fn bodkinbloom_averaged_perceptron(
     predicted_counts: &mut [f64],
     order: &mut [u32],
 ) -> Trained
-    ensures { λ r.
-        let given : Given = record {
-          model = modelWas labels counts kinds destinations sources «attribute_starts» «attribute_entries» «label_starts» «label_entries»;
-          corpus = dataWas totals «line_starts» «word_starts» ids values references «instance_weights»;
-        } in
-        let before = buffersWere weights «running_sums» «true_counts» «predicted_counts» order in
-        let after = buffersAre weights «running_sums» «true_counts» «predicted_counts» order in
-        ⌜ Trains (Method.AveragedPerceptron parameters) given before (record { answer = r; after = after }) ⌝ }
+    ensures { let given : Given = record {
+      model = model_was labels counts kinds destinations sources attribute_starts attribute_entries label_starts label_entries;
+      corpus = data_was totals line_starts word_starts ids values references instance_weights;
+    } in
+        let before = buffers_were weights running_sums true_counts predicted_counts order in
+        let after = buffers_are weights running_sums true_counts predicted_counts order in
+        Trains (Method.AveragedPerceptron parameters) given before (record { answer = result; after = after }) }
 {
     let answer = trainers::train(
         Method::AveragedPerceptron(parameters),
@@ -76,7 +73,7 @@ pub extern "C" fn bodkinbloom_averaged_perceptron(
 }
 
 // Passive-aggressive, of the variant and with the switches of its parameters.
-#[no_mangle]
+#[unsafe(no_mangle)]
 pub extern "C" fn bodkinbloom_passive_aggressive(
     parameters: Passive,
     labels: u32,
@@ -101,14 +98,13 @@ pub extern "C" fn bodkinbloom_passive_aggressive(
     predicted_counts: &mut [f64],
     order: &mut [u32],
 ) -> Trained
-    ensures { λ r.
-        let given : Given = record {
-          model = modelWas labels counts kinds destinations sources «attribute_starts» «attribute_entries» «label_starts» «label_entries»;
-          corpus = dataWas totals «line_starts» «word_starts» ids values references «instance_weights»;
-        } in
-        let before = buffersWere weights «running_sums» «true_counts» «predicted_counts» order in
-        let after = buffersAre weights «running_sums» «true_counts» «predicted_counts» order in
-        ⌜ Trains (Method.PassiveAggressive parameters) given before (record { answer = r; after = after }) ⌝ }
+    ensures { let given : Given = record {
+      model = model_was labels counts kinds destinations sources attribute_starts attribute_entries label_starts label_entries;
+      corpus = data_was totals line_starts word_starts ids values references instance_weights;
+    } in
+        let before = buffers_were weights running_sums true_counts predicted_counts order in
+        let after = buffers_are weights running_sums true_counts predicted_counts order in
+        Trains (Method.PassiveAggressive parameters) given before (record { answer = result; after = after }) }
 {
     let answer = trainers::train(
         Method::PassiveAggressive(parameters),
@@ -138,7 +134,7 @@ pub extern "C" fn bodkinbloom_passive_aggressive(
 }
 
 // AROW, adaptive regularization of weights.
-#[no_mangle]
+#[unsafe(no_mangle)]
 pub extern "C" fn bodkinbloom_arow(
     parameters: Arow,
     labels: u32,
@@ -163,14 +159,13 @@ pub extern "C" fn bodkinbloom_arow(
     predicted_counts: &mut [f64],
     order: &mut [u32],
 ) -> Trained
-    ensures { λ r.
-        let given : Given = record {
-          model = modelWas labels counts kinds destinations sources «attribute_starts» «attribute_entries» «label_starts» «label_entries»;
-          corpus = dataWas totals «line_starts» «word_starts» ids values references «instance_weights»;
-        } in
-        let before = buffersWere weights covariance «true_counts» «predicted_counts» order in
-        let after = buffersAre weights covariance «true_counts» «predicted_counts» order in
-        ⌜ Trains (Method.Arow parameters) given before (record { answer = r; after = after }) ⌝ }
+    ensures { let given : Given = record {
+      model = model_was labels counts kinds destinations sources attribute_starts attribute_entries label_starts label_entries;
+      corpus = data_was totals line_starts word_starts ids values references instance_weights;
+    } in
+        let before = buffers_were weights covariance true_counts predicted_counts order in
+        let after = buffers_are weights covariance true_counts predicted_counts order in
+        Trains (Method.Arow parameters) given before (record { answer = result; after = after }) }
 {
     let trained = trainers::train(
         Method::Arow(parameters),

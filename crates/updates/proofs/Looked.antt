@@ -1,27 +1,27 @@
 -- What a visit found before it learned tells of the scores and of the labels. Assumes nothing.
-use mathlib.Core.Path.{_≡_, refl, sym}
+use mathlib.Core.Path.{◌≡◌, refl, sym}
 use mathlib.Core.Bool.{Bool, true, false}
-use mathlib.Core.Logic.{_⊎_, inl, inr}
+use mathlib.Core.Logic.{◌⊎◌, inl, inr}
 use Prim.Native.Nat.{ℕ}
 use native.Mathlib.Omega.{arith}
-use Rattle·training.specs.declared.Progress.{Progress}
-use Rattle·training.specs.Visits.{TrainingState, refusedAs, unchanged}
-use Rattle·updates·specs.specs.declared.Found.the-variants.{Ended, Differ}
-use Rattle·updates·specs.specs.Looked.{looked}
+use Rattle.training.specs.declared.Progress.{Progress}
+use Rattle.training.specs.Visits.{TrainingState, refused_as, unchanged}
+use Rattle.updates.specs.declared.Found.TheVariants.{Ended, Differ}
+use Rattle.updates.specs.Looked.{looked}
 
 pub never : {r : Progress} → Ended r ≡ Differ → ⊥
-never e = let z : _≡_ {A = ℕ} 0 1 = cc in omega arith
+never e = let z : ◌≡◌ {A = ℕ} 0 1 = cc in omega arith
 
-pub same-step : {r t : Progress} → Ended t ≡ Ended r → r ≡ t
-same-step e = cc
+pub same_step : {r t : Progress} → Ended t ≡ Ended r → r ≡ t
+same_step e = cc
 
 module _ (s : TrainingState) where
   -- each way through the two tests
-  pub not-scored : (scored agree : Bool) → scored ≡ false → {r : Progress} → r ≡ refusedAs 8 s .progress → Ended r ≡ looked scored agree s
+  pub not_scored : (scored agree : Bool) → scored ≡ false → {r : Progress} → r ≡ (refused_as 8 s).progress → Ended r ≡ looked scored agree s
   unfolding looked
-  not-scored scored agree e p = rw (e, p)
+  not_scored scored agree e p = rw (e, p)
 
-  pub agreeing : (scored agree : Bool) → scored ≡ true → agree ≡ true → {r : Progress} → r ≡ unchanged s .progress → Ended r ≡ looked scored agree s
+  pub agreeing : (scored agree : Bool) → scored ≡ true → agree ≡ true → {r : Progress} → r ≡ (unchanged s).progress → Ended r ≡ looked scored agree s
   unfolding looked
   agreeing scored agree e d p = rw (e, d, p)
 
@@ -30,10 +30,10 @@ module _ (s : TrainingState) where
   differing scored agree e d = rw (e, d)
 
   -- it ends there: 8 for the scores, or the labels agree
-  pub ended : (scored agree : Bool) {r : Progress} → looked scored agree s ≡ Ended r → ((scored ≡ false) × (r ≡ refusedAs 8 s .progress)) ⊎ ((scored ≡ true) × (agree ≡ true) × (r ≡ unchanged s .progress))
+  pub ended : (scored agree : Bool) {r : Progress} → looked scored agree s ≡ Ended r → ((scored ≡ false) × (r ≡ (refused_as 8 s).progress)) ⊎ ((scored ≡ true) × (agree ≡ true) × (r ≡ (unchanged s).progress))
   unfolding looked
-  ended false agree e = inl (refl, same-step e)
-  ended true true e = inr (refl, refl, same-step e)
+  ended false agree e = inl (refl, same_step e)
+  ended true true e = inr (refl, refl, same_step e)
   ended true false e = absurd (never (sym e))
 
   -- labels differ

@@ -1,38 +1,34 @@
 // What is decided in a visit and in an epoch, apart from the tables; and what a visit does where labels differ: the update by the
 // rule of its trainer, with refusals 8 and 9.
-ghost use mathlib.Core.Bool.{_&&_};
-ghost use mathlib.Core.Path.{_≡_};
-ghost use Prim.Native.Nat.{_≤_, _<_, _^_, _+_};
-ghost use lib.Dec.{eqb};
-ghost use lib.Ieee.Scale.{finite};
-ghost use Rattle·refusals.specs.Bounds.{theInstances, most};
-ghost use Rattle·training.specs.Rules.{Learned, stops};
-ghost use Rattle·training.specs.Visits.{refusedAs, unchanged as unchangedIn};
-ghost use Rattle·training.specs.Epochs.{isRefused, endsAfter};
-ghost use Rattle·parameters.specs.Trainers.{ruleOf};
-ghost use Rattle·updates·specs.specs.Looked.{looked};
-ghost use lib.ListN.{length};
-ghost use Rattle·binary64.specs.Numbers.{whole};
-ghost use Rattle·training_tables.specs.Tables.{Held, Updated};
-ghost use Rattle·updates·specs.specs.Updating.{learnedAs, stateOf, mistakeWith, Agreed, VisitCounted, settled};
+ghost use Rattle.std.specs.Prelude.{◌&&◌, ◌≡◌, ◌≤◌, ◌<◌, ◌^◌, ◌+◌, eqb, length};
+ghost use Rattle.std.specs.Float.Ieee.Scale.{finite};
+ghost use Rattle.refusals.specs.Bounds.{the_instances, most};
+ghost use Rattle.training.specs.Rules.{Learned, stops};
+ghost use Rattle.training.specs.Visits.{refused_as, unchanged as unchanged_in};
+ghost use Rattle.training.specs.Epochs.{is_refused, ends_after};
+ghost use Rattle.parameters.specs.Trainers.{rule_of};
+ghost use Rattle.updates.specs.Looked.{looked};
+ghost use Rattle.binary64.specs.Numbers.{whole};
+ghost use Rattle.training_tables.specs.Tables.{Held, Updated};
+ghost use Rattle.updates.specs.Updating.{learned_as, state_of, mistake_with, Agreed, VisitCounted, settled};
+
 use judging::Prediction;
 use parameters::Trainer;
-use training::Progress;
-use training::Visit;
+use training::{Progress, Visit};
 use training_tables::Outcome;
 
 // The place of 8 and of 9: "visits done".
 fn place(s: Progress) -> u64
-    requires { ⌜ s .visits < 2 ^ 53 ⌝ }
-    ensures { λ r. ⌜ r ≡ s .visits ⌝ }
+    requires { s.visits < 2 ^ 53 }
+    ensures { result ≡ s.visits }
 {
     s.visits
 }
 
 // A visit that is refused: the counters stay.
 pub fn refuse(number: u32, s: Progress) -> Progress
-    requires { ⌜ s .visits < 2 ^ 53 ⌝ }
-    ensures { λ r. ⌜ ((learned : Learned) → r ≡ (refusedAs number (record { progress = s; learned = learned })) .progress) ⌝ }
+    requires { s.visits < 2 ^ 53 }
+    ensures { (learned : Learned) → result ≡ (refused_as number (record { progress = s; learned = learned })).progress }
 {
     Progress {
         visit: Visit::Refused(refusals::numbered(number, place(s))),
@@ -44,8 +40,8 @@ pub fn refuse(number: u32, s: Progress) -> Progress
 
 // A visit whose labels agree: it counts, and nothing is learned.
 pub fn unchanged(s: Progress) -> Progress
-    requires { ⌜ (s .visits < 2 ^ 53) × (s .updates ≤ s .visits) ⌝ }
-    ensures { λ r. ⌜ ((learned : Learned) → r ≡ (unchangedIn (record { progress = s; learned = learned })) .progress) ⌝ }
+    requires { (s.visits < 2 ^ 53) × (s.updates ≤ s.visits) }
+    ensures { (learned : Learned) → result ≡ (unchanged_in (record { progress = s; learned = learned })).progress }
 {
     Progress {
         visit: Visit::Unchanged,
@@ -56,6 +52,7 @@ pub fn unchanged(s: Progress) -> Progress
 }
 
 // What a visit finds before it learns: it ends there, or labels differ.
+#[derive(Drop)]
 pub enum Found {
     Ended(Progress),
     Differ,
@@ -63,8 +60,8 @@ pub enum Found {
 
 // 8 for the scores, then whether the labels agree.
 fn look_at(scored: bool, agree: bool, s: Progress) -> Found
-    requires { ⌜ (s .visits < 2 ^ 53) × (s .updates ≤ s .visits) ⌝ }
-    ensures { λ r. ⌜ ((learned : Learned) → r ≡ looked scored agree (record { progress = s; learned = learned })) ⌝ }
+    requires { (s.visits < 2 ^ 53) × (s.updates ≤ s.visits) }
+    ensures { (learned : Learned) → result ≡ looked scored agree (record { progress = s; learned = learned }) }
 {
     if !scored {
         return Found::Ended(refuse(8, s));
@@ -77,28 +74,28 @@ fn look_at(scored: bool, agree: bool, s: Progress) -> Found
 
 // The labels agree where none is wrong, whichever the epoch.
 fn agree(wrong: u32) -> bool
-    ensures { λ r. ⌜ r ≡ eqb wrong 0 ⌝ }
+    ensures { result ≡ eqb wrong 0 }
 {
     wrong == 0
 }
 
 // What a visit finds.
 pub fn look(scored: bool, wrong: u32, s: Progress) -> Found
-    requires { ⌜ (s .visits < 2 ^ 53) × (s .updates ≤ s .visits) ⌝ }
-    ensures { λ r. ⌜ ((learned : Learned) → r ≡ looked scored (eqb wrong 0) (record { progress = s; learned = learned })) ⌝ }
+    requires { (s.visits < 2 ^ 53) × (s.updates ≤ s.visits) }
+    ensures { (learned : Learned) → result ≡ looked scored (eqb wrong 0) (record { progress = s; learned = learned }) }
 {
     look_at(scored, agree(wrong), s)
 }
 
 // 9: whether the tables that a visit changed are finite, and the epoch's loss.
 pub fn holds(tables: bool, loss: f64) -> bool
-    ensures { λ r. ⌜ r ≡ tables && finite loss ⌝ }
+    ensures { result ≡ tables && finite loss }
 {
     tables & binary64::is_finite(loss)
 }
 
 pub fn is_refused(v: Visit) -> bool
-    ensures { λ r. ⌜ r ≡ isRefused v ⌝ }
+    ensures { result ≡ is_refused v }
 {
     match v {
         Visit::Refused(_) => true,
@@ -109,7 +106,7 @@ pub fn is_refused(v: Visit) -> bool
 
 // Whether an epoch's rate of loss ends training: below epsilon, with AROW also at it.
 fn is_low(trainer: Trainer, epsilon: f64, rate: f64) -> bool
-    ensures { λ r. ⌜ r ≡ stops (ruleOf trainer) epsilon rate ⌝ }
+    ensures { result ≡ stops (rule_of trainer) epsilon rate }
 {
     match trainer {
         Trainer::Perceptron => rate < epsilon,
@@ -120,8 +117,8 @@ fn is_low(trainer: Trainer, epsilon: f64, rate: f64) -> bool
 
 // Whether training ends after an epoch.
 pub fn ends(trainer: Trainer, epsilon: f64, instances: usize, s: Progress) -> bool
-    requires { ⌜ instances ≤ most theInstances ⌝ }
-    ensures { λ r. ⌜ r ≡ endsAfter (stops (ruleOf trainer) epsilon) instances s ⌝ }
+    requires { instances ≤ most the_instances }
+    ensures { result ≡ ends_after (stops (rule_of trainer) epsilon) instances s }
 {
     let v = s.visit;
     let loss = s.loss;
@@ -144,22 +141,13 @@ fn update(
     weights: &mut [f64],
     beside: &mut [f64],
 ) -> Outcome
-    requires { ⌜ (p .wrong ≤ 128) × Held features (length (now truly)) (length (now predicted)) (length (now weights)) (length (now beside)) ⌝ }
-    ensures { λ r.
-        let k = mistakeWith words p (now (truly .entry)) (now (predicted .entry)) weight counter in
-        ⌜ Updated (ruleOf trainer) features k (learnedAs (now (weights .entry)) (now (beside .entry))) (learnedAs (now (weights .exit)) (now (beside .exit))) r ⌝ }
+    requires { (p.wrong ≤ 128) × Held features (length truly.now) (length predicted.now) (length weights.old) (length beside.old) }
+    ensures { let k = mistake_with words p truly.now predicted.now weight counter in
+        Updated (rule_of trainer) features k (learned_as weights.old beside.old) (learned_as weights.new beside.new) result }
 {
     match trainer {
         Trainer::Perceptron => perceptron_update::update(
-            features,
-            words,
-            p.wrong,
-            weight,
-            counter,
-            truly,
-            predicted,
-            weights,
-            beside,
+            features, words, p.wrong, weight, counter, truly, predicted, weights, beside,
         ),
         Trainer::Passive {
             variant,
@@ -167,31 +155,11 @@ fn update(
             sensitive,
             averaging,
         } => passive_aggressive::update(
-            features,
-            variant,
-            c,
-            sensitive,
-            averaging,
-            p.wrong,
-            p.reached,
-            p.wanted,
-            weight,
-            counter,
-            truly,
-            predicted,
-            weights,
-            beside,
+            features, variant, c, sensitive, averaging, p.wrong, p.reached, p.wanted, weight,
+            counter, truly, predicted, weights, beside,
         ),
         Trainer::Arow { variance: _, gamma } => arow::update(
-            features,
-            gamma,
-            p.wrong,
-            p.reached,
-            p.wanted,
-            weight,
-            truly,
-            predicted,
-            weights,
+            features, gamma, p.wrong, p.reached, p.wanted, weight, truly, predicted, weights,
             beside,
         ),
     }
@@ -211,27 +179,17 @@ pub fn learn(
     weights: &mut [f64],
     beside: &mut [f64],
 ) -> Progress
-    requires { ⌜ (p .wrong ≤ 128) × Held features (length (now truly)) (length (now predicted)) (length (now weights)) (length (now beside)) ⌝ }
-    requires { ⌜ (s .visits < 2 ^ 53) × (s .updates ≤ s .visits) ⌝ }
-    ensures { λ r.
-        let k = mistakeWith words p (now (truly .entry)) (now (predicted .entry)) weight (whole (s .visits + 1)) in
-        let before = stateOf s (now (weights .entry)) (now (beside .entry)) in
-        ⌜ Agreed (stateOf r (now (weights .exit)) (now (beside .exit))) (settled (ruleOf trainer) features k before) ⌝ }
-    ensures { λ r. ⌜ VisitCounted s r ⌝ }
+    requires wrong_bound { (p.wrong ≤ 128) × Held features (length truly.now) (length predicted.now) (length weights.old) (length beside.old) }
+    requires visits_bound { (s.visits < 2 ^ 53) × (s.updates ≤ s.visits) }
+    ensures fact { let k = mistake_with words p truly.now predicted.now weight (whole (s.visits + 1)) in
+        let before = state_of s weights.old beside.old in
+        Agreed (state_of result weights.new beside.new) (settled (rule_of trainer) features k before) }
+    ensures visit_counted { VisitCounted s result }
 {
     let visits = s.visits + 1;
     let counter = visits as f64;
     let outcome = update(
-        trainer,
-        features,
-        words,
-        weight,
-        counter,
-        p,
-        truly,
-        predicted,
-        weights,
-        beside,
+        trainer, features, words, weight, counter, p, truly, predicted, weights, beside,
     );
     let loss = s.loss + outcome.loss;
     if holds(outcome.finite, loss) {

@@ -1,10 +1,11 @@
 // One visit, shared by the three trainers: predict with the present weights, compare with the reference, update. What differs
 // between the trainers is the update alone, in the crate updates.
-ghost use Rattle·training.specs.Visits.{visited};
-ghost use Rattle·prediction.specs.Tables.{trainingModelAt, trainingModelWas, wordsAt, wordsWas, trainingDataAt, trainingDataWas};
-ghost use Rattle·parameters.specs.Trainers.{ruleOf};
-ghost use Rattle·updates.specs.Updating.{stateOf, Agreed, VisitCounted, settled};
-ghost use Rattle·visits·specs.specs.Visitable.{Visitable, Correctable, mistakeOf};
+ghost use Rattle.training.specs.Visits.{visited};
+ghost use Rattle.prediction.specs.Tables.{training_model_at, training_model_was, words_at, words_was, training_data_at, training_data_was};
+ghost use Rattle.parameters.specs.Trainers.{rule_of};
+ghost use Rattle.updates.specs.Updating.{state_of, Agreed, VisitCounted, settled};
+ghost use Rattle.visits.specs.Visitable.{Visitable, Correctable, mistake_of};
+
 use judging::Prediction;
 use parameters::Trainer;
 use prediction::Sizes;
@@ -37,16 +38,15 @@ fn correct(
     truly: &mut [f64],
     predicted: &mut [f64],
 ) -> Progress
-    requires { let m = trainingModelAt sizes kinds destinations sources starts entries «label_starts» «label_entries» in
-        let w = wordsAt sizes begins ids values in
-        ⌜ Correctable sizes m w first words (now references) (now path) p s (now weights) (now beside) (now truly) (now predicted) ⌝ }
-    ensures { λ r.
-        let m = trainingModelWas sizes kinds destinations sources starts entries «label_starts» «label_entries» in
-        let w = wordsWas sizes begins ids values in
-        let k = mistakeOf m w first words (now (references .entry)) (now (path .entry)) p weight (s .visits) in
-        let before = stateOf s (now (weights .entry)) (now (beside .entry)) in
-        ⌜ Agreed (stateOf r (now (weights .exit)) (now (beside .exit))) (settled (ruleOf trainer) (sizes .features) k before) ⌝ }
-    ensures { λ r. ⌜ VisitCounted s r ⌝ }
+    requires { let m = training_model_at sizes kinds destinations sources starts entries label_starts label_entries in
+        let w = words_at sizes begins ids values in
+        Correctable sizes m w first words references.now path.now p s weights.old beside.old truly.old predicted.old }
+    ensures fact { let m = training_model_was sizes kinds destinations sources starts entries label_starts label_entries in
+        let w = words_was sizes begins ids values in
+        let k = mistake_of m w first words references.now path.now p weight s.visits in
+        let before = state_of s weights.old beside.old in
+        Agreed (state_of result weights.new beside.new) (settled (rule_of trainer) sizes.features k before) }
+    ensures visit_counted { VisitCounted s result }
 {
     let features = sizes.features;
     extract_features::count_line(
@@ -125,15 +125,14 @@ pub fn visit(
     truly: &mut [f64],
     predicted: &mut [f64],
 ) -> Progress
-    requires { let m = trainingModelAt sizes kinds destinations sources starts entries «label_starts» «label_entries» in
-        let d = trainingDataAt sizes lines begins ids values references shares in
-        ⌜ Visitable sizes m d i s (now weights) (now beside) (now truly) (now predicted) ⌝ }
-    ensures { λ r.
-        let m = trainingModelWas sizes kinds destinations sources starts entries «label_starts» «label_entries» in
-        let d = trainingDataWas sizes lines begins ids values references shares in
-        let before = stateOf s (now (weights .entry)) (now (beside .entry)) in
-        ⌜ Agreed (stateOf r (now (weights .exit)) (now (beside .exit))) (visited (ruleOf trainer) m d i before) ⌝ }
-    ensures { λ r. ⌜ VisitCounted s r ⌝ }
+    requires { let m = training_model_at sizes kinds destinations sources starts entries label_starts label_entries in
+        let d = training_data_at sizes lines begins ids values references shares in
+        Visitable sizes m d i s weights.old beside.old truly.old predicted.old }
+    ensures fact { let m = training_model_was sizes kinds destinations sources starts entries label_starts label_entries in
+        let d = training_data_was sizes lines begins ids values references shares in
+        let before = state_of s weights.old beside.old in
+        Agreed (state_of result weights.new beside.new) (visited (rule_of trainer) m d i before) }
+    ensures visit_counted { VisitCounted s result }
 {
     let first = lines::at(lines, i);
     let end = lines::at(lines, i + 1);

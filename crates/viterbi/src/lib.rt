@@ -1,15 +1,12 @@
 // Decoding a line: `viterbi_decode` of crf_context.rs over the score tables of the line, with the path's sum and lead.
-ghost use mathlib.Core.Path.{_≡_};
-ghost use Rattle·viterbi·specs.specs.Rows.{decodeChecked};
-ghost use Prim.Native.Nat.{_*_, _≤_};
-ghost use lib.ListN.{length};
-ghost use Rattle·viterbi·specs.specs.Answered.{Ready, Answered};
-ghost use Rattle·viterbi·specs.specs.Promise.{Promised};
-use refusals::Checked;
-use refusals::Refusal;
+ghost use Rattle.std.specs.Prelude.{◌≡◌, ◌*◌, ◌≤◌, length};
+ghost use Rattle.viterbi.specs.Rows.{decode_checked};
+ghost use Rattle.viterbi.specs.Answered.{Ready, Answered};
+ghost use Rattle.viterbi.specs.Promise.{Promised};
+
+use refusals::{Checked, Refusal};
 use viterbi_end::Found;
-use viterbi_steps::ROW_ROOM;
-use viterbi_steps::Row;
+use viterbi_steps::{ROW_ROOM, Row};
 
 // Every refusal of the call. The path is its third buffer.
 pub fn check_decode(
@@ -19,7 +16,7 @@ pub fn check_decode(
     states: &[f64],
     path: &[u32],
 ) -> Checked
-    ensures { λ r. ⌜ r ≡ decodeChecked labels words (now (transitions .entry)) (now (states .entry)) (now (path .entry)) ⌝ }
+    ensures { result ≡ decode_checked labels words transitions.now states.now path.now }
 {
     let bounds = score_tables::check_bounds(labels, words);
     let tables = score_tables::check_room(bounds, 0, labels, words, transitions, states);
@@ -28,6 +25,7 @@ pub fn check_decode(
     score_tables::check_finite(room, labels, words, transitions, states)
 }
 
+#[derive(Drop)]
 pub enum Decoding {
     Decoded(Found),
     Refused(Refusal),
@@ -42,9 +40,9 @@ fn decode_rows(
     path: &mut [u32],
     steps: &mut [u8],
 ) -> Found
-    requires { ⌜ Ready labels words (now transitions) (now states) (now path) ⌝ }
-    requires { ⌜ words * labels ≤ length (now steps) ⌝ }
-    ensures { λ r. ⌜ Answered labels words (now (transitions .entry)) (now (states .entry)) (now (path .entry)) r (now (path .exit)) ⌝ }
+    requires ready { Ready labels words transitions.now states.now path.old }
+    requires labels_in_bounds { words * labels ≤ length steps.old }
+    ensures { Answered labels words transitions.now states.now path.old result path.new }
 {
     let mut row = viterbi_steps::first_row(labels, states);
     let n = row.width;
@@ -101,9 +99,9 @@ fn decode_short(
     states: &[f64],
     path: &mut [u32],
 ) -> Found
-    requires { ⌜ Ready n words (now transitions) (now states) (now path) ⌝ }
-    requires { ⌜ words * n ≤ 256 ⌝ }
-    ensures { λ r. ⌜ Answered n words (now (transitions .entry)) (now (states .entry)) (now (path .entry)) r (now (path .exit)) ⌝ }
+    requires ready { Ready n words transitions.now states.now path.old }
+    requires n_bound { words * n ≤ 256 }
+    ensures { Answered n words transitions.now states.now path.old result path.new }
 {
     let mut steps = [0u8; SHORT];
     decode_rows(n, words, transitions, states, path, &mut steps)
@@ -117,8 +115,8 @@ fn decode_long(
     states: &[f64],
     path: &mut [u32],
 ) -> Found
-    requires { ⌜ Ready n words (now transitions) (now states) (now path) ⌝ }
-    ensures { λ r. ⌜ Answered n words (now (transitions .entry)) (now (states .entry)) (now (path .entry)) r (now (path .exit)) ⌝ }
+    requires { Ready n words transitions.now states.now path.old }
+    ensures { Answered n words transitions.now states.now path.old result path.new }
 {
     let mut steps = [0u8; 4096];
     decode_rows(n, words, transitions, states, path, &mut steps)
@@ -132,8 +130,8 @@ pub fn decode_tables(
     states: &[f64],
     path: &mut [u32],
 ) -> Found
-    requires { ⌜ Ready n words (now transitions) (now states) (now path) ⌝ }
-    ensures { λ r. ⌜ Answered n words (now (transitions .entry)) (now (states .entry)) (now (path .entry)) r (now (path .exit)) ⌝ }
+    requires { Ready n words transitions.now states.now path.old }
+    ensures { Answered n words transitions.now states.now path.old result path.new }
 {
     if words * n <= SHORT {
         decode_short(n, words, transitions, states, path)
@@ -150,7 +148,7 @@ pub fn viterbi_decode(
     states: &[f64],
     path: &mut [u32],
 ) -> Decoding
-    ensures { λ r. ⌜ Promised (record { labels = labels; words = words; transitions = now (transitions .entry); states = now (states .entry) }) (now (path .entry)) (record { answer = r; path = now (path .exit) }) ⌝ }
+    ensures { Promised (record { labels = labels; words = words; transitions = transitions.now; states = states.now }) path.old (record { answer = result; path = path.new }) }
 {
     let checked = check_decode(labels, words, transitions, states, path);
     if let Checked::Refused(why) = checked {

@@ -1,22 +1,22 @@
 // The end of decoding: the last label of the line, its sum and lead, and the path walked back from it.
-ghost use mathlib.Core.Path.{_≡_};
-ghost use mathlib.Core.List.{_++_};
-ghost use Prim.Native.Nat.{_-_, _<_, _≤_};
-ghost use lib.ListN.{length, getD, set, drop};
-ghost use Rattle·viterbi_end·specs.specs.Walked.{walked, Walk};
-ghost use Rattle·refusals.specs.Bounds.{theLabels, most};
-ghost use Rattle·best_path.specs.Lead.{other, positiveZero, leadBetween};
-ghost use Rattle·viterbi_end·specs.specs.Rival.{rivalOf};
-ghost use Rattle·viterbi_end·specs.specs.Ends.{leadSaid, lastOf, leadOf, Ended};
+ghost use Rattle.std.specs.Prelude.{◌≡◌, ◌++◌, ◌-◌, ◌<◌, ◌≤◌, length, get_or, set, drop};
+ghost use Rattle.viterbi_end.specs.Walked.{walked, Walk};
+ghost use Rattle.refusals.specs.Bounds.{the_labels, most};
+ghost use Rattle.best_path.specs.Lead.{other, positive_zero_of, lead_between};
+ghost use Rattle.viterbi_end.specs.Rival.{rival_of};
+ghost use Rattle.viterbi_end.specs.Ends.{lead_said, last_of, lead_in_row, Ended};
+
 use viterbi_steps::ROW_ROOM;
 
 // By how much the best final score is above that of every other last label.
+#[derive(Drop)]
 pub enum Lead {
     NoLead,
     By(f64),
 }
 
 // What is found of a line beside its path.
+#[derive(Drop)]
 pub struct Found {
     pub sum: f64,
     pub lead: Lead,
@@ -24,8 +24,8 @@ pub struct Found {
 
 // The last of the labels with the largest score.
 fn last_largest(row: &[f64; ROW_ROOM], n: usize) -> usize
-    requires { ⌜ (0 < n) × (n ≤ most theLabels) ⌝ }
-    ensures { λ r. ⌜ (r < n) × (r ≡ lastOf (now (row .entry)) n) ⌝ }
+    requires { (0 < n) × (n ≤ most the_labels) }
+    ensures { (result < n) × (result ≡ last_of row.now n) }
 {
     let mut score = row[0];
     let mut last: u64 = 0;
@@ -41,16 +41,16 @@ fn last_largest(row: &[f64; ROW_ROOM], n: usize) -> usize
 
 // The labels other than `last`, in order.
 fn other_label(last: usize, k: usize) -> usize
-    requires { ⌜ k < most theLabels ⌝ }
-    ensures { λ r. ⌜ r ≡ other last k ⌝ }
+    requires { k < most the_labels }
+    ensures { result ≡ other last k }
 {
     if k < last { k } else { k + 1 }
 }
 
 // The largest score of the labels other than `last`, of which there is at least one.
 pub fn rival(row: &[f64; ROW_ROOM], n: usize, last: usize) -> f64
-    requires { ⌜ (1 < n) × (n ≤ most theLabels) ⌝ }
-    ensures { λ r. ⌜ r ≡ rivalOf (now (row .entry)) n last ⌝ }
+    requires { (1 < n) × (n ≤ most the_labels) }
+    ensures { result ≡ rival_of row.now n last }
 {
     let first = other_label(last, 0);
     let mut score = row[first];
@@ -65,14 +65,14 @@ pub fn rival(row: &[f64; ROW_ROOM], n: usize, last: usize) -> f64
 
 // "A zero lead is +0."
 pub fn positive_zero(x: f64) -> f64
-    ensures { λ r. ⌜ r ≡ positiveZero x ⌝ }
+    ensures { result ≡ positive_zero_of x }
 {
     if x == 0.0 { 0.0 } else { x }
 }
 
 // "no lead .. when either score is not finite".
 fn lead_by(best: f64, rival: f64) -> Lead
-    ensures { λ r. ⌜ leadSaid r ≡ leadBetween best rival ⌝ }
+    ensures { lead_said result ≡ lead_between best rival }
 {
     if binary64::is_finite(best) & binary64::is_finite(rival) {
         Lead::By(positive_zero(best - rival))
@@ -83,8 +83,8 @@ fn lead_by(best: f64, rival: f64) -> Lead
 
 // "no lead" with L = 1.
 fn lead_of(row: &[f64; ROW_ROOM], n: usize, last: usize) -> Lead
-    requires { ⌜ (last < n) × (n ≤ most theLabels) ⌝ }
-    ensures { λ r. ⌜ leadSaid r ≡ leadOf (now (row .entry)) n last ⌝ }
+    requires { (last < n) × (n ≤ most the_labels) }
+    ensures { lead_said result ≡ lead_in_row row.now n last }
 {
     if 1 < n {
         lead_by(row[last], rival(row, n, last))
@@ -95,25 +95,25 @@ fn lead_of(row: &[f64; ROW_ROOM], n: usize, last: usize) -> Lead
 
 // The step back that stands at a place.
 fn step_back(steps: &[u8], place: usize) -> usize
-    requires { ⌜ place < length (now steps) ⌝ }
-    ensures { λ r. ⌜ r ≡ getD (now (steps .entry)) place 0 ⌝ }
+    requires { place < length steps.now }
+    ensures { result ≡ get_or steps.now place 0 }
 {
     steps[place] as usize
 }
 
 // The label of a word: no other entry of the buffer is touched.
 fn put_label(path: &mut [u32], word: usize, label: usize)
-    requires { ⌜ (word < length (now path)) × (label < most theLabels) ⌝ }
-    ensures { λ _. ⌜ now (path .exit) ≡ set (now (path .entry)) word label ⌝ }
+    requires { (word < length path.old) × (label < most the_labels) }
+    ensures { path.new ≡ set path.old word label }
 {
     path[word] = label as u32;
 }
 
 // The path, from its last label back; the rest of the buffer is left alone.
 pub fn walk_back(path: &mut [u32], words: usize, n: usize, last: usize, steps: &[u8])
-    requires { ⌜ Walk n words (now steps) (now path) ⌝ }
-    requires { ⌜ last < n ⌝ }
-    ensures { λ _. ⌜ now (path .exit) ≡ walked (now (steps .entry)) n (words - 1) last ++ drop words (now (path .entry)) ⌝ }
+    requires walk { Walk n words steps.now path.old }
+    requires last_lt_n { last < n }
+    ensures { path.new ≡ walked steps.now n (words - 1) last ++ drop words path.old }
 {
     let mut label = last;
     let mut word = words - 1;
@@ -133,8 +133,8 @@ pub fn finish(
     steps: &[u8],
     path: &mut [u32],
 ) -> Found
-    requires { ⌜ Walk n words (now steps) (now path) ⌝ }
-    ensures { λ r. ⌜ Ended (now (row .entry)) n words (now (steps .entry)) (now (path .entry)) r (now (path .exit)) ⌝ }
+    requires { Walk n words steps.now path.old }
+    ensures { Ended row.now n words steps.now path.old result path.new }
 {
     let last = last_largest(row, n);
     walk_back(path, words, n, last, steps);

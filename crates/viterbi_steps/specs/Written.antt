@@ -1,7 +1,5 @@
 -- A buffer of which a part is written. Assumes nothing.
-use mathlib.Core.List.{List}
-use Prim.Native.Nat.{ℕ, zero, suc, _+_}
-use lib.ListN.{set}
+use Rattle.std.specs.Prelude.{List, ℕ, zero, suc, ◌+◌, set}
 
 -- so many values, written from a place on, one after the other; all else stays
 unfoldable pub written : {A : Type 0} → ℕ → (ℕ → A) → ℕ → List A → List A

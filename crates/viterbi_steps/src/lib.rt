@@ -1,19 +1,17 @@
 // The decoder's inner loops: from the best scores of one word to those of the next, with the steps back. The crate
 // viterbi calls `first_row`, then `next_row` once a word.
-ghost use mathlib.Core.Path.{_≡_};
-ghost use mathlib.Core.Bool.{cond};
-ghost use Prim.Native.Nat.{_*_, _≤_, _<_, ℕ, _+_};
-ghost use lib.ListN.{length, getD};
-ghost use lib.Ieee.{le};
-ghost use Rattle·refusals.specs.Bounds.{theLabels, most};
-ghost use Rattle·viterbi_steps·specs.specs.Chosen.{candidate, choiceOf};
-ghost use Rattle·viterbi_steps·specs.specs.Written.{written};
-ghost use Rattle·viterbi_steps·specs.specs.Rows.{firstRow, Before, After, onward, scoreTried, markTried};
+ghost use Rattle.std.specs.Prelude.{◌≡◌, cond, ◌*◌, ◌≤◌, ◌<◌, ℕ, ◌+◌, length, get_or};
+ghost use Rattle.std.specs.Float.Ieee.{le};
+ghost use Rattle.refusals.specs.Bounds.{the_labels, most};
+ghost use Rattle.viterbi_steps.specs.Chosen.{candidate, choice_of};
+ghost use Rattle.viterbi_steps.specs.Written.{written};
+ghost use Rattle.viterbi_steps.specs.Rows.{first_row_of, Before, After, onward, score_tried, mark_tried};
 
 // Room in a row for the most labels: "Labels L: 1 to 32."
 pub const ROW_ROOM: usize = 32;
 
 // The largest candidate for a label, and the label of the word before that it comes from.
+#[derive(Drop)]
 pub struct Choice {
     pub score: f64,
     pub previous: u64,
@@ -22,13 +20,13 @@ pub struct Choice {
 // The tie rule, for the score and for where it comes from: the later of two that are equal wins. As functions of their
 // own they leave no branch in the loops, which then compile to several lanes.
 pub fn better(old: f64, new: f64) -> f64
-    ensures { λ r. ⌜ r ≡ cond (le old new) new old ⌝ }
+    ensures { result ≡ cond (le old new) new old }
 {
     if old <= new { new } else { old }
 }
 
 pub fn whence(old: f64, new: f64, was: u64, mark: u64) -> u64
-    ensures { λ r. ⌜ r ≡ cond (le old new) mark was ⌝ }
+    ensures { result ≡ cond (le old new) mark was }
 {
     if old <= new { mark } else { was }
 }
@@ -41,8 +39,8 @@ pub fn best_step(
     label: usize,
     state: f64,
 ) -> Choice
-    requires { ⌜ (label < n) × (n ≤ most theLabels) × (n * n ≤ length (now transitions)) ⌝ }
-    ensures { λ r. ⌜ r ≡ choiceOf (candidate n (now (transitions .entry)) (now (row .entry)) label state) n ⌝ }
+    requires { (label < n) × (n ≤ most the_labels) × (n * n ≤ length transitions.now) }
+    ensures { result ≡ choice_of (candidate n transitions.now row.now label state) n }
 {
     let mut score = row[0] + transitions[label] + state;
     let mut from: u64 = 0;
@@ -62,6 +60,7 @@ pub fn best_step(
 }
 
 // One row of best scores, with room for the most labels; `width` of them count.
+#[derive(Drop)]
 pub struct Row {
     pub best: [f64; ROW_ROOM],
     pub width: usize,
@@ -69,8 +68,8 @@ pub struct Row {
 
 // "Decode starts from the first word's states."
 pub fn first_row(n: usize, states: &[f64]) -> Row
-    requires { ⌜ (n ≤ most theLabels) × (n ≤ length (now states)) ⌝ }
-    ensures { λ r. ⌜ r ≡ firstRow n (now (states .entry)) ⌝ }
+    requires { (n ≤ most the_labels) × (n ≤ length states.now) }
+    ensures { result ≡ first_row_of n states.now }
 {
     let mut row = Row {
         best: [0.0; ROW_ROOM],
@@ -94,8 +93,8 @@ fn next_by_label(
     states: &[f64],
     steps: &mut [u8],
 )
-    requires { ⌜ Before n word (now transitions) (now states) (now row) (now next) (now steps) ⌝ }
-    ensures { λ _. ⌜ After n word (now (transitions .entry)) (now (states .entry)) (now (next .entry)) (now (steps .entry)) (now (next .exit)) (now (steps .exit)) ⌝ }
+    requires { Before n word transitions.now states.now row.now next.old steps.old }
+    ensures { After n word transitions.now states.now next.old steps.old next.new steps.new }
 {
     let at = (word + 1) * n;
     let mut label: usize = 0;
@@ -116,8 +115,8 @@ fn seed_row(
     states: &[f64],
     at: usize,
 )
-    requires { ⌜ (n ≤ most theLabels) × (n ≤ length (now transitions)) × (at + n ≤ length (now states)) ⌝ }
-    ensures { λ _. ⌜ now (next .exit) ≡ written 0 (onward score (now (transitions .entry)) 0 (now (states .entry)) at) n (now (next .entry)) ⌝ }
+    requires { (n ≤ most the_labels) × (n ≤ length transitions.now) × (at + n ≤ length states.now) }
+    ensures { next.new ≡ written 0 (onward score transitions.now 0 states.now at) n next.old }
 {
     let mut label: usize = 0;
     while label < n {
@@ -138,9 +137,9 @@ fn fold_previous(
     states: &[f64],
     at: usize,
 )
-    requires { ⌜ (n ≤ most theLabels) × (base + n ≤ length (now transitions)) × (at + n ≤ length (now states)) ⌝ }
-    ensures { λ _. ⌜ now (next .exit) ≡ written 0 (scoreTried (onward score (now (transitions .entry)) base (now (states .entry)) at) (now (next .entry))) n (now (next .entry)) ⌝ }
-    ensures { λ _. ⌜ now (from .exit) ≡ written 0 (markTried (onward score (now (transitions .entry)) base (now (states .entry)) at) (now (next .entry)) mark (now (from .entry))) n (now (from .entry)) ⌝ }
+    requires { (n ≤ most the_labels) × (base + n ≤ length transitions.now) × (at + n ≤ length states.now) }
+    ensures next_after { next.new ≡ written 0 (score_tried (onward score transitions.now base states.now at) next.old) n next.old }
+    ensures from_after { from.new ≡ written 0 (mark_tried (onward score transitions.now base states.now at) next.old mark from.old) n from.old }
 {
     let mut label: usize = 0;
     while label < n {
@@ -154,8 +153,8 @@ fn fold_previous(
 
 // The steps of a word, put in their place.
 fn keep_steps(steps: &mut [u8], at: usize, from: &[u64; ROW_ROOM], n: usize)
-    requires { ⌜ (n ≤ most theLabels) × (at + n ≤ length (now steps)) × ((label : ℕ) → label < n → getD (now from) label 0 < 256) ⌝ }
-    ensures { λ _. ⌜ now (steps .exit) ≡ written at (λ label. getD (now (from .entry)) label 0) n (now (steps .entry)) ⌝ }
+    requires { (n ≤ most the_labels) × (at + n ≤ length steps.old) × ((label : ℕ) → label < n → get_or from.now label 0 < 256) }
+    ensures { steps.new ≡ written at (λ label. get_or from.now label 0) n steps.old }
 {
     let mut label: usize = 0;
     while label < n {
@@ -174,8 +173,8 @@ fn next_by_previous(
     states: &[f64],
     steps: &mut [u8],
 )
-    requires { ⌜ Before n word (now transitions) (now states) (now row) (now next) (now steps) ⌝ }
-    ensures { λ _. ⌜ After n word (now (transitions .entry)) (now (states .entry)) (now (next .entry)) (now (steps .entry)) (now (next .exit)) (now (steps .exit)) ⌝ }
+    requires { Before n word transitions.now states.now row.now next.old steps.old }
+    ensures { After n word transitions.now states.now next.old steps.old next.new steps.new }
 {
     let at = (word + 1) * n;
     let mut from = [0u64; ROW_ROOM];
@@ -211,8 +210,8 @@ pub fn next_row(
     states: &[f64],
     steps: &mut [u8],
 )
-    requires { ⌜ Before n word (now transitions) (now states) (now row) (now next) (now steps) ⌝ }
-    ensures { λ _. ⌜ After n word (now (transitions .entry)) (now (states .entry)) (now (next .entry)) (now (steps .entry)) (now (next .exit)) (now (steps .exit)) ⌝ }
+    requires { Before n word transitions.now states.now row.now next.old steps.old }
+    ensures { After n word transitions.now states.now next.old steps.old next.new steps.new }
 {
     if n < 8 {
         next_by_label(row, next, n, word, transitions, states, steps);

@@ -1,151 +1,151 @@
 -- What the rows give: sizes that fit, tables that are sound, and strings, words and sequences that stand in them. Assumes nothing.
-use mathlib.Core.Path.{_≡_, refl, sym, _∙_, ap}
-use mathlib.Core.List.{List, [], _∷_, _++_}
-use Prim.Native.Nat.{ℕ, _+_, _-_, _≤_, _<_}
+use mathlib.Core.Path.{◌≡◌, refl, sym, ◌∙◌, ap}
+use mathlib.Core.List.{List, [], ◌∷◌, ◌++◌}
+use Prim.Native.Nat.{ℕ, ◌+◌, ◌-◌, ◌≤◌, ◌<◌}
 use native.Mathlib.Omega.{arith}
-use lib.ListN.{length, getD}
-use Rattle·refusals.specs.declared.Refusal.{Refusal}
-use Rattle·refusals.specs.declared.Checked.{Checked}
-use Rattle·refusals.specs.declared.Checked.the-variants.{Accepted, Refused}
-use Rattle·refusals.specs.Refusals.{first, firstFrom}
-use Rattle·refusals.specs.Bounds.{tablePosition, attributeTable, referenceTable}
-use Rattle·refusals.specs.Meaning.{Starts, AllAccepted}
-use Rattle·refusals.proofs.Laws.{settled, all-accepted}
-use Rattle·refusals.proofs.Meant.{starts-kept, ids-below, within}
-use Rattle·score_tables.specs.Rows.{one}
-use Rattle·score_tables.proofs.Meant.{one-means}
-use Rattle·score_tables.proofs.Order.{parted}
-use Rattle·refusal_rows.specs.Limits.{limitChecks, AllWithin}
-use Rattle·refusal_rows.specs.Tests.{linesFit, checks}
-use Rattle·refusal_rows.proofs.Means.{limits-mean, test-means, fitting}
-use Rattle·text_tables.specs.Tables.{Strings}
-use Rattle·text_tables.specs.Written.{writtenText}
-use Rattle·text_writing.specs.Ready.{StringStands, ListStands, AttributeStands, WordStands, SequenceStands}
-use Rattle·text_writing.specs.Sums.{LabelStands, Measurable}
-use Rattle·write_check·specs.specs.Rows.{Unchecked, writtenCounts, wordRooms, stringRooms, writtenRooms, writtenStarts, writtenLengths, writtenIds, textRoom, readRows, textRows, writeChecked, writeSized, writeRead}
-use Rattle·write_check·specs.specs.Sound.{WriteFits, SoundUnwritten}
+use lib.ListN.{length, get_or}
+use Rattle.refusals.specs.declared.Refusal.{Refusal}
+use Rattle.refusals.specs.declared.Checked.{Checked}
+use Rattle.refusals.specs.declared.Checked.TheVariants.{Accepted, Refused}
+use Rattle.refusals.specs.Refusals.{first, first_from}
+use Rattle.refusals.specs.Bounds.{table_position, attribute_table, reference_table}
+use Rattle.refusals.specs.Meaning.{Starts, AllAccepted}
+use Rattle.refusals.proofs.Laws.{settled, all_accepted}
+use Rattle.refusals.proofs.Meant.{starts_kept, ids_below, within}
+use Rattle.score_tables.specs.Rows.{one}
+use Rattle.score_tables.proofs.Meant.{one_means}
+use Rattle.score_tables.proofs.Order.{parted}
+use Rattle.refusal_rows.specs.Limits.{limit_checks, AllWithin}
+use Rattle.refusal_rows.specs.Tests.{lines_fit, checks}
+use Rattle.refusal_rows.proofs.Means.{limits_mean, test_means, fitting}
+use Rattle.text_tables.specs.Tables.{Strings}
+use Rattle.text_tables.specs.Written.{written_text}
+use Rattle.text_writing.specs.Ready.{StringStands, ListStands, AttributeStands, WordStands, SequenceStands}
+use Rattle.text_writing.specs.Sums.{LabelStands, Measurable}
+use Rattle.write_check.specs.Rows.{Unchecked, written_counts, word_rooms, string_rooms, written_rooms, written_starts, written_lengths, written_ids, text_room, read_rows, text_rows, write_checked, write_sized_of, write_read}
+use Rattle.write_check.specs.Sound.{WriteFits, SoundUnwritten}
 
 -- a list of lists whose starts rise, and a string of one
-list-stands : {starts : List ℕ} {n entries i : ℕ} → Starts starts n entries → n + 1 ≤ length starts → i < n → ListStands starts i
-list-stands {starts} {n} {entries} {i} s l h = record { inside = omega (arith, l, h); rises = s .rises i h }
+list_stands : {starts : List ℕ} {n entries i : ℕ} → Starts starts n entries → n + 1 ≤ length starts → i < n → ListStands starts i
+list_stands {starts} {n} {entries} {i} s l h = record { inside = omega (arith, l, h); rises = s.rises i h }
 
-pub string-stands : {s : Strings} {n entries i : ℕ} → Starts (s .starts) n entries → n + 1 ≤ length (s .starts) → entries ≤ length (s .bytes) → i < n → StringStands s i
-string-stands {s} {n} {entries} {i} r l b h =
+pub string_stands : {s : Strings} {n entries i : ℕ} → Starts s.starts n entries → n + 1 ≤ length s.starts → entries ≤ length s.bytes → i < n → StringStands s i
+string_stands {s} {n} {entries} {i} r l b h =
     let w = within r (i + 1) (omega (arith, h)) in
-    record { list = list-stands r l h; ends = omega (arith, w, b) }
+    record { list = list_stands r l h; ends = omega (arith, w, b) }
 
 module _ (g : Unchecked) where
-  abbrev sizeRows : List Checked
-  sizeRows = one (g .labels) ∷ limitChecks (writtenCounts g) ++ limitChecks (writtenRooms g)
+  abbrev size_rows : List Checked
+  size_rows = one g.labels ∷ limit_checks (written_counts g) ++ limit_checks (written_rooms g)
 
   -- sizes that are tested part by part
-  pub write-sized : firstFrom (firstFrom (firstFrom (first (one (g .labels) ∷ [])) (limitChecks (writtenCounts g))) (limitChecks (wordRooms g))) (limitChecks (stringRooms g)) ≡ writeSized g
-  unfolding writeSized
-  write-sized = refl
+  pub write_sized : first_from (first_from (first_from (first (one g.labels ∷ [])) (limit_checks (written_counts g))) (limit_checks (word_rooms g))) (limit_checks (string_rooms g)) ≡ write_sized_of g
+  unfolding write_sized_of
+  write_sized = refl
 
   -- a refusal by size, or of what is read, is the call's
-  pub size-stopped : (have : ℕ) (why : Refusal) → writeSized g ≡ Refused why → Refused why ≡ writeChecked g have
-  unfolding writeSized writeChecked
-  size-stopped have why h =
+  pub size_stopped : (have : ℕ) (why : Refusal) → write_sized_of g ≡ Refused why → Refused why ≡ write_checked g have
+  unfolding write_sized_of write_checked
+  size_stopped have why h =
       sym
-      (settled (first sizeRows)
-      ((checks (writtenStarts g) ++ checks (writtenLengths g) ++ checks (writtenIds g)) ++ textRows g have)
+      (settled (first size_rows)
+      ((checks (written_starts g) ++ checks (written_lengths g) ++ checks (written_ids g)) ++ text_rows g have)
       why
       h)
 
-  pub read-stopped : (have : ℕ) (why : Refusal) → writeRead g ≡ Refused why → Refused why ≡ writeChecked g have
-  unfolding writeRead writeChecked
-  read-stopped have why h = sym (settled (first (readRows g)) (textRows g have) why h)
+  pub read_stopped : (have : ℕ) (why : Refusal) → write_read g ≡ Refused why → Refused why ≡ write_checked g have
+  unfolding write_read write_checked
+  read_stopped have why h = sym (settled (first (read_rows g)) (text_rows g have) why h)
 
-  pub lists-read : {sizes r : Checked} → sizes ≡ writeSized g → r ≡ firstFrom sizes (checks (writtenStarts g ++ writtenLengths g ++ writtenIds g)) → r ≡ writeRead g
-  unfolding writeSized writeRead
-  lists-read a b = rw (b, a)
+  pub lists_read : {sizes r : Checked} → sizes ≡ write_sized_of g → r ≡ first_from sizes (checks (written_starts g ++ written_lengths g ++ written_ids g)) → r ≡ write_read g
+  unfolding write_sized_of write_read
+  lists_read a b = rw (b, a)
 
-  pub all-read : {lists r : Checked} (have : ℕ) → lists ≡ writeRead g → r ≡ firstFrom lists (textRows g have) → r ≡ writeChecked g have
-  unfolding writeRead writeChecked
-  all-read have a b = rw (b, a)
+  pub all_read : {lists r : Checked} (have : ℕ) → lists ≡ write_read g → r ≡ first_from lists (text_rows g have) → r ≡ write_checked g have
+  unfolding write_read write_checked
+  all_read have a b = rw (b, a)
 
-  fits-of : one (g .labels) ≡ Accepted → AllAccepted (limitChecks (writtenCounts g)) → AllAccepted (limitChecks (writtenRooms g)) → WriteFits g
-  fits-of a b c = record {
-    labels = one-means (g .labels) .accepted .0 a;
-    counts = limits-mean (writtenCounts g) .0 b;
-    rooms = limits-mean (writtenRooms g) .0 c;
+  fits_of : one g.labels ≡ Accepted → AllAccepted (limit_checks (written_counts g)) → AllAccepted (limit_checks (written_rooms g)) → WriteFits g
+  fits_of a b c = record {
+    labels = (one_means g.labels).accepted.0 a;
+    counts = (limits_mean (written_counts g)).0 b;
+    rooms = (limits_mean (written_rooms g)).0 c;
   }
 
-  pub write-fits : (r : Checked) → r ≡ writeSized g → r ≡ Accepted → WriteFits g
-  unfolding writeSized
-  write-fits r e h =
-      let a = all-accepted Accepted sizeRows (sym e ∙ h) .1 in
-      let p = parted (limitChecks (writtenCounts g)) (limitChecks (writtenRooms g)) .0 (a .1) in
-      fits-of (a .0) (p .0) (p .1)
+  pub write_fits : (r : Checked) → r ≡ write_sized_of g → r ≡ Accepted → WriteFits g
+  unfolding write_sized_of
+  write_fits r e h =
+      let a = (all_accepted Accepted size_rows (sym e ∙ h)).1 in
+      let p = (parted (limit_checks (written_counts g)) (limit_checks (written_rooms g))).0 a.1 in
+      fits_of a.0 p.0 p.1
 
-  pub sound-rows : AllAccepted (readRows g) → SoundUnwritten g
-  sound-rows a =
-      let tables : List Checked = checks (writtenStarts g) ++ checks (writtenLengths g) ++ checks (writtenIds g) in
-      let p = parted (limitChecks (writtenCounts g)) (limitChecks (writtenRooms g) ++ tables) .0 (a .1) in
-      let q = parted (limitChecks (writtenRooms g)) tables .0 (p .1) in
-      let s = q .1 in
-      let t = s .1 .1 .1 .1 .1 in
+  pub sound_rows : AllAccepted (read_rows g) → SoundUnwritten g
+  sound_rows a =
+      let tables : List Checked = checks (written_starts g) ++ checks (written_lengths g) ++ checks (written_ids g) in
+      let p = (parted (limit_checks (written_counts g)) (limit_checks (written_rooms g) ++ tables)).0 a.1 in
+      let q = (parted (limit_checks (written_rooms g)) tables).0 p.1 in
+      let s = q.1 in
+      let t = s.1.1.1.1.1 in
       record {
-        fits = fits-of (a .0) (p .0) (q .0);
-        lines = starts-kept (g .tables .lineStarts) (g .tables .instances) (g .words) .0 (s .0);
-        begins = starts-kept (g .tables .wordStarts) (g .words) (g .attributes) .0 (s .1 .0);
-        labels = starts-kept (g .tables .labels .starts) (g .labels) (g .labelBytes) .0 (s .1 .1 .0);
-        names = starts-kept (g .tables .names .starts) (g .names) (g .nameBytes) .0 (s .1 .1 .1 .0);
-        scales = starts-kept (g .tables .scales .starts) (g .attributes) (g .scaleBytes) .0 (s .1 .1 .1 .1 .0);
-        lengths = fitting (g .tables .lineStarts) (g .tables .instances) (test-means (linesFit (g .tables .lineStarts) (g .tables .instances)) .accepted .0 (t .0));
-        ids = ids-below (tablePosition attributeTable) (g .tables .ids) (g .attributes) (g .names) (t .1 .0);
-        references = ids-below (tablePosition referenceTable) (g .tables .references) (g .words) (g .labels) (t .1 .1 .0);
+        fits = fits_of a.0 p.0 q.0;
+        lines = (starts_kept g.tables.line_starts g.tables.instances g.words).0 s.0;
+        begins = (starts_kept g.tables.word_starts_of g.words g.attributes).0 s.1.0;
+        labels = (starts_kept g.tables.labels.starts g.labels g.label_bytes_of).0 s.1.1.0;
+        names = (starts_kept g.tables.names.starts g.names g.name_bytes_of).0 s.1.1.1.0;
+        scales = (starts_kept g.tables.scales.starts g.attributes g.scale_bytes_of).0 s.1.1.1.1.0;
+        lengths = fitting g.tables.line_starts g.tables.instances ((test_means (lines_fit g.tables.line_starts g.tables.instances)).accepted.0 t.0);
+        ids = ids_below (table_position attribute_table) g.tables.ids g.attributes g.names t.1.0;
+        references = ids_below (table_position reference_table) g.tables.references g.words g.labels t.1.1.0;
       }
 
-  pub write-sound : (r : Checked) → r ≡ writeRead g → r ≡ Accepted → SoundUnwritten g
-  unfolding writeRead
-  write-sound r e h = sound-rows (all-accepted Accepted (readRows g) (sym e ∙ h) .1)
+  pub write_sound : (r : Checked) → r ≡ write_read g → r ≡ Accepted → SoundUnwritten g
+  unfolding write_read
+  write_sound r e h = sound_rows (all_accepted Accepted (read_rows g) (sym e ∙ h)).1
 
 module _ {g : Unchecked} (s : SoundUnwritten g) where
-  pub labels-stand : (i : ℕ) → i < g .labels → StringStands (g .tables .labels) i
-  labels-stand i h = let r = s .fits .rooms in string-stands (s .labels) (r .1 .1 .1 .1 .0) (r .1 .1 .1 .1 .1 .0) h
+  pub labels_stand : (i : ℕ) → i < g.labels → StringStands g.tables.labels i
+  labels_stand i h = let r = s.fits.rooms in string_stands s.labels r.1.1.1.1.0 r.1.1.1.1.1.0 h
 
-  pub names-stand : (i : ℕ) → i < g .names → StringStands (g .tables .names) i
-  names-stand i h = let r = s .fits .rooms in string-stands (s .names) (r .1 .1 .1 .1 .1 .1 .0) (r .1 .1 .1 .1 .1 .1 .1 .0) h
+  pub names_stand : (i : ℕ) → i < g.names → StringStands g.tables.names i
+  names_stand i h = let r = s.fits.rooms in string_stands s.names r.1.1.1.1.1.1.0 r.1.1.1.1.1.1.1.0 h
 
-  pub scales-stand : (i : ℕ) → i < g .attributes → StringStands (g .tables .scales) i
-  scales-stand i h = let r = s .fits .rooms in string-stands (s .scales) (r .1 .1 .1 .1 .1 .1 .1 .1 .0) (r .1 .1 .1 .1 .1 .1 .1 .1 .1 .0) h
+  pub scales_stand : (i : ℕ) → i < g.attributes → StringStands g.tables.scales i
+  scales_stand i h = let r = s.fits.rooms in string_stands s.scales r.1.1.1.1.1.1.1.1.0 r.1.1.1.1.1.1.1.1.1.0 h
 
-  attribute-stands : (a : ℕ) → a < g .attributes → AttributeStands (g .tables .ids) (g .tables .names) (g .tables .scales) a
-  attribute-stands a h =
-      let r = s .fits .rooms in
-      let long = r .1 .1 .0 in
-      record { inside = omega (arith, h, long); name = names-stand (getD (g .tables .ids) a 0) (s .ids a h); scale = scales-stand a h }
+  attribute_stands : (a : ℕ) → a < g.attributes → AttributeStands g.tables.ids g.tables.names g.tables.scales a
+  attribute_stands a h =
+      let r = s.fits.rooms in
+      let long = r.1.1.0 in
+      record { inside = omega (arith, h, long); name = names_stand (get_or g.tables.ids a 0) (s.ids a h); scale = scales_stand a h }
 
-  label-stands : (w : ℕ) → w < g .words → LabelStands (g .tables .references) (g .tables .labels) w
-  label-stands w h =
-      let r = s .fits .rooms in
-      let long = r .1 .1 .1 .0 in
-      record { inside = omega (arith, h, long); label = labels-stand (getD (g .tables .references) w 0) (s .references w h) }
+  label_stands : (w : ℕ) → w < g.words → LabelStands g.tables.references g.tables.labels w
+  label_stands w h =
+      let r = s.fits.rooms in
+      let long = r.1.1.1.0 in
+      record { inside = omega (arith, h, long); label = labels_stand (get_or g.tables.references w 0) (s.references w h) }
 
-  word-stands : (w : ℕ) → w < g .words → WordStands (g .tables) w
-  word-stands w h =
-      let r = s .fits .rooms in
-      let l = label-stands w h in
-      let e = within (s .begins) (w + 1) (omega (arith, h)) in
-      record { inside = l .inside; label = l .label; list = list-stands (s .begins) (r .1 .0) h; attributes = λ a k. attribute-stands a (omega (arith, k, e)) }
+  word_stands : (w : ℕ) → w < g.words → WordStands g.tables w
+  word_stands w h =
+      let r = s.fits.rooms in
+      let l = label_stands w h in
+      let e = within s.begins (w + 1) (omega (arith, h)) in
+      record { inside = l.inside; label = l.label; list = list_stands s.begins r.1.0 h; attributes = λ a k. attribute_stands a (omega (arith, k, e)) }
 
-  pub sequence-stands : (i : ℕ) → i < g .tables .instances → SequenceStands (g .tables) i
-  sequence-stands i h =
-      let r = s .fits .rooms in
-      let e = within (s .lines) (i + 1) (omega (arith, h)) in
-      record { list = list-stands (s .lines) (r .0) h; words = λ w k. word-stands w (omega (arith, k, e)) }
+  pub sequence_stands : (i : ℕ) → i < g.tables.instances → SequenceStands g.tables i
+  sequence_stands i h =
+      let r = s.fits.rooms in
+      let e = within s.lines (i + 1) (omega (arith, h)) in
+      record { list = list_stands s.lines r.0 h; words = λ w k. word_stands w (omega (arith, k, e)) }
 
-  pub measurable : Measurable (g .tables) (g .words) (g .attributes)
+  pub measurable : Measurable g.tables g.words g.attributes
   measurable =
-      let c = s .fits .counts in
+      let c = s.fits.counts in
       record {
-        few-instances = c .1 .0 .1;
-        few-words = c .1 .1 .0;
-        few-attributes = c .1 .1 .1 .0;
-        lines = s .lines;
-        begins = s .begins;
-        labelled = label-stands;
-        marked = attribute-stands;
+        few_instances = c.1.0.1;
+        few_words = c.1.1.0;
+        few_attributes = c.1.1.1.0;
+        lines = s.lines;
+        begins = s.begins;
+        labelled = label_stands;
+        marked = attribute_stands;
       }

@@ -1,31 +1,28 @@
 -- Desk case T7, computed: the writer's answers to the tables of T1, and to tables that differ from them in one place. Assumes nothing.
-use mathlib.Core.Path.{_≡_, refl}
-use mathlib.Core.Bool.{true}
-use mathlib.Core.List.{List, [], _∷_, flatten}
-use Prim.Native.Nat.{ℕ}
-use lib.ListN.{length}
-use Rattle·refusals.specs.declared.Checked.the-variants.{Accepted}
-use Rattle·refusals.specs.Refusals.{refusedAt, refusedIn, refuseIn, orNext, lowestIn}
-use Rattle·refusal_rows.specs.Limits.{inOrder, inCallOrder}
-use Rattle·refusal_rows.specs.Tests.{inTableOrder}
-use Rattle·layout.specs.Layout.{escaped, scaleText, attributesText, lineText, moreLines, textOf}
-use Rattle·text_tables.specs.Tables.{Strings}
-use Rattle·text_tables.specs.Written.{stringAt, placesFrom, allLines}
-use Rattle·text_writing.specs.Ready.{strings, lentTables}
-use Rattle·write_check·specs.specs.Carry.{unclean, noScaleFrom, behindMinus}
-use Rattle·write_check·specs.specs.Rows.{Unchecked, writtenCounts, writtenRooms, writtenStarts, writtenIds, writeChecked}
+use Rattle.std.specs.Prelude.{◌≡◌, refl, true, ℕ, length}
+use mathlib.Core.List.{List, [], ◌∷◌, flatten}
+use Rattle.refusals.specs.declared.Checked.TheVariants.{Accepted}
+use Rattle.refusals.specs.Refusals.{refused_at, refused_in_of, refuse_in_of, or_next_of, lowest_in}
+use Rattle.refusal_rows.specs.Limits.{in_order_of, in_call_order}
+use Rattle.refusal_rows.specs.Tests.{in_table_order}
+use Rattle.layout.specs.Layout.{escaped, scale_text, attributes_text, line_text, more_lines, text_of}
+use Rattle.text_tables.specs.Tables.{Strings}
+use Rattle.text_tables.specs.Written.{string_at, places_from, all_lines}
+use Rattle.text_writing.specs.Ready.{strings, lent_tables}
+use Rattle.write_check.specs.Carry.{unclean, no_scale_from, behind_minus}
+use Rattle.write_check.specs.Rows.{Unchecked, written_counts, written_rooms, written_starts, written_ids, write_checked}
 
 -- T1's tables with these ids, label names, attribute names and kept texts
-abbrev t1With : List ℕ → Strings → Strings → Strings → Unchecked
-t1With ids labels names scales = record {
+abbrev t1_with : List ℕ → Strings → Strings → Strings → Unchecked
+t1_with ids labels names scales = record {
   labels = 2;
   words = 3;
   attributes = 3;
   names = 2;
-  labelBytes = length (labels .bytes);
-  nameBytes = length (names .bytes);
-  scaleBytes = length (scales .bytes);
-  tables = lentTables 2 (0 ∷ 2 ∷ 3 ∷ []) (0 ∷ 2 ∷ 2 ∷ 3 ∷ []) ids (0 ∷ 1 ∷ 0 ∷ []) labels names scales;
+  label_bytes_of = length labels.bytes;
+  name_bytes_of = length names.bytes;
+  scale_bytes_of = length scales.bytes;
+  tables = lent_tables 2 (0 ∷ 2 ∷ 3 ∷ []) (0 ∷ 2 ∷ 2 ∷ 3 ∷ []) ids (0 ∷ 1 ∷ 0 ∷ []) labels names scales;
 }
 
 abbrev ids1 : List ℕ
@@ -41,42 +38,42 @@ abbrev scales1 : Strings
 scales1 = strings (0 ∷ 3 ∷ 3 ∷ 5 ∷ []) (48 ∷ 46 ∷ 53 ∷ 45 ∷ 48 ∷ [])
 
 -- "a text of 20 bytes .. 12/10, of 21 accepted"
-short-text : writeChecked (t1With ids1 labels1 names1 scales1) 20 ≡ refusedAt 12 10
-unfolding writeChecked lowestIn orNext refuseIn unclean noScaleFrom behindMinus stringAt placesFrom allLines textOf moreLines lineText attributesText escaped scaleText flatten
-short-text = refl
+short_text : write_checked (t1_with ids1 labels1 names1 scales1) 20 ≡ refused_at 12 10
+unfolding write_checked lowest_in or_next_of refuse_in_of unclean no_scale_from behind_minus string_at places_from all_lines text_of more_lines line_text attributes_text escaped scale_text flatten
+short_text = refl
 
-long-text : writeChecked (t1With ids1 labels1 names1 scales1) 21 ≡ Accepted
-unfolding writeChecked lowestIn orNext refuseIn unclean noScaleFrom behindMinus stringAt placesFrom allLines textOf moreLines lineText attributesText escaped scaleText flatten
-long-text = refl
+long_text : write_checked (t1_with ids1 labels1 names1 scales1) 21 ≡ Accepted
+unfolding write_checked lowest_in or_next_of refuse_in_of unclean no_scale_from behind_minus string_at places_from all_lines text_of more_lines line_text attributes_text escaped scale_text flatten
+long_text = refl
 
 -- "label name B made a tab: 11/1"
-tab-label : writeChecked (t1With ids1 (strings (0 ∷ 1 ∷ 2 ∷ []) (65 ∷ 9 ∷ [])) names1 scales1) 21 ≡ refusedAt 11 1
-unfolding writeChecked lowestIn orNext refuseIn unclean noScaleFrom behindMinus stringAt placesFrom allLines textOf moreLines lineText attributesText escaped scaleText flatten
-tab-label = refl
+tab_label : write_checked (t1_with ids1 (strings (0 ∷ 1 ∷ 2 ∷ []) (65 ∷ 9 ∷ [])) names1 scales1) 21 ≡ refused_at 11 1
+unfolding write_checked lowest_in or_next_of refuse_in_of unclean no_scale_from behind_minus string_at places_from all_lines text_of more_lines line_text attributes_text escaped scale_text flatten
+tab_label = refl
 
 -- "label name B empty and attribute name a a line feed: 11/1"
-empty-label : writeChecked (t1With ids1 (strings (0 ∷ 1 ∷ 1 ∷ []) (65 ∷ [])) (strings (0 ∷ 1 ∷ 2 ∷ []) (10 ∷ 98 ∷ [])) scales1) 21 ≡ refusedAt 11 1
-unfolding writeChecked lowestIn orNext refuseIn unclean noScaleFrom behindMinus stringAt placesFrom allLines textOf moreLines lineText attributesText escaped scaleText flatten
-empty-label = refl
+empty_label : write_checked (t1_with ids1 (strings (0 ∷ 1 ∷ 1 ∷ []) (65 ∷ [])) (strings (0 ∷ 1 ∷ 2 ∷ []) (10 ∷ 98 ∷ [])) scales1) 21 ≡ refused_at 11 1
+unfolding write_checked lowest_in or_next_of refuse_in_of unclean no_scale_from behind_minus string_at places_from all_lines text_of more_lines line_text attributes_text escaped scale_text flatten
+empty_label = refl
 
 -- "scale `0.5` made `0.-`: 11/0"
-no-scale : writeChecked (t1With ids1 labels1 names1 (strings (0 ∷ 3 ∷ 3 ∷ 5 ∷ []) (48 ∷ 46 ∷ 45 ∷ 45 ∷ 48 ∷ []))) 21 ≡ refusedAt 11 0
-unfolding writeChecked lowestIn orNext refuseIn unclean noScaleFrom behindMinus stringAt placesFrom allLines textOf moreLines lineText attributesText escaped scaleText flatten
-no-scale = refl
+no_scale : write_checked (t1_with ids1 labels1 names1 (strings (0 ∷ 3 ∷ 3 ∷ 5 ∷ []) (48 ∷ 46 ∷ 45 ∷ 45 ∷ 48 ∷ []))) 21 ≡ refused_at 11 0
+unfolding write_checked lowest_in or_next_of refuse_in_of unclean no_scale_from behind_minus string_at places_from all_lines text_of more_lines line_text attributes_text escaped scale_text flatten
+no_scale = refl
 
 -- "ids 0,2,1: 5/1", of the attributes
-no-name : writeChecked (t1With (0 ∷ 2 ∷ 1 ∷ []) labels1 names1 scales1) 21 ≡ refusedIn 5 7 1
-unfolding writeChecked lowestIn orNext refuseIn unclean noScaleFrom behindMinus stringAt placesFrom allLines textOf moreLines lineText attributesText escaped scaleText flatten
-no-name = refl
+no_name : write_checked (t1_with (0 ∷ 2 ∷ 1 ∷ []) labels1 names1 scales1) 21 ≡ refused_in_of 5 7 1
+unfolding write_checked lowest_in or_next_of refuse_in_of unclean no_scale_from behind_minus string_at places_from all_lines text_of more_lines line_text attributes_text escaped scale_text flatten
+no_name = refl
 
 -- the counts are tested in the order of "Tables and bounds"
-counts-in-order : (g : Unchecked) → inOrder (writtenCounts g) ≡ true
-counts-in-order g = refl
+counts_in_order : (g : Unchecked) → in_order_of (written_counts g) ≡ true
+counts_in_order g = refl
 
 -- the rooms in the order of the call's slices
-rooms-in-order : (g : Unchecked) → inCallOrder (writtenRooms g) ≡ true
-rooms-in-order g = refl
+rooms_in_order : (g : Unchecked) → in_call_order (written_rooms g) ≡ true
+rooms_in_order g = refl
 
 -- and 3 and 5 in the order of the tables, "its name and scale tables after all others"
-tables-in-order : (g : Unchecked) → (inTableOrder (writtenStarts g) ≡ true) × (inTableOrder (writtenIds g) ≡ true)
-tables-in-order g = (refl, refl)
+tables_in_order : (g : Unchecked) → (in_table_order (written_starts g) ≡ true) × (in_table_order (written_ids g) ≡ true)
+tables_in_order g = (refl, refl)

@@ -1,21 +1,18 @@
 -- The writer's refusals row by row, and their order: 1, 2, 12, 3, 4, 5, 12 of the text, 11. Assumes nothing.
-use mathlib.Core.List.{List, [], _∷_, _++_}
-use Prim.Native.Nat.{ℕ, _+_}
-use denote.Ref.{RefT, now}
+use Rattle.std.specs.Prelude.{List, [], ◌∷◌, ◌++◌, ℕ, ◌+◌, length}
 use denote.Triple.Both.{Both}
-use lib.ListN.{length}
-use Rattle·refusals.specs.declared.Checked.{Checked}
-use Rattle·refusals.specs.Refusals.{first}
-use Rattle·refusals.specs.Bounds.{theAttributeLists, theInstances, theWords, theAttributes, wordTable, attributeTable, referenceTable, labelNameTable, attributeNameTable, scaleTable}
-use Rattle·score_tables.specs.Rows.{one}
-use Rattle·refusal_rows.specs.Limits.{Limit, count, room, limitChecks}
-use Rattle·refusal_rows.specs.Tests.{Test, startsRise, linesFit, idsBelow, checks}
-use Rattle·lines.specs.declared.Totals.{Totals}
-use Rattle·lines.specs.Entry.{Numbers}
-use Rattle·text_tables.specs.Written.{Unwritten, writtenText}
-use Rattle·text_writing.specs.Ready.{strings, lentTables}
-use Rattle·write_check·specs.specs.Carry.{Carry, named, kept, carries}
-use Rattle·write_check·specs.specs.declared.Names.{Names}
+use Rattle.refusals.specs.declared.Checked.{Checked}
+use Rattle.refusals.specs.Refusals.{first}
+use Rattle.refusals.specs.Bounds.{the_attribute_lists, the_instances, the_words, the_attributes, word_table, attribute_table, reference_table, label_name_table, attribute_name_table, scale_table}
+use Rattle.score_tables.specs.Rows.{one}
+use Rattle.refusal_rows.specs.Limits.{Limit, count, room, limit_checks}
+use Rattle.refusal_rows.specs.Tests.{Test, starts_rise, lines_fit, ids_below, checks}
+use Rattle.lines.specs.declared.Totals.{Totals}
+use Rattle.lines.specs.Entry.{Numbers}
+use Rattle.text_tables.specs.Written.{Unwritten, written_text}
+use Rattle.text_writing.specs.Ready.{strings, lent_tables}
+use Rattle.write_check.specs.Carry.{Carry, named, kept, carries}
+use Rattle.write_check.specs.declared.Names.{Names}
 
 -- what the writer is given to read: how many there are of each, and the tables, with the instances among them
 pub record Unchecked : Type 0 where
@@ -23,136 +20,136 @@ pub record Unchecked : Type 0 where
   pub words : ℕ
   pub attributes : ℕ
   pub names : ℕ
-  pub labelBytes : ℕ
-  pub nameBytes : ℕ
-  pub scaleBytes : ℕ
+  pub label_bytes_of : ℕ
+  pub name_bytes_of : ℕ
+  pub scale_bytes_of : ℕ
   pub tables : Unwritten
 
-abbrev pub uncheckedOf : ℕ → Totals → Names → List ℕ → List ℕ → List ℕ → List ℕ → List ℕ → List ℕ → List ℕ → List ℕ → List ℕ → List ℕ → Unchecked
-uncheckedOf labels totals names lines begins ids references labelStarts labelNames nameStarts attributeNames scaleStarts scales = record {
+abbrev pub unchecked_of : ℕ → Totals → Names → List ℕ → List ℕ → List ℕ → List ℕ → List ℕ → List ℕ → List ℕ → List ℕ → List ℕ → List ℕ → Unchecked
+unchecked_of labels totals names lines begins ids references label_starts_of label_names name_starts_of attribute_names scale_starts_of scales = record {
   labels = labels;
-  words = totals .words;
-  attributes = totals .attributes;
-  names = names .attributes;
-  labelBytes = names .«label_bytes»;
-  nameBytes = names .«attribute_bytes»;
-  scaleBytes = names .«scale_bytes»;
-  tables = lentTables (totals .instances) lines begins ids references (strings labelStarts labelNames) (strings nameStarts attributeNames) (strings scaleStarts scales);
+  words = totals.words;
+  attributes = totals.attributes;
+  names = names.attributes;
+  label_bytes_of = names.label_bytes;
+  name_bytes_of = names.attribute_bytes;
+  scale_bytes_of = names.scale_bytes;
+  tables = lent_tables totals.instances lines begins ids references (strings label_starts_of label_names) (strings name_starts_of attribute_names) (strings scale_starts_of scales);
 }
 
 -- in an `ensures`, where the name of a table is the pair of entry and exit
-abbrev pub uncheckedWas : {A B C D E F G H I J : Type 0} → ℕ → Totals → Names → Both Numbers A → Both Numbers B → Both Numbers C → Both Numbers D → Both Numbers E → Both Numbers F → Both Numbers G → Both Numbers H → Both Numbers I → Both Numbers J → Unchecked
-uncheckedWas labels totals names a b c d e f g h i j =
-    uncheckedOf labels totals names (now (a .entry)) (now (b .entry)) (now (c .entry)) (now (d .entry)) (now (e .entry)) (now (f .entry)) (now (g .entry)) (now (h .entry)) (now (i .entry)) (now (j .entry))
+abbrev pub unchecked_was : {A B C D E F G H I J : Type 0} → ℕ → Totals → Names → Both Numbers A → Both Numbers B → Both Numbers C → Both Numbers D → Both Numbers E → Both Numbers F → Both Numbers G → Both Numbers H → Both Numbers I → Both Numbers J → Unchecked
+unchecked_was labels totals names a b c d e f g h i j =
+    unchecked_of labels totals names a.entry.now b.entry.now c.entry.now d.entry.now e.entry.now f.entry.now g.entry.now h.entry.now i.entry.now j.entry.now
 
 -- its counts as the call takes them
-abbrev pub totalsOf : Unchecked → Totals
-totalsOf g = record { instances = g .tables .instances; words = g .words; attributes = g .attributes }
+abbrev pub totals_of : Unchecked → Totals
+totals_of g = record { instances = g.tables.instances; words = g.words; attributes = g.attributes }
 
-abbrev pub countsOf : Unchecked → Names
-countsOf g = record { attributes = g .names; «label_bytes» = g .labelBytes; «attribute_bytes» = g .nameBytes; «scale_bytes» = g .scaleBytes }
+abbrev pub counts_of : Unchecked → Names
+counts_of g = record { attributes = g.names; label_bytes = g.label_bytes_of; attribute_bytes = g.name_bytes_of; scale_bytes = g.scale_bytes_of }
 
 -- ---- 2 | "counts outside their bounds" | "the count's position": "attribute names (3), instances (7), words (8), attributes (9)"
-abbrev pub countLimits : ℕ → Totals → List Limit
-countLimits names totals =
-    count theAttributeLists names
-    ∷ count theInstances (totals .instances)
-    ∷ count theWords (totals .words)
-    ∷ count theAttributes (totals .attributes)
+abbrev pub count_limits : ℕ → Totals → List Limit
+count_limits names totals =
+    count the_attribute_lists names
+    ∷ count the_instances totals.instances
+    ∷ count the_words totals.words
+    ∷ count the_attributes totals.attributes
     ∷ []
 
 -- ---- 12 | "room" | "the buffer's position among the call's buffers": "what is read, in the call's order"
-abbrev pub wordLimits : Totals → (lines begins ids references : ℕ) → List Limit
-wordLimits totals lines begins ids references =
-    room 0 lines (totals .instances + 1)
-    ∷ room 1 begins (totals .words + 1)
-    ∷ room 2 ids (totals .attributes)
-    ∷ room 3 references (totals .words)
+abbrev pub word_limits : Totals → (lines begins ids references : ℕ) → List Limit
+word_limits totals lines begins ids references =
+    room 0 lines (totals.instances + 1)
+    ∷ room 1 begins (totals.words + 1)
+    ∷ room 2 ids totals.attributes
+    ∷ room 3 references totals.words
     ∷ []
 
-abbrev pub stringLimits : ℕ → ℕ → Names → (labelStarts labelNames nameStarts attributeNames scaleStarts scales : ℕ) → List Limit
-stringLimits labels attributes names labelStarts labelNames nameStarts attributeNames scaleStarts scales =
-    room 4 labelStarts (labels + 1)
-    ∷ room 5 labelNames (names .«label_bytes»)
-    ∷ room 6 nameStarts (names .attributes + 1)
-    ∷ room 7 attributeNames (names .«attribute_bytes»)
-    ∷ room 8 scaleStarts (attributes + 1)
-    ∷ room 9 scales (names .«scale_bytes»)
+abbrev pub string_limits : ℕ → ℕ → Names → (label_starts_of label_names name_starts_of attribute_names scale_starts_of scales : ℕ) → List Limit
+string_limits labels attributes names label_starts_of label_names name_starts_of attribute_names scale_starts_of scales =
+    room 4 label_starts_of (labels + 1)
+    ∷ room 5 label_names names.label_bytes
+    ∷ room 6 name_starts_of (names.attributes + 1)
+    ∷ room 7 attribute_names names.attribute_bytes
+    ∷ room 8 scale_starts_of (attributes + 1)
+    ∷ room 9 scales names.scale_bytes
     ∷ []
 
-abbrev pub writtenCounts : Unchecked → List Limit
-writtenCounts g = countLimits (g .names) (totalsOf g)
+abbrev pub written_counts : Unchecked → List Limit
+written_counts g = count_limits g.names (totals_of g)
 
-abbrev pub wordRooms : Unchecked → List Limit
-wordRooms g =
-    let t = g .tables in
-    wordLimits (totalsOf g) (length (t .lineStarts)) (length (t .wordStarts)) (length (t .ids)) (length (t .references))
+abbrev pub word_rooms : Unchecked → List Limit
+word_rooms g =
+    let t = g.tables in
+    word_limits (totals_of g) (length t.line_starts) (length t.word_starts_of) (length t.ids) (length t.references)
 
-abbrev pub stringRooms : Unchecked → List Limit
-stringRooms g =
-    let t = g .tables in
-    stringLimits (g .labels) (g .attributes) (countsOf g) (length (t .labels .starts)) (length (t .labels .bytes)) (length (t .names .starts)) (length (t .names .bytes)) (length (t .scales .starts)) (length (t .scales .bytes))
+abbrev pub string_rooms : Unchecked → List Limit
+string_rooms g =
+    let t = g.tables in
+    string_limits g.labels g.attributes (counts_of g) (length t.labels.starts) (length t.labels.bytes) (length t.names.starts) (length t.names.bytes) (length t.scales.starts) (length t.scales.bytes)
 
-abbrev pub writtenRooms : Unchecked → List Limit
-writtenRooms g = wordRooms g ++ stringRooms g
+abbrev pub written_rooms : Unchecked → List Limit
+written_rooms g = word_rooms g ++ string_rooms g
 
 -- ---- 3 | "a rule of starts is broken" | "index of the first bad start": "lines, begins, label name starts, attribute name starts, scale starts"
-abbrev pub risingTests : ℕ → Totals → Names → (lines begins labelStarts nameStarts scaleStarts : List ℕ) → List Test
-risingTests labels totals names lines begins labelStarts nameStarts scaleStarts =
-    startsRise wordTable lines (totals .instances) (totals .words)
-    ∷ startsRise attributeTable begins (totals .words) (totals .attributes)
-    ∷ startsRise labelNameTable labelStarts labels (names .«label_bytes»)
-    ∷ startsRise attributeNameTable nameStarts (names .attributes) (names .«attribute_bytes»)
-    ∷ startsRise scaleTable scaleStarts (totals .attributes) (names .«scale_bytes»)
+abbrev pub rising_tests : ℕ → Totals → Names → (lines begins label_starts_of name_starts_of scale_starts_of : List ℕ) → List Test
+rising_tests labels totals names lines begins label_starts_of name_starts_of scale_starts_of =
+    starts_rise word_table lines totals.instances totals.words
+    ∷ starts_rise attribute_table begins totals.words totals.attributes
+    ∷ starts_rise label_name_table label_starts_of labels names.label_bytes
+    ∷ starts_rise attribute_name_table name_starts_of names.attributes names.attribute_bytes
+    ∷ starts_rise scale_table scale_starts_of totals.attributes names.scale_bytes
     ∷ []
 
-abbrev pub writtenStarts : Unchecked → List Test
-writtenStarts g =
-    let t = g .tables in
-    risingTests (g .labels) (totalsOf g) (countsOf g) (t .lineStarts) (t .wordStarts) (t .labels .starts) (t .names .starts) (t .scales .starts)
+abbrev pub written_starts : Unchecked → List Test
+written_starts g =
+    let t = g.tables in
+    rising_tests g.labels (totals_of g) (counts_of g) t.line_starts t.word_starts_of t.labels.starts t.names.starts t.scales.starts
 
 -- ---- 4: "by sequence"
-abbrev pub writtenLengths : Unchecked → List Test
-writtenLengths g = linesFit (g .tables .lineStarts) (g .tables .instances) ∷ []
+abbrev pub written_lengths : Unchecked → List Test
+written_lengths g = lines_fit g.tables.line_starts g.tables.instances ∷ []
 
 -- ---- 5: "an id without a name, at or above attribute_names, then a label at or above L"
-abbrev pub writtenIds : Unchecked → List Test
-writtenIds g =
-    idsBelow attributeTable (g .tables .ids) (g .attributes) (g .names)
-    ∷ idsBelow referenceTable (g .tables .references) (g .words) (g .labels)
+abbrev pub written_ids : Unchecked → List Test
+written_ids g =
+    ids_below attribute_table g.tables.ids g.attributes g.names
+    ∷ ids_below reference_table g.tables.references g.words g.labels
     ∷ []
 
 -- ---- 12 of the text, the last of the call's buffers: "The text's room is tested where its need is known: after 3, 4 and 5 .. and before 11"
-abbrev pub textRoom : Unchecked → ℕ → List Limit
-textRoom g have = room 10 have (length (writtenText (g .tables))) ∷ []
+abbrev pub text_room : Unchecked → ℕ → List Limit
+text_room g have = room 10 have (length (written_text g.tables)) ∷ []
 
 -- ---- 11: "labels, then attributes, then scales, place the index in its table"
-abbrev pub writtenCarries : Unchecked → List Carry
-writtenCarries g =
-    named (g .tables .labels) (g .labels)
-    ∷ named (g .tables .names) (g .names)
-    ∷ kept (g .tables .scales) (g .attributes)
+abbrev pub written_carries : Unchecked → List Carry
+written_carries g =
+    named g.tables.labels g.labels
+    ∷ named g.tables.names g.names
+    ∷ kept g.tables.scales g.attributes
     ∷ []
 
 -- ---- the order, into a text of so many bytes
-abbrev pub readRows : Unchecked → List Checked
-readRows g =
-    one (g .labels)
-    ∷ limitChecks (writtenCounts g)
-    ++ limitChecks (writtenRooms g)
-    ++ checks (writtenStarts g)
-    ++ checks (writtenLengths g)
-    ++ checks (writtenIds g)
+abbrev pub read_rows : Unchecked → List Checked
+read_rows g =
+    one g.labels
+    ∷ limit_checks (written_counts g)
+    ++ limit_checks (written_rooms g)
+    ++ checks (written_starts g)
+    ++ checks (written_lengths g)
+    ++ checks (written_ids g)
 
-abbrev pub textRows : Unchecked → ℕ → List Checked
-textRows g have = limitChecks (textRoom g have) ++ carries (writtenCarries g)
+abbrev pub text_rows : Unchecked → ℕ → List Checked
+text_rows g have = limit_checks (text_room g have) ++ carries (written_carries g)
 
-unfoldable pub writeChecked : Unchecked → ℕ → Checked
-writeChecked g have = first (readRows g ++ textRows g have)
+unfoldable pub write_checked : Unchecked → ℕ → Checked
+write_checked g have = first (read_rows g ++ text_rows g have)
 
 -- what can be said before any table is read, and before any name is
-unfoldable pub writeSized : Unchecked → Checked
-writeSized g = first (one (g .labels) ∷ limitChecks (writtenCounts g) ++ limitChecks (writtenRooms g))
+unfoldable pub write_sized_of : Unchecked → Checked
+write_sized_of g = first (one g.labels ∷ limit_checks (written_counts g) ++ limit_checks (written_rooms g))
 
-unfoldable pub writeRead : Unchecked → Checked
-writeRead g = first (readRows g)
+unfoldable pub write_read : Unchecked → Checked
+write_read g = first (read_rows g)

@@ -1,21 +1,17 @@
 // The checks of the writer: 1, 2, 12, 3, 4 and 5 of the tables that it reads, 12 of the text's room, which only sound tables have a
 // need for, and 11 last: names and kept texts that the layout cannot carry, each table in a loop, the lowest index first.
-ghost use mathlib.Core.Path.{_≡_};
-ghost use mathlib.Core.Bool.{_||_};
-ghost use mathlib.Core.List.{_++_};
-ghost use Prim.Native.Nat.{ℕ, _+_, _≤_, _<_};
-ghost use lib.Dec.{ltb};
-ghost use lib.ListN.{length};
-ghost use lib.Seq.{slice};
-ghost use Rattle·refusals.specs.Refusals.{orNext, firstFrom};
-ghost use Rattle·refusals.specs.Tables.{outside};
-ghost use Rattle·refusal_rows.specs.Limits.{limitChecks};
-ghost use Rattle·refusal_rows.specs.Tests.{checks};
-ghost use Rattle·text_tables.specs.Written.{stringAt};
-ghost use Rattle·text_writing.specs.Ready.{strings, StringStands};
-ghost use Rattle·write_check·specs.specs.Carry.{unclean, noName, noScale, notKept, Digitwise, namesChecked, scalesChecked};
-ghost use Rattle·write_check·specs.specs.Rows.{uncheckedOf, uncheckedWas, countLimits, wordLimits, stringLimits, risingTests, writtenStarts, writtenLengths, writtenIds, textRows, writeSized, writeChecked};
-ghost use Rattle·write_check·specs.specs.Sound.{WriteFits, SoundUnwritten};
+ghost use Rattle.std.specs.Prelude.{◌≡◌, ◌||◌, ◌++◌, ℕ, ◌+◌, ◌≤◌, ◌<◌, ltb, length};
+ghost use Rattle.std.proofs.Math.Seq.{slice};
+ghost use Rattle.refusals.specs.Refusals.{or_next_of, first_from};
+ghost use Rattle.refusals.specs.Tables.{outside};
+ghost use Rattle.refusal_rows.specs.Limits.{limit_checks};
+ghost use Rattle.refusal_rows.specs.Tests.{checks};
+ghost use Rattle.text_tables.specs.Written.{string_at};
+ghost use Rattle.text_writing.specs.Ready.{strings, StringStands};
+ghost use Rattle.write_check.specs.Carry.{unclean, no_name, no_scale, not_kept, Digitwise, names_checked, scales_checked};
+ghost use Rattle.write_check.specs.Rows.{unchecked_of, unchecked_was, count_limits, word_limits, string_limits, rising_tests, written_starts, written_lengths, written_ids, text_rows, write_sized_of, write_checked};
+ghost use Rattle.write_check.specs.Sound.{WriteFits, SoundUnwritten};
+
 use lines::Totals;
 use refusals::Checked;
 
@@ -23,6 +19,7 @@ pub const MOST_ATTRIBUTE_NAMES: u32 = 65535;
 
 // How many attribute names there are, and how many bytes the names of labels, those of attributes and the kept texts have.
 #[repr(C)]
+#[derive(Drop)]
 pub struct Names {
     pub attributes: u32,
     pub label_bytes: u32,
@@ -32,7 +29,7 @@ pub struct Names {
 
 // 2: the first count outside its bound.
 fn check_counts(answer: Checked, totals: Totals, attribute_names: u32) -> Checked
-    ensures { λ r. ⌜ r ≡ firstFrom answer (limitChecks (countLimits «attribute_names» totals)) ⌝ }
+    ensures { result ≡ first_from answer (limit_checks (count_limits attribute_names totals)) }
 {
     let instances = refusals::is_outside(1, training_check::MOST_INSTANCES, totals.instances);
     let words = training_check::MOST_WORDS_IN_ALL < totals.words;
@@ -52,7 +49,7 @@ fn check_word_room(
     ids: &[u32],
     references: &[u32],
 ) -> Checked
-    ensures { λ r. ⌜ r ≡ firstFrom answer (limitChecks (wordLimits totals (length (now (lines .entry))) (length (now (begins .entry))) (length (now (ids .entry))) (length (now (references .entry))))) ⌝ }
+    ensures { result ≡ first_from answer (limit_checks (word_limits totals (length lines.now) (length begins.now) (length ids.now) (length references.now))) }
 {
     let words = totals.words as usize;
     let a = refusals::refuse_if(answer, 12, 0, lines.len() < totals.instances as usize + 1);
@@ -74,8 +71,8 @@ fn check_string_room(
     scale_starts: &[u32],
     scales: &[u8],
 ) -> Checked
-    ensures { λ r. ⌜ r ≡ firstFrom answer (limitChecks (stringLimits labels attributes names
-        (length (now («label_name_starts» .entry))) (length (now («label_names» .entry))) (length (now («attribute_name_starts» .entry))) (length (now («attribute_names» .entry))) (length (now («scale_starts» .entry))) (length (now (scales .entry))))) ⌝ }
+    ensures { result ≡ first_from answer (limit_checks (string_limits labels attributes names
+        (length label_name_starts.now) (length label_names.now) (length attribute_name_starts.now) (length attribute_names.now) (length scale_starts.now) (length scales.now))) }
 {
     let known = names.attributes as usize;
     let bytes = names.attribute_bytes as usize;
@@ -103,7 +100,7 @@ fn written_sizes(
     scale_starts: &[u32],
     scales: &[u8],
 ) -> Checked
-    ensures { λ r. ⌜ r ≡ writeSized (uncheckedWas labels totals names lines begins ids references «label_name_starts» «label_names» «attribute_name_starts» «attribute_names» «scale_starts» scales) ⌝ }
+    ensures { result ≡ write_sized_of (unchecked_was labels totals names lines begins ids references label_name_starts label_names attribute_name_starts attribute_names scale_starts scales) }
 {
     let outside = refusals::is_outside(1, score_tables::MOST_LABELS, labels);
     let one = refusals::refuse_if(Checked::Accepted, 1, 0, outside);
@@ -135,12 +132,12 @@ fn check_rising(
     attribute_name_starts: &[u32],
     scale_starts: &[u32],
 ) -> Checked
-    requires { ⌜ totals .instances < length (now lines) ⌝ }
-    requires { ⌜ totals .words < length (now begins) ⌝ }
-    requires { ⌜ labels < length (now «label_name_starts») ⌝ }
-    requires { ⌜ names .attributes < length (now «attribute_name_starts») ⌝ }
-    requires { ⌜ totals .attributes < length (now «scale_starts») ⌝ }
-    ensures { λ r. ⌜ r ≡ firstFrom answer (checks (risingTests labels totals names (now (lines .entry)) (now (begins .entry)) (now («label_name_starts» .entry)) (now («attribute_name_starts» .entry)) (now («scale_starts» .entry)))) ⌝ }
+    requires instances_in_bounds { totals.instances < length lines.now }
+    requires words_in_bounds { totals.words < length begins.now }
+    requires labels_in_bounds { labels < length label_name_starts.now }
+    requires attributes_in_bounds { names.attributes < length attribute_name_starts.now }
+    requires attributes_in_bounds_2 { totals.attributes < length scale_starts.now }
+    ensures { result ≡ first_from answer (checks (rising_tests labels totals names lines.now begins.now label_name_starts.now attribute_name_starts.now scale_starts.now)) }
 {
     let words = totals.words;
     let attributes = totals.attributes;
@@ -172,10 +169,9 @@ fn check_lists(
     scale_starts: &[u32],
     scales: &[u8],
 ) -> Checked
-    requires { ⌜ WriteFits (uncheckedOf labels totals names (now lines) (now begins) (now ids) (now references) (now «label_name_starts») (now «label_names») (now «attribute_name_starts») (now «attribute_names») (now «scale_starts») (now scales)) ⌝ }
-    ensures { λ r.
-        let g = uncheckedWas labels totals names lines begins ids references «label_name_starts» «label_names» «attribute_name_starts» «attribute_names» «scale_starts» scales in
-        ⌜ r ≡ firstFrom answer (checks (writtenStarts g ++ writtenLengths g ++ writtenIds g)) ⌝ }
+    requires { WriteFits (unchecked_of labels totals names lines.now begins.now ids.now references.now label_name_starts.now label_names.now attribute_name_starts.now attribute_names.now scale_starts.now scales.now) }
+    ensures { let g = unchecked_was labels totals names lines begins ids references label_name_starts label_names attribute_name_starts attribute_names scale_starts scales in
+        result ≡ first_from answer (checks (written_starts g ++ written_lengths g ++ written_ids g)) }
 {
     let three = check_rising(
         answer,
@@ -198,8 +194,8 @@ fn check_lists(
 
 // Whether there is a tab or a line feed among the bytes.
 fn is_unclean(bytes: &[u8], from: usize, to: usize) -> bool
-    requires { ⌜ (from ≤ to) × (to ≤ length (now bytes)) ⌝ }
-    ensures { λ r. ⌜ r ≡ unclean (slice from to (now (bytes .entry))) ⌝ }
+    requires { (from ≤ to) × (to ≤ length bytes.now) }
+    ensures { result ≡ unclean (slice from to bytes.now) }
 {
     let mut i = from;
     while i < to {
@@ -214,8 +210,8 @@ fn is_unclean(bytes: &[u8], from: usize, to: usize) -> bool
 
 // Whether string i is no name.
 fn lacks_name(starts: &[u32], bytes: &[u8], i: usize) -> bool
-    requires { ⌜ StringStands (strings (now starts) (now bytes)) i ⌝ }
-    ensures { λ r. ⌜ r ≡ noName (stringAt (strings (now (starts .entry)) (now (bytes .entry))) i) ⌝ }
+    requires { StringStands (strings starts.now bytes.now) i }
+    ensures { result ≡ no_name (string_at (strings starts.now bytes.now) i) }
 {
     let from = lines::at(starts, i);
     let to = lines::at(starts, i + 1);
@@ -224,8 +220,8 @@ fn lacks_name(starts: &[u32], bytes: &[u8], i: usize) -> bool
 
 // Where the digits begin: behind a minus, if there is one.
 fn digits_from(bytes: &[u8], from: usize, to: usize) -> usize
-    requires { ⌜ (from ≤ to) × (to ≤ length (now bytes)) ⌝ }
-    ensures { λ r. ⌜ Digitwise (now (bytes .entry)) from to r ⌝ }
+    requires { (from ≤ to) × (to ≤ length bytes.now) }
+    ensures { Digitwise bytes.now from to result }
 {
     if from < to {
         if bytes[from] == 45 {
@@ -237,15 +233,15 @@ fn digits_from(bytes: &[u8], from: usize, to: usize) -> usize
 
 // Whether so many points and digits make no scale.
 fn miscounts(points: usize, digits: usize) -> bool
-    ensures { λ r. ⌜ r ≡ (outside 1 15 digits || ltb 1 points) ⌝ }
+    ensures { result ≡ (outside 1 15 digits || ltb 1 points) }
 {
     (digits < 1) | (15 < digits) | (1 < points)
 }
 
 // Whether the bytes are no scale.
 fn is_no_scale(bytes: &[u8], from: usize, to: usize) -> bool
-    requires { ⌜ (from ≤ to) × (to ≤ length (now bytes)) ⌝ }
-    ensures { λ r. ⌜ r ≡ noScale (slice from to (now (bytes .entry))) ⌝ }
+    requires { (from ≤ to) × (to ≤ length bytes.now) }
+    ensures { result ≡ no_scale (slice from to bytes.now) }
 {
     let mut i = digits_from(bytes, from, to);
     let mut points = 0usize;
@@ -268,8 +264,8 @@ fn is_no_scale(bytes: &[u8], from: usize, to: usize) -> bool
 
 // Whether string i is neither empty nor a scale.
 fn lacks_scale(starts: &[u32], bytes: &[u8], i: usize) -> bool
-    requires { ⌜ StringStands (strings (now starts) (now bytes)) i ⌝ }
-    ensures { λ r. ⌜ r ≡ notKept (stringAt (strings (now (starts .entry)) (now (bytes .entry))) i) ⌝ }
+    requires { StringStands (strings starts.now bytes.now) i }
+    ensures { result ≡ not_kept (string_at (strings starts.now bytes.now) i) }
 {
     let from = lines::at(starts, i);
     let to = lines::at(starts, i + 1);
@@ -278,8 +274,8 @@ fn lacks_scale(starts: &[u32], bytes: &[u8], i: usize) -> bool
 
 // 11 of a table of names.
 fn check_names(answer: Checked, starts: &[u32], bytes: &[u8], n: usize) -> Checked
-    requires { ⌜ ((i : ℕ) → i < n → StringStands (strings (now starts) (now bytes)) i) ⌝ }
-    ensures { λ r. ⌜ r ≡ orNext answer (namesChecked (strings (now (starts .entry)) (now (bytes .entry))) n) ⌝ }
+    requires { (i : ℕ) → i < n → StringStands (strings starts.now bytes.now) i }
+    ensures { result ≡ or_next_of answer (names_checked (strings starts.now bytes.now) n) }
 {
     let end = refusals::to_check(answer, n);
     let mut i = 0usize;
@@ -295,8 +291,8 @@ fn check_names(answer: Checked, starts: &[u32], bytes: &[u8], n: usize) -> Check
 
 // 11 of a table of kept texts.
 fn check_scales(answer: Checked, starts: &[u32], bytes: &[u8], n: usize) -> Checked
-    requires { ⌜ ((i : ℕ) → i < n → StringStands (strings (now starts) (now bytes)) i) ⌝ }
-    ensures { λ r. ⌜ r ≡ orNext answer (scalesChecked (strings (now (starts .entry)) (now (bytes .entry))) n) ⌝ }
+    requires { (i : ℕ) → i < n → StringStands (strings starts.now bytes.now) i }
+    ensures { result ≡ or_next_of answer (scales_checked (strings starts.now bytes.now) n) }
 {
     let end = refusals::to_check(answer, n);
     let mut i = 0usize;
@@ -328,8 +324,8 @@ fn check_text(
     scales: &[u8],
     room: usize,
 ) -> Checked
-    requires { ⌜ SoundUnwritten (uncheckedOf labels totals names (now lines) (now begins) (now ids) (now references) (now «label_name_starts») (now «label_names») (now «attribute_name_starts») (now «attribute_names») (now «scale_starts») (now scales)) ⌝ }
-    ensures { λ r. ⌜ r ≡ firstFrom answer (textRows (uncheckedWas labels totals names lines begins ids references «label_name_starts» «label_names» «attribute_name_starts» «attribute_names» «scale_starts» scales) room) ⌝ }
+    requires { SoundUnwritten (unchecked_of labels totals names lines.now begins.now ids.now references.now label_name_starts.now label_names.now attribute_name_starts.now attribute_names.now scale_starts.now scales.now) }
+    ensures { result ≡ first_from answer (text_rows (unchecked_was labels totals names lines begins ids references label_name_starts label_names attribute_name_starts attribute_names scale_starts scales) room) }
 {
     let words = totals.words as usize;
     let attributes = totals.attributes as usize;
@@ -372,7 +368,7 @@ pub fn check_written(
     scales: &[u8],
     room: usize,
 ) -> Checked
-    ensures { λ r. ⌜ r ≡ writeChecked (uncheckedWas labels totals names lines begins ids references «label_name_starts» «label_names» «attribute_name_starts» «attribute_names» «scale_starts» scales) room ⌝ }
+    ensures { result ≡ write_checked (unchecked_was labels totals names lines begins ids references label_name_starts label_names attribute_name_starts attribute_names scale_starts scales) room }
 {
     let sizes = written_sizes(
         labels,

@@ -1,52 +1,52 @@
 -- What the writer answers means what `Meaning` says: the check's rows, and the answer that tells them. Assumes nothing.
-use mathlib.Core.Path.{_≡_, refl, sym, ap, _∙_}
-use mathlib.Core.Bool.{Bool, true, false, not, _&&_}
-use mathlib.Core.List.{List, [], _∷_, _++_}
-use mathlib.Core.Logic.{_↔_, _⊎_, inl, inr, ⊎-elim}
-use Prim.Native.Nat.{ℕ, _<_}
+use mathlib.Core.Path.{◌≡◌, refl, sym, ap, ◌∙◌}
+use mathlib.Core.Bool.{Bool, true, false, not, ◌&&◌}
+use mathlib.Core.List.{List, [], ◌∷◌, ◌++◌}
+use mathlib.Core.Logic.{◌↔◌, ◌⊎◌, inl, inr, ⊎_elim}
+use Prim.Native.Nat.{ℕ, ◌<◌}
 use native.Mathlib.Omega.{arith}
 use borrow.Author.Tests.{eqb-false}
 use lib.Dec.{T, eqb}
 use lib.ListN.{length}
-use Rattle·refusals.specs.declared.Refusal.{Refusal}
-use Rattle·refusals.specs.declared.Checked.{Checked}
-use Rattle·refusals.specs.declared.Checked.the-variants.{Accepted, Refused}
-use Rattle·refusals.specs.Refusals.{refusedIn, numberedIn, first}
-use Rattle·refusals.specs.Meaning.{AllAccepted, FirstRefused}
-use Rattle·refusals.specs.Said.{accepted, orRefused}
-use Rattle·refusals.proofs.Laws.{all-accepted, accepted-all, first-refused, refused-first}
-use Rattle·refusals.proofs.Said.{refused-said, accepted-said}
-use Rattle·score_tables.proofs.Meant.{one-means}
-use Rattle·refusal_rows.specs.Given.{OneOf}
-use Rattle·refusal_rows.proofs.Groups.{Group, single, limited, tested, given-first, given-after, accepted-when, given-only}
-use Rattle·text_tables.specs.Written.{writtenText}
-use Rattle·write_check.specs.Rows.{Unchecked, writtenCounts, writtenRooms, writtenStarts, writtenLengths, writtenIds, textRoom, writtenCarries, readRows, textRows, writeChecked}
-use Rattle·write_text·specs.specs.Promise.{checkedOf, answerTo}
-use Rattle·write_text·specs.specs.Meaning.{ReadFine, Meaning, WritingMeans, AnswersMean}
-use Rattle·write_text·proofs.proofs.Elevens.{elevens}
+use Rattle.refusals.specs.declared.Refusal.{Refusal}
+use Rattle.refusals.specs.declared.Checked.{Checked}
+use Rattle.refusals.specs.declared.Checked.TheVariants.{Accepted, Refused}
+use Rattle.refusals.specs.Refusals.{refused_in_of, numbered_in_of, first}
+use Rattle.refusals.specs.Meaning.{AllAccepted, FirstRefused}
+use Rattle.refusals.specs.Said.{accepted, or_refused}
+use Rattle.refusals.proofs.Laws.{all_accepted, accepted_all, first_refused, refused_first}
+use Rattle.refusals.proofs.Said.{refused_said, accepted_said}
+use Rattle.score_tables.proofs.Meant.{one_means}
+use Rattle.refusal_rows.specs.Given.{OneOf}
+use Rattle.refusal_rows.proofs.Groups.{Group, single, limited, tested, given_first, given_after, accepted_when, given_only}
+use Rattle.text_tables.specs.Written.{written_text}
+use Rattle.write_check.specs.Rows.{Unchecked, written_counts, written_rooms, written_starts, written_lengths, written_ids, text_room, written_carries, read_rows, text_rows, write_checked}
+use Rattle.write_text.specs.Promise.{checked_of, answer_to}
+use Rattle.write_text.specs.Meaning.{ReadFine, Meaning, WritingMeans, AnswersMean}
+use Rattle.write_text.proofs.Elevens.{elevens}
 
 -- ---- checks in two parts: the first refuses, or it accepts and the second does
 module _ (why : Refusal) where
   split : (xs ys : List Checked) → FirstRefused why (xs ++ ys) → FirstRefused why xs ⊎ (AllAccepted xs × FirstRefused why ys)
   split [] ys h = inr (tt, h)
   split (x ∷ xs) ys (inl e) = inl (inl e)
-  split (x ∷ xs) ys (inr p) = ⊎-elim (λ r. inl (inr (p .0, r))) (λ r. inr ((p .0, r .0), r .1)) (split xs ys (p .1))
+  split (x ∷ xs) ys (inr p) = ⊎_elim (λ r. inl (inr (p.0, r))) (λ r. inr ((p.0, r.0), r.1)) (split xs ys p.1)
 
   early : (xs ys : List Checked) → FirstRefused why xs → FirstRefused why (xs ++ ys)
   early [] ys h = absurd h
   early (x ∷ xs) ys (inl e) = inl e
-  early (x ∷ xs) ys (inr p) = inr (p .0, early xs ys (p .1))
+  early (x ∷ xs) ys (inr p) = inr (p.0, early xs ys p.1)
 
   late : (xs ys : List Checked) → AllAccepted xs → FirstRefused why ys → FirstRefused why (xs ++ ys)
   late [] ys a h = h
-  late (x ∷ xs) ys a h = inr (a .0, late xs ys (a .1) h)
+  late (x ∷ xs) ys a h = inr (a.0, late xs ys a.1 h)
 
   halves : (xs ys : List Checked) → first (xs ++ ys) ≡ Refused why ↔ (first xs ≡ Refused why) ⊎ ((first xs ≡ Accepted) × (first ys ≡ Refused why))
   halves xs ys = (
-    λ h. ⊎-elim (λ r. inl (refused-first why xs r)) (λ r. inr (accepted-all xs (r .0), refused-first why ys (r .1))) (split xs ys (first-refused why (xs ++ ys) h)),
+    λ h. ⊎_elim (λ r. inl (refused_first why xs r)) (λ r. inr (accepted_all xs r.0, refused_first why ys r.1)) (split xs ys (first_refused why (xs ++ ys) h)),
     λ s.
-        refused-first why (xs ++ ys)
-        (⊎-elim (λ e. early xs ys (first-refused why xs e)) (λ p. late xs ys (all-accepted Accepted xs (p .0) .1) (first-refused why ys (p .1))) s),
+        refused_first why (xs ++ ys)
+        (⊎_elim (λ e. early xs ys (first_refused why xs e)) (λ p. late xs ys (all_accepted Accepted xs p.0).1 (first_refused why ys p.1)) s),
   )
 
 -- none of these numbers: a test that computes
@@ -54,9 +54,9 @@ abbrev absent : ℕ → List ℕ → Bool
 absent k [] = true
 absent k (n ∷ ns) = not (eqb k n) && absent k ns
 
-none-of : (k : ℕ) (ns : List ℕ) → T (absent k ns) → OneOf ns k → ⊥
-none-of k [] t h = h
-none-of k (n ∷ ns) t h = go (none-of k ns) (eqb k n) refl t h
+none_of : (k : ℕ) (ns : List ℕ) → T (absent k ns) → OneOf ns k → ⊥
+none_of k [] t h = h
+none_of k (n ∷ ns) t h = go (none_of k ns) (eqb k n) refl t h
   where
     go : (T (absent k ns) → OneOf ns k → ⊥) → (b : Bool) → eqb k n ≡ b → T (not b && absent k ns) → OneOf (n ∷ ns) k → ⊥
     go others true q t h = absurd t
@@ -65,28 +65,28 @@ none-of k (n ∷ ns) t h = go (none-of k ns) (eqb k n) refl t h
 
 module _ (g : Unchecked) (have : ℕ) where
   abbrev ones : Group
-  ones = single (one-means (g .labels))
+  ones = single (one_means g.labels)
 
   abbrev twos : Group
-  twos = limited 2 (writtenCounts g) tt
+  twos = limited 2 (written_counts g) tt
 
   abbrev twelves : Group
-  twelves = limited 12 (writtenRooms g) tt
+  twelves = limited 12 (written_rooms g) tt
 
   abbrev threes : Group
-  threes = tested 3 (writtenStarts g) (refl, (refl, (refl, (refl, (refl, tt)))))
+  threes = tested 3 (written_starts g) (refl, (refl, (refl, (refl, (refl, tt)))))
 
   abbrev fours : Group
-  fours = tested 4 (writtenLengths g) (refl, tt)
+  fours = tested 4 (written_lengths g) (refl, tt)
 
   abbrev fives : Group
-  fives = tested 5 (writtenIds g) (refl, (refl, tt))
+  fives = tested 5 (written_ids g) (refl, (refl, tt))
 
   abbrev room : Group
-  room = limited 12 (textRoom g have) tt
+  room = limited 12 (text_room g have) tt
 
   abbrev last : Group
-  last = elevens (writtenCarries g)
+  last = elevens (written_carries g)
 
   abbrev reads : List Group
   reads = ones ∷ twos ∷ twelves ∷ threes ∷ fours ∷ fives ∷ []
@@ -95,55 +95,55 @@ module _ (g : Unchecked) (have : ℕ) where
   all = ones ∷ twos ∷ twelves ∷ threes ∷ fours ∷ fives ∷ room ∷ last ∷ []
 
   -- a number of the tables that are read, of the text alone, and of both
-  of-reads : (k table place : ℕ) {Q : Type 0} → T (absent k (12 ∷ 11 ∷ [])) → first (readRows g) ≡ refusedIn k table place ↔ Q → writeChecked g have ≡ refusedIn k table place ↔ Q
-  unfolding writeChecked
-  of-reads k table place t m =
-      let h = halves (numberedIn k table place) (readRows g) (textRows g have) in (
-        λ e. ⊎-elim (m .0) (λ p. absurd (none-of k (12 ∷ 11 ∷ []) t (given-only (numberedIn k table place) (room ∷ last ∷ []) (p .1)))) (h .0 e),
-        λ q. h .1 (inl (m .1 q)),
+  of_reads : (k table place : ℕ) {Q : Type 0} → T (absent k (12 ∷ 11 ∷ [])) → first (read_rows g) ≡ refused_in_of k table place ↔ Q → write_checked g have ≡ refused_in_of k table place ↔ Q
+  unfolding write_checked
+  of_reads k table place t m =
+      let h = halves (numbered_in_of k table place) (read_rows g) (text_rows g have) in (
+        λ e. ⊎_elim m.0 (λ p. absurd (none_of k (12 ∷ 11 ∷ []) t (given_only (numbered_in_of k table place) (room ∷ last ∷ []) p.1))) (h.0 e),
+        λ q. h.1 (inl (m.1 q)),
       )
 
-  of-text : (k table place : ℕ) {Q : Type 0} → T (absent k (1 ∷ 2 ∷ 12 ∷ 3 ∷ 4 ∷ 5 ∷ [])) → first (textRows g have) ≡ refusedIn k table place ↔ Q → writeChecked g have ≡ refusedIn k table place ↔ ReadFine g × Q
-  unfolding writeChecked
-  of-text k table place t m =
-      let h = halves (numberedIn k table place) (readRows g) (textRows g have) in (
-        λ e. ⊎-elim (λ a. absurd (none-of k (1 ∷ 2 ∷ 12 ∷ 3 ∷ 4 ∷ 5 ∷ []) t (given-only (numberedIn k table place) reads a))) (λ p. (accepted-when reads .0 (p .0), m .0 (p .1))) (h .0 e),
-        λ q. h .1 (inr (accepted-when reads .1 (q .0), m .1 (q .1))),
+  of_text : (k table place : ℕ) {Q : Type 0} → T (absent k (1 ∷ 2 ∷ 12 ∷ 3 ∷ 4 ∷ 5 ∷ [])) → first (text_rows g have) ≡ refused_in_of k table place ↔ Q → write_checked g have ≡ refused_in_of k table place ↔ ReadFine g × Q
+  unfolding write_checked
+  of_text k table place t m =
+      let h = halves (numbered_in_of k table place) (read_rows g) (text_rows g have) in (
+        λ e. ⊎_elim (λ a. absurd (none_of k (1 ∷ 2 ∷ 12 ∷ 3 ∷ 4 ∷ 5 ∷ []) t (given_only (numbered_in_of k table place) reads a))) (λ p. ((accepted_when reads).0 p.0, m.0 p.1)) (h.0 e),
+        λ q. h.1 (inr ((accepted_when reads).1 q.0, m.1 q.1)),
       )
 
-  of-both : (k table place : ℕ) {P Q : Type 0} → first (readRows g) ≡ refusedIn k table place ↔ P → first (textRows g have) ≡ refusedIn k table place ↔ Q → writeChecked g have ≡ refusedIn k table place ↔ P ⊎ (ReadFine g × Q)
-  unfolding writeChecked
-  of-both k table place a b =
-      let h = halves (numberedIn k table place) (readRows g) (textRows g have) in (
-        λ e. ⊎-elim (λ x. inl (a .0 x)) (λ p. inr (accepted-when reads .0 (p .0), b .0 (p .1))) (h .0 e),
-        λ q. h .1 (⊎-elim (λ x. inl (a .1 x)) (λ p. inr (accepted-when reads .1 (p .0), b .1 (p .1))) q),
+  of_both : (k table place : ℕ) {P Q : Type 0} → first (read_rows g) ≡ refused_in_of k table place ↔ P → first (text_rows g have) ≡ refused_in_of k table place ↔ Q → write_checked g have ≡ refused_in_of k table place ↔ P ⊎ (ReadFine g × Q)
+  unfolding write_checked
+  of_both k table place a b =
+      let h = halves (numbered_in_of k table place) (read_rows g) (text_rows g have) in (
+        λ e. ⊎_elim (λ x. inl (a.0 x)) (λ p. inr ((accepted_when reads).0 p.0, b.0 p.1)) (h.0 e),
+        λ q. h.1 (⊎_elim (λ x. inl (a.1 x)) (λ p. inr ((accepted_when reads).1 p.0, b.1 p.1)) q),
       )
 
-  pub meant : Meaning (λ number table place. writeChecked g have ≡ refusedIn number table place) (writeChecked g have ≡ Accepted) g have
-  unfolding writeChecked
+  pub meant : Meaning (λ number table place. write_checked g have ≡ refused_in_of number table place) (write_checked g have ≡ Accepted) g have
+  unfolding write_checked
   meant = record {
-    one = λ t p. of-reads 1 t p tt (given-first t p ones (twos ∷ twelves ∷ threes ∷ fours ∷ fives ∷ []) tt);
-    two = λ t p. of-reads 2 t p tt (given-after t p (ones ∷ []) twos (twelves ∷ threes ∷ fours ∷ fives ∷ []) tt tt);
-    twelve = λ t p. of-both 12 t p (given-after t p (ones ∷ twos ∷ []) twelves (threes ∷ fours ∷ fives ∷ []) tt tt) (given-first t p room (last ∷ []) tt);
-    three = λ t p. of-reads 3 t p tt (given-after t p (ones ∷ twos ∷ twelves ∷ []) threes (fours ∷ fives ∷ []) tt tt);
-    four = λ t p. of-reads 4 t p tt (given-after t p (ones ∷ twos ∷ twelves ∷ threes ∷ []) fours (fives ∷ []) tt tt);
-    five = λ t p. of-reads 5 t p tt (given-after t p (ones ∷ twos ∷ twelves ∷ threes ∷ fours ∷ []) fives [] tt tt);
-    eleven = λ t p. of-text 11 t p tt (given-after t p (room ∷ []) last [] tt tt);
-    only = λ number t p. given-only (numberedIn number t p) all;
+    one = λ t p. of_reads 1 t p tt (given_first t p ones (twos ∷ twelves ∷ threes ∷ fours ∷ fives ∷ []) tt);
+    two = λ t p. of_reads 2 t p tt (given_after t p (ones ∷ []) twos (twelves ∷ threes ∷ fours ∷ fives ∷ []) tt tt);
+    twelve = λ t p. of_both 12 t p (given_after t p (ones ∷ twos ∷ []) twelves (threes ∷ fours ∷ fives ∷ []) tt tt) (given_first t p room (last ∷ []) tt);
+    three = λ t p. of_reads 3 t p tt (given_after t p (ones ∷ twos ∷ twelves ∷ []) threes (fours ∷ fives ∷ []) tt tt);
+    four = λ t p. of_reads 4 t p tt (given_after t p (ones ∷ twos ∷ twelves ∷ threes ∷ []) fours (fives ∷ []) tt tt);
+    five = λ t p. of_reads 5 t p tt (given_after t p (ones ∷ twos ∷ twelves ∷ threes ∷ fours ∷ []) fives [] tt tt);
+    eleven = λ t p. of_text 11 t p tt (given_after t p (room ∷ []) last [] tt tt);
+    only = λ number t p. given_only (numbered_in_of number t p) all;
     accepted = (
       λ h.
-          let a = accepted-when all .0 h in
-          let r = a .1 .1 .1 in
-          ((a .0, (a .1 .0, (a .1 .1 .0, (r .0, (r .1 .0, r .1 .1 .0))))), (r .1 .1 .1 .0, r .1 .1 .1 .1)),
+          let a = (accepted_when all).0 h in
+          let r = a.1.1.1 in
+          ((a.0, (a.1.0, (a.1.1.0, (r.0, (r.1.0, r.1.1.0))))), (r.1.1.1.0, r.1.1.1.1)),
       λ p.
-          let r = p .0 in
-          let s = r .1 .1 .1 in
-          accepted-when all .1 (r .0, (r .1 .0, (r .1 .1 .0, (s .0, (s .1 .0, (s .1 .1, (p .1 .0, p .1 .1))))))),
+          let r = p.0 in
+          let s = r.1.1.1 in
+          (accepted_when all).1 (r.0, (r.1.0, (r.1.1.0, (s.0, (s.1.0, (s.1.1, (p.1.0, p.1.1))))))),
     );
   }
 
-pub writing-means : WritingMeans
-writing-means = meant
+pub writing_means : WritingMeans
+writing_means = meant
 
 -- another way to answer, which tells the same
 pub told :
@@ -153,28 +153,28 @@ pub told :
     Meaning Refuses Accepts g have →
     Meaning Answers Accepted g have
 told w a m = record {
-  one = λ t p. (λ h. m .one t p .0 (w 1 t p .0 h), λ f. w 1 t p .1 (m .one t p .1 f));
-  two = λ t p. (λ h. m .two t p .0 (w 2 t p .0 h), λ f. w 2 t p .1 (m .two t p .1 f));
-  twelve = λ t p. (λ h. m .twelve t p .0 (w 12 t p .0 h), λ f. w 12 t p .1 (m .twelve t p .1 f));
-  three = λ t p. (λ h. m .three t p .0 (w 3 t p .0 h), λ f. w 3 t p .1 (m .three t p .1 f));
-  four = λ t p. (λ h. m .four t p .0 (w 4 t p .0 h), λ f. w 4 t p .1 (m .four t p .1 f));
-  five = λ t p. (λ h. m .five t p .0 (w 5 t p .0 h), λ f. w 5 t p .1 (m .five t p .1 f));
-  eleven = λ t p. (λ h. m .eleven t p .0 (w 11 t p .0 h), λ f. w 11 t p .1 (m .eleven t p .1 f));
-  only = λ number t p h. m .only number t p (w number t p .0 h);
-  accepted = (λ h. m .accepted .0 (a .0 h), λ f. a .1 (m .accepted .1 f));
+  one = λ t p. (λ h. (m.one t p).0 ((w 1 t p).0 h), λ f. (w 1 t p).1 ((m.one t p).1 f));
+  two = λ t p. (λ h. (m.two t p).0 ((w 2 t p).0 h), λ f. (w 2 t p).1 ((m.two t p).1 f));
+  twelve = λ t p. (λ h. (m.twelve t p).0 ((w 12 t p).0 h), λ f. (w 12 t p).1 ((m.twelve t p).1 f));
+  three = λ t p. (λ h. (m.three t p).0 ((w 3 t p).0 h), λ f. (w 3 t p).1 ((m.three t p).1 f));
+  four = λ t p. (λ h. (m.four t p).0 ((w 4 t p).0 h), λ f. (w 4 t p).1 ((m.four t p).1 f));
+  five = λ t p. (λ h. (m.five t p).0 ((w 5 t p).0 h), λ f. (w 5 t p).1 ((m.five t p).1 f));
+  eleven = λ t p. (λ h. (m.eleven t p).0 ((w 11 t p).0 h), λ f. (w 11 t p).1 ((m.eleven t p).1 f));
+  only = λ number t p h. m.only number t p ((w number t p).0 h);
+  accepted = (λ h. m.accepted.0 (a.0 h), λ f. a.1 (m.accepted.1 f));
 }
 
-pub answers-mean : AnswersMean
-unfolding answerTo
-answers-mean given before outcome promised =
-    let length-of : ℕ = length (writtenText (given .tables)) in
-    let checked = checkedOf given before in
+pub answers_mean : AnswersMean
+unfolding answer_to
+answers_mean given before outcome promised =
+    let length_of : ℕ = length (written_text given.tables) in
+    let checked = checked_of given before in
     told
     (λ number table place. (
-      λ h. refused-said length-of checked (numberedIn number table place) .0 (sym (promised .answers) ∙ h),
-      λ h. promised .answers ∙ refused-said length-of checked (numberedIn number table place) .1 h,
+      λ h. (refused_said length_of checked (numbered_in_of number table place)).0 (sym promised.answers ∙ h),
+      λ h. promised.answers ∙ (refused_said length_of checked (numbered_in_of number table place)).1 h,
     )) (
-      λ h. accepted-said length-of (h .0) checked (sym (promised .answers) ∙ h .1),
-      λ h. (length-of, promised .answers ∙ ap (λ (c : Checked). orRefused c (accepted length-of)) h),
+      λ h. accepted_said length_of h.0 checked (sym promised.answers ∙ h.1),
+      λ h. (length_of, promised.answers ∙ ap (λ (c : Checked). or_refused c (accepted length_of)) h),
     )
     (meant given (length before))

@@ -1,14 +1,12 @@
 -- What the writer promises: the answer to what it is given, and what the lent text holds afterwards. Assumes nothing.
-use mathlib.Core.Path.{_≡_}
-use Prim.Native.Nat.{ℕ}
-use lib.ListN.{length}
-use Rattle·refusals.specs.declared.Checked.{Checked}
-use Rattle·refusals.specs.Said.{Said, accepted, refused, orRefused}
-use Rattle·layout.specs.Layout.{Bytes}
-use Rattle·text_tables.specs.Laid.{laid}
-use Rattle·text_tables.specs.Written.{writtenText}
-use Rattle·write_check.specs.Rows.{Unchecked, writeChecked}
-use Rattle·write_text·specs.specs.declared.Written.{Written}
+use Rattle.std.specs.Prelude.{◌≡◌, ℕ, length}
+use Rattle.refusals.specs.declared.Checked.{Checked}
+use Rattle.refusals.specs.Said.{Said, accepted, refused, or_refused}
+use Rattle.layout.specs.Layout.{Bytes}
+use Rattle.text_tables.specs.Laid.{laid}
+use Rattle.text_tables.specs.Written.{written_text}
+use Rattle.write_check.specs.Rows.{Unchecked, write_checked}
+use Rattle.write_text.specs.declared.Written.{Written}
 
 -- the answer, and what the lent text holds afterwards
 pub record Outcome : Type 0 where
@@ -21,24 +19,24 @@ said (Written.Length n) = accepted n
 said (Written.Refused why) = refused why
 
 -- the first row of the writer's refusals that applies, where one does
-abbrev pub checkedOf : Unchecked → Bytes → Checked
-checkedOf given before = writeChecked given (length before)
+abbrev pub checked_of : Unchecked → Bytes → Checked
+checked_of given before = write_checked given (length before)
 
-unfoldable pub answerTo : Unchecked → Bytes → Said ℕ
-answerTo given before = orRefused (checkedOf given before) (accepted (length (writtenText (given .tables))))
+unfoldable pub answer_to : Unchecked → Bytes → Said ℕ
+answer_to given before = or_refused (checked_of given before) (accepted (length (written_text given.tables)))
 
-abbrev pub orUntouched : Checked → Bytes → Bytes → Bytes
-orUntouched Checked.Accepted before after = after
-orUntouched (Checked.Refused why) before after = before
+abbrev pub or_untouched : Checked → Bytes → Bytes → Bytes
+or_untouched Checked.Accepted before after = after
+or_untouched (Checked.Refused why) before after = before
 
 -- "a writer, which uses the kept text": what is written, in front of what the text held; its entry contents where the call is refused
-unfoldable pub textAfter : Unchecked → Bytes → Bytes
-textAfter given before = orUntouched (checkedOf given before) before (laid (writtenText (given .tables)) before)
+unfoldable pub text_after : Unchecked → Bytes → Bytes
+text_after given before = or_untouched (checked_of given before) before (laid (written_text given.tables) before)
 
 -- the promise
 pub record Promised (given : Unchecked) (before : Bytes) (outcome : Outcome) : Type 0 where
-  pub answers : said (outcome .answer) ≡ answerTo given before
-  pub text : outcome .text ≡ textAfter given before
+  pub answers : said outcome.answer ≡ answer_to given before
+  pub text : outcome.text ≡ text_after given before
 
 -- no two different outcomes satisfy one promise; proved in proofs/Unique
 abbrev pub OnlyOne : Type 0

@@ -1,13 +1,14 @@
 // The writer: a training text of tables, which the reader reads back. Everything is checked first; a refusal leaves the text as it was.
-ghost use mathlib.Core.Path.{_≡_};
-ghost use Rattle·write_check.specs.Rows.{uncheckedWas};
-ghost use Rattle·write_text·specs.specs.Promise.{Promised};
+ghost use Rattle.std.specs.Prelude.{◌≡◌};
+ghost use Rattle.write_check.specs.Rows.{unchecked_was};
+ghost use Rattle.write_text.specs.Promise.{Promised};
+
 use lines::Totals;
-use refusals::Checked;
-use refusals::Refusal;
+use refusals::{Checked, Refusal};
 use write_check::Names;
 
 // How many bytes were written, or why none were.
+#[derive(Drop)]
 pub enum Written {
     Length(usize),
     Refused(Refusal),
@@ -30,9 +31,8 @@ pub fn write_text(
     scales: &[u8],
     text: &mut [u8],
 ) -> Written
-    ensures { λ r.
-        let given = uncheckedWas labels totals names lines begins ids references «label_name_starts» «label_names» «attribute_name_starts» «attribute_names» «scale_starts» scales in
-        ⌜ Promised given (now (text .entry)) (record { answer = r; text = now (text .exit) }) ⌝ }
+    ensures { let given = unchecked_was labels totals names lines begins ids references label_name_starts label_names attribute_name_starts attribute_names scale_starts scales in
+        Promised given text.old (record { answer = result; text = text.new }) }
 {
     let checked = write_check::check_written(
         labels,

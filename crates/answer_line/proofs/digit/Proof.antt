@@ -1,30 +1,30 @@
 -- `answer_line::digit` meets its contract. Assumes nothing.
 use native.Mathlib.Omega.{arith}
-use borrow.Author.Needs.{needs}
+use borrow.Author.Rules.{rules}
 use borrow.Author.Tests.{lt-ltb, le-ltb}
-use Rattle·answer_line·specs.specs.Digits.{digit}
-use Rattle·answer_line·proofs.proofs.digit.Statement.{statement}
-use Rattle·answer_line·proofs.proofs.digit.Tie as tie
+use Rattle.answer_line.specs.Digits.{digit}
+use Rattle.answer_line.proofs.digit.Statement.{statement}
+use Rattle.answer_line.proofs.digit.Tie as tie
 
-cast-result : tie.Need-cast-result
-cast-result c = search needs
+cast-result : tie.Need-overflow-cast-result
+cast-result c = search rules
 
-add-result : tie.Need-add-result
-add-result c = search needs
+add-result : tie.Need-overflow-add-result
+add-result c = search rules
 
-cast-result-2 : tie.Need-cast-result-2
-cast-result-2 c = search needs
+cast-result-2 : tie.Need-overflow-cast-result-2
+cast-result-2 c = search rules
 
-add-result-2 : tie.Need-add-result-2
-add-result-2 c = search needs
+add-result-2 : tie.Need-overflow-add-result-2
+add-result-2 c = search rules
 
 returns : tie.Need-returns
 unfolding digit
-returns c = rw (lt-ltb _ _ (c .if1 .taken))
+returns c = rw (lt-ltb _ _ c.if1.true)
 
 returns-2 : tie.Need-returns-2
 unfolding digit
-returns-2 c = rw (le-ltb _ _ (c .if1 .left)) (omega arith)
+returns-2 c = rw (le-ltb _ _ c.if1.false) (omega arith)
 
 pub digit-spec : {M : Type 1} → statement M
 digit-spec =

@@ -1,11 +1,11 @@
 -- `begin_and_end::begin` meets its contract. Assumes nothing.
-use mathlib.Core.Path.{ap, _∙_}
-use borrow.Author.Needs.{needs}
+use mathlib.Core.Path.{ap, ◌∙◌}
+use borrow.Author.Rules.{rules}
 use lib.ListN.{replicate}
-use lib.Ieee.{Float, ofBits}
-use Rattle·fronts.proofs.Filled.{all-of}
-use Rattle·begin_and_end·proofs.proofs.begin.Statement.{statement}
-use Rattle·begin_and_end·proofs.proofs.begin.Tie as tie
+use lib.Ieee.{Float, of_bits}
+use Rattle.fronts.proofs.Filled.{all_of}
+use Rattle.begin_and_end.proofs.begin.Statement.{statement}
+use Rattle.begin_and_end.proofs.begin.Tie as tie
 
 -- the places that facts are taken from, each found from the one after it
 abbrev entry : tie.After-count-up → tie.Start
@@ -17,32 +17,32 @@ ordered c = search
 abbrev weighted : tie.After-first-beside → tie.After-fill
 weighted c = search
 
-cast-count-up : tie.Need-cast-count-up
-cast-count-up c = search needs
+cast-count-up : tie.Need-overflow-cast-count-up
+cast-count-up c = search rules
 
 count-up-requires : tie.Need-count-up-requires
-count-up-requires c κs = search needs
+count-up-requires c κs = search rules
 
 fill-requires : tie.Need-fill-requires
-fill-requires c κs = search needs
+fill-requires c κs = search rules
 
 first-beside-requires : tie.Need-first-beside-requires
-first-beside-requires c κs = search needs
+first-beside-requires c κs = search rules
 
 fill-requires-2 : tie.Need-fill-requires-2
-fill-requires-2 c κs = search needs
+fill-requires-2 c κs = search rules
 
-same-length : tie.Need-same-length
-same-length c = search needs
+same_length : tie.Need-same-length
+same_length c = search rules
 
 same-length-2 : tie.Need-same-length-2
-same-length-2 c = search needs
+same-length-2 c = search rules
 
 same-length-3 : tie.Need-same-length-3
-same-length-3 c = search needs
+same-length-3 c = search rules
 
 returns : tie.Need-returns
-unfolding ofBits
+unfolding of_bits
 returns c =
     let b : tie.After-fill2 = search in
     let v : tie.After-first-beside = search in
@@ -50,9 +50,9 @@ returns c =
     let o = ordered w in
     let s = entry o in
     record {
-      order-is = o .count-up .ensures ∙ all-of _ _ _ (s .pre .1);
-      weights-are = w .fill .ensures ∙ all-of _ _ _ (s .pre .2);
-      beside-is = b .fill2 .ensures ∙ all-of _ _ _ (s .pre .3) ∙ ap (λ (x : Float). replicate (s .args .features) x) (v .first-beside .ensures);
+      order_is = o.count-up.ensures ∙ all_of _ _ _ s.pre.1;
+      weights_are = w.fill.ensures ∙ all_of _ _ _ s.pre.2;
+      beside_is = b.fill2.ensures ∙ all_of _ _ _ s.pre.3 ∙ ap (λ (x : Float). replicate s.args.features x) v.first-beside.ensures;
     }
 
 pub begin-spec : {M : Type 1} → statement M
@@ -64,7 +64,7 @@ begin-spec =
     fill-requires
     first-beside-requires
     fill-requires-2
-    same-length
+    same_length
     same-length-2
     same-length-3
     returns)

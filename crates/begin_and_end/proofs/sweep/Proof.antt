@@ -1,10 +1,10 @@
 -- `begin_and_end::sweep` meets its contract. Assumes nothing.
-use mathlib.Core.Path.{_∙_}
-use borrow.Author.Needs.{needs}
-use lib.Ieee.{ofBits}
-use Rattle·fronts.proofs.Filled.{all-of}
-use Rattle·begin_and_end·proofs.proofs.sweep.Statement.{statement}
-use Rattle·begin_and_end·proofs.proofs.sweep.Tie as tie
+use mathlib.Core.Path.{◌∙◌}
+use borrow.Author.Rules.{rules}
+use lib.Ieee.{of_bits}
+use Rattle.fronts.proofs.Filled.{all_of}
+use Rattle.begin_and_end.proofs.sweep.Statement.{statement}
+use Rattle.begin_and_end.proofs.sweep.Tie as tie
 
 -- the places that facts are taken from, each found from the one after it
 abbrev entry : tie.After-clear → tie.Start
@@ -20,39 +20,39 @@ abbrev counted : tie.After-fill3 → tie.After-fill2
 counted c = search
 
 clear-requires : tie.Need-clear-requires
-clear-requires c κs = search needs
+clear-requires c κs = search rules
 
 fill-requires : tie.Need-fill-requires
-fill-requires c κs = search needs
+fill-requires c κs = search rules
 
 fill-requires-2 : tie.Need-fill-requires-2
-fill-requires-2 c κs = search needs
+fill-requires-2 c κs = search rules
 
 fill-requires-3 : tie.Need-fill-requires-3
-fill-requires-3 c κs = search needs
+fill-requires-3 c κs = search rules
 
-same-length : tie.Need-same-length
-same-length c =
+same_length : tie.Need-same-length
+same_length c =
     let p : tie.After-fill3 = search in
-    ordered (besides (counted p)) .clear .kept .0
+    (ordered (besides (counted p))).clear.auto.0
 
 same-length-2 : tie.Need-same-length-2
 same-length-2 c =
     let p : tie.After-fill3 = search in
-    besides (counted p) .fill .kept .0
+    (besides (counted p)).fill.auto.0
 
 same-length-3 : tie.Need-same-length-3
 same-length-3 c =
     let p : tie.After-fill3 = search in
-    counted p .fill2 .kept .0
+    (counted p).fill2.kept.0
 
 same-length-4 : tie.Need-same-length-4
 same-length-4 c =
     let p : tie.After-fill3 = search in
-    p .fill3 .kept .0
+    p.fill3.kept.0
 
 returns : tie.Need-returns
-unfolding ofBits
+unfolding of_bits
 returns c =
     let p : tie.After-fill3 = search in
     let t = counted p in
@@ -60,10 +60,10 @@ returns c =
     let o = ordered b in
     let s = entry o in
     record {
-      order-is = o .clear .ensures ∙ all-of _ _ _ (s .pre .0);
-      beside-is = b .fill .ensures ∙ all-of _ _ _ (s .pre .1);
-      truly-is = t .fill2 .ensures ∙ all-of _ _ _ (s .pre .2);
-      predicted-is = p .fill3 .ensures ∙ all-of _ _ _ (s .pre .3);
+      order_is = o.clear.ensures ∙ all_of _ _ _ s.pre.0;
+      beside_is = b.fill.ensures ∙ all_of _ _ _ s.pre.1;
+      truly_is = t.fill2.ensures ∙ all_of _ _ _ s.pre.2;
+      predicted_is = p.fill3.ensures ∙ all_of _ _ _ s.pre.3;
     }
 
 pub sweep-spec : {M : Type 1} → statement M
@@ -74,7 +74,7 @@ sweep-spec =
     fill-requires
     fill-requires-2
     fill-requires-3
-    same-length
+    same_length
     same-length-2
     same-length-3
     same-length-4

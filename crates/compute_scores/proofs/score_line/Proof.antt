@@ -1,109 +1,109 @@
 -- `compute_scores::score_line` meets its contract. The loop's invariant: the words before this one are scored. Assumes nothing.
-use Prim.Native.Nat.{_≤_, _<_, _-_, _+_}
-use mathlib.Core.Path.{_≡_, refl}
+use Prim.Native.Nat.{◌≤◌, ◌<◌, ◌-◌, ◌+◌}
+use mathlib.Core.Path.{◌≡◌, refl}
 use native.Mathlib.Omega.{arith}
-use borrow.Author.Needs.{needs}
-use lib.Ieee.{ofBits}
+use borrow.Author.Rules.{rules}
+use lib.Ieee.{of_bits}
 use lib.ListN.{length}
-use Rattle·lines.specs.Passes.{through}
-use Rattle·lines.specs.Scored.{scoredAt, scoredWord}
-use Rattle·lines.proofs.Laws.{through-none, through-next}
-use Rattle·lines.proofs.Fronts.{row-room}
-use Rattle·lines.specs.Lent.{bare, withStates}
-use Rattle·compute_scores·proofs.proofs.StateTurns.{word-turn, line-end}
-use Rattle·compute_scores·proofs.proofs.score_line.Statement.{statement}
-use Rattle·compute_scores·proofs.proofs.score_line.Tie as tie
+use Rattle.lines.specs.Passes.{through}
+use Rattle.lines.specs.Scored.{scored_at, scored_word}
+use Rattle.lines.proofs.Laws.{through_none, through_next}
+use Rattle.lines.proofs.Fronts.{row_room}
+use Rattle.lines.specs.Lent.{bare, with_states}
+use Rattle.compute_scores.proofs.StateTurns.{word_turn, line_end}
+use Rattle.compute_scores.proofs.score_line.Statement.{statement}
+use Rattle.compute_scores.proofs.score_line.Tie as tie
 
-abbrev Inv-loop : tie.InvT-loop
-Inv-loop labels features kinds destinations weights lists starts entries begins ids values first words states₀ word₀ states word =
+abbrev invariant-loop : tie.invariant-loop
+invariant-loop labels features kinds destinations weights lists starts entries begins ids values first words states₀ word₀ states word =
     (word ≤ words)
     × (length states ≡ length states₀)
-    × (states ≡ through (scoredWord (withStates bare labels features kinds destinations lists starts entries) weights (record { starts = begins; size = 0; ids = ids; values = values }) first) 0 word states₀)
+    × (states ≡ through (scored_word (with_states bare labels features kinds destinations lists starts entries) weights (record { starts = begins; size = 0; ids = ids; values = values }) first) 0 word states₀)
 
-abbrev μ-loop : tie.MeasureT-loop
-μ-loop labels features kinds destinations weights lists starts entries begins ids values first words states₀ word₀ states word = words - word
+abbrev decreases-loop : tie.decreases-loop
+decreases-loop labels features kinds destinations weights lists starts entries begins ids values first words states₀ word₀ states word = words - word
 
-abbrev start : tie.At-loop Inv-loop μ-loop → tie.Start Inv-loop μ-loop
+abbrev start : tie.At-loop invariant-loop decreases-loop → tie.Start invariant-loop decreases-loop
 start l = search
 
-mul-fill : tie.Need-mul-fill Inv-loop μ-loop
-mul-fill c = search needs
+mul-fill : tie.Need-overflow-mul-fill invariant-loop decreases-loop
+mul-fill c = search rules
 
-fill-requires : tie.Need-fill-requires Inv-loop μ-loop
-fill-requires c κs = search needs
+fill-requires : tie.Need-fill-requires invariant-loop decreases-loop
+fill-requires c κs = search rules
 
-loop-holds : tie.Need-loop-holds Inv-loop μ-loop
-loop-holds c = (omega arith, refl, through-none _ _ _)
+loop-holds : tie.Need-loop-init invariant-loop decreases-loop
+loop-holds c = (omega arith, refl, through_none _ _ _)
 
-add-at : tie.Need-add-at Inv-loop μ-loop
-add-at c = search needs
+add_at : tie.Need-overflow-add-at invariant-loop decreases-loop
+add_at c = search rules
 
-at-requires : tie.Need-at-requires Inv-loop μ-loop
-at-requires c κs = search needs
+at-requires : tie.Need-at-requires invariant-loop decreases-loop
+at-requires c κs = search rules
 
-add-at-2 : tie.Need-add-at-2 Inv-loop μ-loop
-add-at-2 c = search needs
+add-at-2 : tie.Need-overflow-add-at-2 invariant-loop decreases-loop
+add-at-2 c = search rules
 
-add-at-3 : tie.Need-add-at-3 Inv-loop μ-loop
-add-at-3 c = search needs
+add-at-3 : tie.Need-overflow-add-at-3 invariant-loop decreases-loop
+add-at-3 c = search rules
 
-at-requires-2 : tie.Need-at-requires-2 Inv-loop μ-loop
-at-requires-2 c κs = search needs
+at-requires-2 : tie.Need-at-requires-2 invariant-loop decreases-loop
+at-requires-2 c κs = search rules
 
-score-word-requires : tie.Need-score-word-requires Inv-loop μ-loop
+score-word-requires : tie.Need-score-word-requires invariant-loop decreases-loop
 score-word-requires c κs =
-    let w = c .before in
-    let t = w .before .before in
-    let l = t .before in
+    let w = c.before in
+    let t = w.before.before in
+    let l = t.before in
     let s = start l in
-    let h = t .loop-test .taken in
-    let i : s .args .first + l .loop .word < s .args .first + s .args .words = omega arith in (
-      s .pre .0,
+    let h = t.loop-test.true in
+    let i : s.args.first + l.loop.word < s.args.first + s.args.words = omega arith in (
+      s.pre.0,
       (
-        s .pre .1 .0,
+        s.pre.1.0,
         (
-          omega (arith, w .at2 .ensures, s .pre .1 .1 .0 .within _ i),
-          (omega (arith, w .at2 .ensures, s .pre .1 .1 .0 .valued _ i), row-room _ _ _ _ h (omega (arith, s .pre .1 .1 .1, l .loop .inv, l .before .before .before .fill .kept))),
+          omega (arith, w.at2.ensures, s.pre.1.1.0.within _ i),
+          (omega (arith, w.at2.ensures, s.pre.1.1.0.valued _ i), row_room _ _ _ _ h (omega (arith, s.pre.1.1.1, l.loop.invariant, l.before.before.before.fill.auto))),
         ),
       ),
     )
 
-add-word : tie.Need-add-word Inv-loop μ-loop
-add-word c = search needs
+add-word : tie.Need-overflow-add-word invariant-loop decreases-loop
+add-word c = search rules
 
-loop-less : tie.Need-loop-less Inv-loop μ-loop
-loop-less c = search needs
+loop-less : tie.Need-loop-smaller invariant-loop decreases-loop
+loop-less c = search rules
 
-loop-again : tie.Need-loop-again Inv-loop μ-loop
-unfolding scoredAt
+loop-again : tie.Need-loop-preserved invariant-loop decreases-loop
+unfolding scored_at
 loop-again c =
-    let k = c .before .before in
-    let w = k .before .before in
-    let t = w .before .before in
-    let l = t .before in
-    (omega (arith, t .loop-test .taken), search needs, through-next _ _ _ (l .loop .inv .2) (word-turn _ _ _ _ _ _ _ _ (w .before .at .ensures) (w .at2 .ensures) (k .score-word .ensures)))
+    let k = c.before.before in
+    let w = k.before.before in
+    let t = w.before.before in
+    let l = t.before in
+    (omega (arith, t.loop-test.true), search rules, through_next _ _ _ l.loop.invariant.2 (word_turn _ _ _ _ _ _ _ _ w.before.at.ensures w.at2.ensures k.score-word.ensures))
 
-same-length : tie.Need-same-length Inv-loop μ-loop
-same-length c = search needs
+same_length : tie.Need-same-length invariant-loop decreases-loop
+same_length c = search rules
 
-returns : tie.Need-returns Inv-loop μ-loop
-unfolding ofBits
+returns : tie.Need-returns invariant-loop decreases-loop
+unfolding of_bits
 returns c =
     λ rest size.
-    let l = c .before in
+    let l = c.before in
     let s = start l in
-    line-end _ _ _ _ _ _ _ (s .pre .0) (s .pre .1 .0) (l .loop .inv .0) (c .loop-test .left) (l .before .before .before .fill .ensures) (l .loop .inv .2)
+    line_end _ _ _ _ _ _ _ s.pre.0 s.pre.1.0 l.loop.invariant.0 c.loop-test.false l.before.before.before.fill.ensures l.loop.invariant.2
 
 pub score-line-spec : {M : Type 1} → statement M
 score-line-spec =
     tie.close
     (tie.spec
-    Inv-loop
-    μ-loop
+    invariant-loop
+    decreases-loop
     mul-fill
     fill-requires
     loop-holds
-    add-at
+    add_at
     at-requires
     add-at-2
     add-at-3
@@ -112,5 +112,5 @@ score-line-spec =
     add-word
     loop-less
     loop-again
-    same-length
+    same_length
     returns)

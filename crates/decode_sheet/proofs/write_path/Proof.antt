@@ -1,12 +1,12 @@
 -- `decode_sheet::write_path` meets its contract. Assumes nothing.
-use borrow.Author.Needs.{needs}
-use mathlib.Core.Path.{_≡_, sym}
+use borrow.Author.Rules.{rules}
+use mathlib.Core.Path.{◌≡◌, sym}
 use lib.ListN.{take}
-use Rattle·best_path.specs.Scores.{tabled}
-use Rattle·best_path.specs.Decoded.{decodedPath}
-use Rattle·decode_sheet·proofs.proofs.Line.{path-length, path-read, line-needs, line-written}
-use Rattle·decode_sheet·proofs.proofs.write_path.Statement.{statement}
-use Rattle·decode_sheet·proofs.proofs.write_path.Tie as tie
+use Rattle.best_path.specs.Scores.{tabled}
+use Rattle.best_path.specs.Decoded.{decoded_path}
+use Rattle.decode_sheet.proofs.Line.{path_length, path_read, line_needs, line_written}
+use Rattle.decode_sheet.proofs.write_path.Statement.{statement}
+use Rattle.decode_sheet.proofs.write_path.Tie as tie
 
 -- the places that facts are taken from, each found from the one after it
 abbrev entry : tie.After-decode-tables → tie.Start
@@ -17,37 +17,37 @@ decoded c = search
 
 -- what stands in the first words of the path's buffer
 front : (c : tie.After-decode-tables) →
-    let a = entry c .args in
-    take (a .words) (c .decode-tables .last .1 .1 .1 .1 .0) ≡ decodedPath (tabled (a .labels) (a .transitions .now) (a .states .now)) (a .words)
-front c = path-read (entry c .pre .0) _ (c .decode-tables .ensures .path)
+    let a = (entry c).args in
+    take a.words c.decode-tables.new.1.1.1.1.0 ≡ decoded_path (tabled a.labels a.transitions.now a.states.now) a.words
+front c = path_read (entry c).requires.0 _ c.decode-tables.ensures.path
 
 slice-aggregate-decode-tables : tie.Need-slice-aggregate-decode-tables
-slice-aggregate-decode-tables c = search needs
+slice-aggregate-decode-tables c = search rules
 
 decode-tables-requires : tie.Need-decode-tables-requires
-decode-tables-requires c κs = search needs
+decode-tables-requires c κs = search rules
 
 array-share-prefix-path : tie.Need-array-share-prefix-path
-array-share-prefix-path c = search needs
+array-share-prefix-path c = search rules
 
 slice-aggregate-path-line : tie.Need-slice-aggregate-path-line
 slice-aggregate-path-line c =
     let d : tie.After-decode-tables = search in
-    rw (front d) (sym (path-length (entry d .pre .0)))
+    rw (front d) (sym (path_length (entry d).pre.0))
 
 path-line-requires : tie.Need-path-line-requires
 path-line-requires c κs =
     let d : tie.After-decode-tables = search in
-    line-needs (entry d .pre .0) (front d) (d .decode-tables .ensures .sum) _ (entry d .pre .1)
+    line_needs (entry d).pre.0 (front d) d.decode-tables.ensures.sum _ (entry d).pre.1
 
-same-length : tie.Need-same-length
-same-length c = search needs
+same_length : tie.Need-same-length
+same_length c = search rules
 
 returns : tie.Need-returns
 returns c =
     let p : tie.After-path-line = search in
     let d = decoded p in
-    line-written (entry d .pre .0) (front d) (d .decode-tables .ensures .sum) (p .path-line .ensures)
+    line_written (entry d).pre.0 (front d) d.decode-tables.ensures.sum p.path-line.ensures
 
 pub write-path-spec : {M : Type 1} → statement M
 write-path-spec =
@@ -58,5 +58,5 @@ write-path-spec =
     array-share-prefix-path
     slice-aggregate-path-line
     path-line-requires
-    same-length
+    same_length
     returns)

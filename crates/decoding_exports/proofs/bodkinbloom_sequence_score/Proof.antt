@@ -1,18 +1,18 @@
 -- `decoding_exports::bodkinbloom_sequence_score` meets its contract: what `sequence_score` promises, as numbers. Assumes nothing.
-use mathlib.Core.Path.{ap, _∙_}
-use Rattle·answers.specs.Numbers.{scoredNumbers}
-use borrow.Author.Needs.{needs}
-use Rattle·decoding_exports·proofs.proofs.bodkinbloom_sequence_score.Statement.{statement}
-use Rattle·decoding_exports·proofs.proofs.bodkinbloom_sequence_score.Tie as tie
+use mathlib.Core.Path.{ap, ◌∙◌}
+use Rattle.answers.specs.Numbers.{scored_numbers}
+use borrow.Author.Rules.{rules}
+use Rattle.decoding_exports.proofs.bodkinbloom_sequence_score.Statement.{statement}
+use Rattle.decoding_exports.proofs.bodkinbloom_sequence_score.Tie as tie
 
 sequence-score-requires : tie.Need-sequence-score-requires
-sequence-score-requires c κs = search needs
+sequence-score-requires c κs = search rules
 
 numbers-of-score-requires : tie.Need-numbers-of-score-requires
-numbers-of-score-requires c κs = search needs
+numbers-of-score-requires c κs = search rules
 
 returns : tie.Need-returns
-returns c = record { answers = c .numbers-of-score .ensures ∙ ap scoredNumbers (c .before .sequence-score .ensures .answers) }
+returns c = record { answers = c.numbers-of-score.ensures ∙ ap scored_numbers c.before.sequence-score.ensures.answers }
 
 pub bodkinbloom-sequence-score-spec : {M : Type 1} → statement M
 bodkinbloom-sequence-score-spec =

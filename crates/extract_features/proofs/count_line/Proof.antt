@@ -1,10 +1,10 @@
 -- `extract_features::count_line` meets its contract: both loops in the front of the buffer. Assumes nothing.
 use native.Mathlib.Omega.{arith}
-use borrow.Author.Needs.{needs}
-use lib.Ieee.{ofBits}
-use Rattle·extract_features·proofs.proofs.Turns.{line-end}
-use Rattle·extract_features·proofs.proofs.count_line.Statement.{statement}
-use Rattle·extract_features·proofs.proofs.count_line.Tie as tie
+use borrow.Author.Rules.{rules}
+use lib.Ieee.{of_bits}
+use Rattle.extract_features.proofs.Turns.{line_end}
+use Rattle.extract_features.proofs.count_line.Statement.{statement}
+use Rattle.extract_features.proofs.count_line.Tie as tie
 
 abbrev start : tie.After-fill → tie.Start
 start k = search
@@ -16,35 +16,35 @@ abbrev worded : tie.After-count-transitions → tie.After-count-words
 worded t = search
 
 fill-requires : tie.Need-fill-requires
-fill-requires c κs = search needs
+fill-requires c κs = search rules
 
 count-words-requires : tie.Need-count-words-requires
 count-words-requires c κs =
     let k : tie.After-fill = search in
-    let p = start k .pre in
-    let q = p .1 .1 .1 .1 in
-    (p .0, (p .1 .1 .0, (q .0, (q .1 .0, omega (arith, q .1 .1, k .fill .kept)))))
+    let p = (start k).pre in
+    let q = p.1.1.1.1 in
+    (p.0, (p.1.1.0, (q.0, (q.1.0, omega (arith, q.1.1, k.fill.kept)))))
 
 count-transitions-requires : tie.Need-count-transitions-requires
 count-transitions-requires c κs =
     let w : tie.After-count-words = search in
     let k = cleared w in
-    let p = start k .pre in
-    let q = p .1 .1 .1 .1 in
-    (p .0, (p .1 .0, (p .1 .1 .1 .0, (q .1 .0, omega (arith, q .1 .1, k .fill .kept, w .count-words .kept)))))
+    let p = (start k).pre in
+    let q = p.1.1.1.1 in
+    (p.0, (p.1.0, (p.1.1.1.0, (q.1.0, omega (arith, q.1.1, k.fill.kept, w.count-words.kept)))))
 
-same-length : tie.Need-same-length
-same-length c = search needs
+same_length : tie.Need-same-length
+same_length c = search rules
 
 returns : tie.Need-returns
-unfolding ofBits
+unfolding of_bits
 returns c =
     λ rest size.
     let t : tie.After-count-transitions = search in
     let w = worded t in
     let k = cleared w in
-    let p = start k .pre in
-    line-end _ _ _ _ _ _ (p .1 .1 .0) (p .1 .1 .1 .0) (k .fill .ensures) (w .count-words .ensures) (t .count-transitions .ensures)
+    let p = (start k).pre in
+    line_end _ _ _ _ _ _ p.1.1.0 p.1.1.1.0 k.fill.ensures w.count-words.ensures t.count-transitions.ensures
 
 pub count-line-spec : {M : Type 1} → statement M
 count-line-spec =
@@ -53,5 +53,5 @@ count-line-spec =
     fill-requires
     count-words-requires
     count-transitions-requires
-    same-length
+    same_length
     returns)

@@ -1,26 +1,26 @@
 -- `extract_features::extract_features` keeps its promise. Assumes nothing.
-use mathlib.Core.Path.{_≡_, sym, _∙_}
+use mathlib.Core.Path.{◌≡◌, sym, ◌∙◌}
 use native.Mathlib.Omega.{arith}
-use borrow.Author.Needs.{needs}
-use Rattle·refusals.specs.declared.Checked.the-variants.{Accepted}
-use Rattle·feature_gen.specs.Lent.{modelOf}
-use Rattle·line_check.specs.Sound.{SoundCounting}
-use Rattle·line_check.proofs.Meant.{counting-sound}
-use Rattle·finished.proofs.Laws.{from-first}
-use Rattle·extract_features·specs.specs.Promise.{Given, countingOf, checkedOf}
-use Rattle·extract_features·proofs.proofs.Kept.{refused-kept, made-kept}
-use Rattle·extract_features·proofs.proofs.extract_features.Statement.{statement}
-use Rattle·extract_features·proofs.proofs.extract_features.Tie as tie
+use borrow.Author.Rules.{rules}
+use Rattle.refusals.specs.declared.Checked.TheVariants.{Accepted}
+use Rattle.feature_gen.specs.Lent.{model_of}
+use Rattle.line_check.specs.Sound.{SoundCounting}
+use Rattle.line_check.proofs.Meant.{counting_sound}
+use Rattle.finished.proofs.Laws.{from_first}
+use Rattle.extract_features.specs.Promise.{Given, counting_of, checked_of}
+use Rattle.extract_features.proofs.Kept.{refused_kept, made_kept}
+use Rattle.extract_features.proofs.extract_features.Statement.{statement}
+use Rattle.extract_features.proofs.extract_features.Tie as tie
 
 -- what the call is given, and that it is accepted
 abbrev given : tie.Start → Given
 given s =
-    let a = s .args in
+    let a = s.args in
     record {
-      model = modelOf (a .labels) (a .counts) (a .kinds .now) (a .destinations .now) (a .sources .now) (a .attribute-starts .now) (a .attribute-entries .now) (a .label-starts .now) (a .label-entries .now);
-      words = a .words;
-      line = record { starts = a .begins .now; size = a .attributes; ids = a .ids .now; values = a .values .now };
-      path = a .path .now;
+      model = model_of a.labels a.counts a.kinds.now a.destinations.now a.sources.now a.attribute_starts.now a.attribute_entries.now a.label_starts_lem.now a.label_entries.now;
+      words = a.words;
+      line = record { starts = a.begins.now; size = a.attributes; ids = a.ids.now; values = a.values.now };
+      path = a.path.now;
     }
 
 abbrev start : tie.After-enum-told → tie.Start
@@ -32,55 +32,55 @@ told c = search
 abbrev counted : tie.After-finish-counts → tie.After-count-line
 counted c = search
 
-accepted : (c : tie.After-enum-told) → checkedOf (given (start c)) (start c .args .amounts .now) ≡ Accepted
-accepted c = sym (c .before .before .check-counting .ensures) ∙ c .enum-told .given .1
+accepted : (c : tie.After-enum-told) → checked_of (given (start c)) (start c).args.amounts.now ≡ Accepted
+accepted c = sym c.before.before.check-counting.ensures ∙ c.enum_told.given.1
 
-sound : (c : tie.After-enum-told) → SoundCounting (countingOf (given (start c)) (start c .args .amounts .now))
-sound c = counting-sound (countingOf (given (start c)) (start c .args .amounts .now)) (accepted c)
+sound : (c : tie.After-enum-told) → SoundCounting (counting_of (given (start c)) (start c).args.amounts.now)
+sound c = counting_sound (counting_of (given (start c)) (start c).args.amounts.now) (accepted c)
 
-cast-features : tie.Need-cast-features
-cast-features c = search needs
+cast-features : tie.Need-overflow-cast-features
+cast-features c = search rules
 
 check-counting-requires : tie.Need-check-counting-requires
-check-counting-requires c κs = search needs
+check-counting-requires c κs = search rules
 
 enum-known-checked : tie.Need-enum-known-checked
-enum-known-checked c = search needs
+enum-known-checked c = search rules
 
 refuse-counts-requires : tie.Need-refuse-counts-requires
-refuse-counts-requires c κs = search needs
+refuse-counts-requires c κs = search rules
 
-same-length : tie.Need-same-length
-same-length c = search needs
+same_length : tie.Need-same-length
+same_length c = search rules
 
 returns : tie.Need-returns
 returns c =
     let r : tie.After-refuse-counts = search in
-    let k = r .before .before .before in
-    refused-kept _ _ _ (sym (k .before .before .check-counting .ensures) ∙ k .checked .given .1) (r .refuse-counts .ensures .0) (r .refuse-counts .ensures .1)
+    let k = r.before.before.before in
+    refused_kept _ _ _ (sym k.before.before.check-counting.ensures ∙ k.checked.given.1) r.refuse-counts.ensures.0 r.refuse-counts.ensures.1
 
-enum-told : tie.Need-enum-told
-enum-told c = search needs
+enum_told : tie.Need-enum-told
+enum_told c = search rules
 
-cast-count-line : tie.Need-cast-count-line
-cast-count-line c = search needs
+cast-count-line : tie.Need-overflow-cast-count-line
+cast-count-line c = search rules
 
-cast-count-line-2 : tie.Need-cast-count-line-2
-cast-count-line-2 c = search needs
+cast-count-line-2 : tie.Need-overflow-cast-count-line-2
+cast-count-line-2 c = search rules
 
 count-line-requires : tie.Need-count-line-requires
 count-line-requires c κs =
     let t : tie.After-enum-told = search in
     let s = sound t in
-    (s .model .counts, (s .model .sized .sources, (s .model .attribute-lists, (s .model .label-lists, (from-first _ _ _ _ (s .line .words), (s .fits .path, s .fits .features))))))
+    (s.model.counts, (s.model.sized.sources, (s.model.attribute_lists_lem, (s.model.label_lists_lem, (from_first _ _ _ _ s.line.words, (s.fits.path, s.fits.features))))))
 
 finish-counts-requires : tie.Need-finish-counts-requires
 finish-counts-requires c κs =
     let f : tie.After-count-line = search in
-    omega (arith, f .count-line .kept, sound (told f) .fits .features)
+    omega (arith, f.count-line.kept, (sound (told f)).fits.features)
 
 same-length-2 : tie.Need-same-length-2
-same-length-2 c = search needs
+same-length-2 c = search rules
 
 returns-2 : tie.Need-returns-2
 returns-2 c =
@@ -88,7 +88,7 @@ returns-2 c =
     let f = counted e in
     let t = told f in
     let g = given (start t) in
-    made-kept g (start t .args .amounts .now) (accepted t) (f .count-line .ensures (g .model) (g .line .size)) (e .finish-counts .ensures .0) (e .finish-counts .ensures .1)
+    made_kept g (start t).args.amounts.now (accepted t) (f.count-line.ensures g.model g.line.size) e.finish-counts.ensures.0 e.finish-counts.ensures.1
 
 pub extract-features-spec : {M : Type 1} → statement M
 extract-features-spec =
@@ -98,9 +98,9 @@ extract-features-spec =
     check-counting-requires
     enum-known-checked
     refuse-counts-requires
-    same-length
+    same_length
     returns
-    enum-told
+    enum_told
     cast-count-line
     cast-count-line-2
     count-line-requires

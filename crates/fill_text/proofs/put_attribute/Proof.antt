@@ -1,60 +1,60 @@
 -- `fill_text::put_attribute` meets its contract. Assumes nothing.
 use mathlib.Core.Path.{refl}
 use native.Mathlib.Omega.{arith}
-use Rattle·fill_text·proofs.proofs.WordsOn.{id-few, set-same}
-use borrow.Author.Needs.{needs}
-use Rattle·fill_text·proofs.proofs.put_attribute.Statement.{statement}
-use Rattle·fill_text·proofs.proofs.put_attribute.Tie as tie
+use Rattle.fill_text.proofs.WordsOn.{id_few, set_same}
+use borrow.Author.Rules.{rules}
+use Rattle.fill_text.proofs.put_attribute.Statement.{statement}
+use Rattle.fill_text.proofs.put_attribute.Tie as tie
 
 id-of-requires : tie.Need-id-of-requires
-id-of-requires c κs = search needs
+id-of-requires c κs = search rules
 
-cast-ids : tie.Need-cast-ids
+cast-ids : tie.Need-overflow-cast-ids
 cast-ids c =
     let s : tie.Start = search in
-    omega (arith, id-few _ (s .pre .tabled .knows .listed) (s .pre .few) (c .id-of .ensures))
+    omega (arith, id_few _ s.pre.tabled.knows.listed s.pre.few c.id-of.ensures)
 
-mul-ids : tie.Need-mul-ids
-mul-ids c = search needs
+mul-ids : tie.Need-overflow-mul-ids
+mul-ids c = search rules
 
 slice-write-ids : tie.Need-slice-write-ids
-slice-write-ids c = search needs
+slice-write-ids c = search rules
 
 value-in-requires : tie.Need-value-in-requires
-value-in-requires c κs = search needs
+value-in-requires c κs = search rules
 
-mul-values : tie.Need-mul-values
-mul-values c = search needs
+mul-values : tie.Need-overflow-mul-values
+mul-values c = search rules
 
 slice-write-values : tie.Need-slice-write-values
-slice-write-values c = search needs
+slice-write-values c = search rules
 
-cast-starts : tie.Need-cast-starts
-cast-starts c = search needs
+cast-starts : tie.Need-overflow-cast-starts
+cast-starts c = search rules
 
-mul-starts : tie.Need-mul-starts
-mul-starts c = search needs
+mul-starts : tie.Need-overflow-mul-starts
+mul-starts c = search rules
 
 slice-write-starts : tie.Need-slice-write-starts
-slice-write-starts c = search needs
+slice-write-starts c = search rules
 
-add-keep : tie.Need-add-keep
-add-keep c = search needs
+add-keep : tie.Need-overflow-add-keep
+add-keep c = search rules
 
 keep-requires : tie.Need-keep-requires
-keep-requires c κs = search needs
+keep-requires c κs = search rules
 
-same-length : tie.Need-same-length
-same-length c = search needs
+same_length : tie.Need-same-length
+same_length c = search rules
 
 same-length-2 : tie.Need-same-length-2
-same-length-2 c = search needs
+same-length-2 c = search rules
 
 same-length-3 : tie.Need-same-length-3
-same-length-3 c = search needs
+same-length-3 c = search rules
 
 same-length-4 : tie.Need-same-length-4
-same-length-4 c = search needs
+same-length-4 c = search rules
 
 returns : tie.Need-returns
 returns c =
@@ -63,10 +63,10 @@ returns c =
     let v : tie.After-value-in = search in
     let k : tie.After-keep = search in
     record {
-      ids = λ known f. set-same (s .args .ids .now) (s .args .so-far .attributes) (i .id-of .ensures known f);
-      values = λ p g. set-same (s .args .values .now) (s .args .so-far .attributes) (v .value-in .ensures p g);
+      ids = λ known f. set_same s.args.ids.now s.args.so_far.attributes (i.id-of.ensures known f);
+      values = λ p g. set_same s.args.values.now s.args.so_far.attributes (v.value_in.ensures p g);
       starts = refl;
-      scales = k .keep .ensures;
+      scales = k.keep.ensures;
     }
 
 pub put-attribute-spec : {M : Type 1} → statement M
@@ -85,7 +85,7 @@ put-attribute-spec =
     slice-write-starts
     add-keep
     keep-requires
-    same-length
+    same_length
     same-length-2
     same-length-3
     same-length-4

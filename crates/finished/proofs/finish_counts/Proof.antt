@@ -1,38 +1,38 @@
 -- `finished::finish_counts` meets its contract. Assumes nothing.
-use mathlib.Core.Path.{refl, sym, _∙_}
+use mathlib.Core.Path.{refl, sym, ◌∙◌}
 use native.Mathlib.Omega.{arith}
-use borrow.Author.Needs.{needs}
-use lib.Ieee.{ofBits}
-use Rattle·finished·proofs.proofs.Laws.{placed-first}
-use Rattle·finished·proofs.proofs.finish_counts.Statement.{statement}
-use Rattle·finished·proofs.proofs.finish_counts.Tie as tie
+use borrow.Author.Rules.{rules}
+use lib.Ieee.{of_bits}
+use Rattle.finished.proofs.Laws.{placed_first}
+use Rattle.finished.proofs.finish_counts.Statement.{statement}
+use Rattle.finished.proofs.finish_counts.Tie as tie
 
 check-finished-requires : tie.Need-check-finished-requires
-check-finished-requires c κs = (c .before .before .pre, omega arith)
+check-finished-requires c κs = (c.before.before.requires, omega arith)
 
 enum-known-finished : tie.Need-enum-known-finished
-enum-known-finished c = search needs
+enum-known-finished c = search rules
 
 fill-requires : tie.Need-fill-requires
-fill-requires c κs = search needs
+fill-requires c κs = search rules
 
-same-length : tie.Need-same-length
-same-length c = search needs
+same_length : tie.Need-same-length
+same_length c = search rules
 
 returns : tie.Need-returns
-unfolding ofBits
+unfolding of_bits
 returns c =
-    let f = c .before .before .before .before .before in
-    (sym (f .finished .given .1) ∙ f .before .before .check-finished .ensures ∙ placed-first _, c .before .before .fill .ensures)
+    let f = c.before.before.before.before.before in
+    (sym f.finished.given.1 ∙ f.before.before.check-finished.ensures ∙ placed_first _, c.before.before.fill.ensures)
 
-enum-told : tie.Need-enum-told
-enum-told c = search needs
+enum_told : tie.Need-enum-told
+enum_told c = search rules
 
 same-length-2 : tie.Need-same-length-2
-same-length-2 c = search needs
+same-length-2 c = search rules
 
 returns-2 : tie.Need-returns-2
-returns-2 c = (sym (c .enum-told .given .1) ∙ c .before .before .check-finished .ensures ∙ placed-first _, refl)
+returns-2 c = (sym c.enum_told.given.1 ∙ c.before.before.check-finished.ensures ∙ placed_first _, refl)
 
 pub finish-counts-spec : {M : Type 1} → statement M
 finish-counts-spec =
@@ -41,8 +41,8 @@ finish-counts-spec =
     check-finished-requires
     enum-known-finished
     fill-requires
-    same-length
+    same_length
     returns
-    enum-told
+    enum_told
     same-length-2
     returns-2)

@@ -1,58 +1,58 @@
 -- `fronts::clear` meets its contract: each place passed has 0. Assumes nothing.
-use mathlib.Core.Path.{_≡_, refl, sym, _∙_}
-use Prim.Native.Nat.{_≤_, _-_}
+use mathlib.Core.Path.{◌≡◌, refl, sym, ◌∙◌}
+use Prim.Native.Nat.{◌≤◌, ◌-◌}
 use native.Mathlib.Omega.{arith}
-use borrow.Author.Needs.{needs}
-use lib.ListN.{length, replicate, length-replicate, getD-replicate}
-use Rattle·fronts·proofs.proofs.Filled.{filled, filled-none, filled-next, filled-end}
-use Rattle·fronts·proofs.proofs.clear.Statement.{statement}
-use Rattle·fronts·proofs.proofs.clear.Tie as tie
+use borrow.Author.Rules.{rules}
+use lib.ListN.{length, replicate, length-replicate, get_or-replicate}
+use Rattle.fronts.proofs.Filled.{filled, filled_none, filled_next, filled_end}
+use Rattle.fronts.proofs.clear.Statement.{statement}
+use Rattle.fronts.proofs.clear.Tie as tie
 
-abbrev Inv-loop : tie.InvT-loop
-Inv-loop order₀ n i₀ order i = (i ≤ n) × (length order ≡ length order₀) × (order ≡ filled order₀ (replicate n 0) i)
+abbrev invariant-loop : tie.invariant-loop
+invariant-loop order₀ n i₀ order i = (i ≤ n) × (length order ≡ length order₀) × (order ≡ filled order₀ (replicate n 0) i)
 
-abbrev μ-loop : tie.MeasureT-loop
-μ-loop order₀ n i₀ order i = n - i
+abbrev decreases-loop : tie.decreases-loop
+decreases-loop order₀ n i₀ order i = n - i
 
-loop-holds : tie.Need-loop-holds Inv-loop μ-loop
-loop-holds c = (omega arith, refl, filled-none _ _)
+loop-holds : tie.Need-loop-init invariant-loop decreases-loop
+loop-holds c = (omega arith, refl, filled_none _ _)
 
-mul-order : tie.Need-mul-order Inv-loop μ-loop
-mul-order c = search needs
+mul-order : tie.Need-overflow-mul-order invariant-loop decreases-loop
+mul-order c = search rules
 
-slice-write-order : tie.Need-slice-write-order Inv-loop μ-loop
-slice-write-order c = search needs
+slice-write-order : tie.Need-slice-write-order invariant-loop decreases-loop
+slice-write-order c = search rules
 
-add-i : tie.Need-add-i Inv-loop μ-loop
-add-i c = search needs
+add-i : tie.Need-overflow-add-i invariant-loop decreases-loop
+add-i c = search rules
 
-loop-less : tie.Need-loop-less Inv-loop μ-loop
-loop-less c = search needs
+loop-less : tie.Need-loop-smaller invariant-loop decreases-loop
+loop-less c = search rules
 
-loop-again : tie.Need-loop-again Inv-loop μ-loop
+loop-again : tie.Need-loop-preserved invariant-loop decreases-loop
 loop-again c = (
   omega arith,
-  search needs,
-  filled-next _ _ _ 0 _ (search needs) (rw (length-replicate) (c .loop-test .taken)) (c .before .loop .inv .2) (sym (getD-replicate _ _ _ _ (c .loop-test .taken))),
+  search rules,
+  filled_next _ _ _ 0 _ (search rules) (rw (length-replicate) c.loop-test.true) c.before.loop.invariant.2 (sym (get_or-replicate _ _ _ _ c.loop-test.true)),
 )
 
-same-length : tie.Need-same-length Inv-loop μ-loop
-same-length c = search needs
+same_length : tie.Need-same-length invariant-loop decreases-loop
+same_length c = search rules
 
-returns : tie.Need-returns Inv-loop μ-loop
-returns c = c .before .loop .inv .2 ∙ filled-end _ _ _ _ (length-replicate _ _) (c .before .loop .inv .0) (c .loop-test .left)
+returns : tie.Need-returns invariant-loop decreases-loop
+returns c = c.before.loop.invariant.2 ∙ filled_end _ _ _ _ (length-replicate _ _) c.before.loop.invariant.0 c.loop-test.false
 
-pub clear-spec : {M : Type 1} → statement M
-clear-spec =
+pub clear_spec : {M : Type 1} → statement M
+clear_spec =
     tie.close
     (tie.spec
-    Inv-loop
-    μ-loop
+    invariant-loop
+    decreases-loop
     loop-holds
     mul-order
     slice-write-order
     add-i
     loop-less
     loop-again
-    same-length
+    same_length
     returns)

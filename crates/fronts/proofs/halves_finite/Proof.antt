@@ -1,60 +1,60 @@
 -- `fronts::halves_finite` meets its contract. The flag is the finite test of what was passed of each half. Assumes nothing.
-use mathlib.Core.Bool.{_&&_}
-use mathlib.Core.Path.{_≡_}
-use Prim.Native.Nat.{_≤_, _-_}
+use mathlib.Core.Bool.{◌&&◌}
+use mathlib.Core.Path.{◌≡◌}
+use Prim.Native.Nat.{◌≤◌, ◌-◌}
 use native.Mathlib.Omega.{arith}
-use borrow.Author.Needs.{needs}
+use borrow.Author.Rules.{rules}
 use lib.ListN.{drop}
-use Rattle·fronts·specs.specs.Finite.{allFinite}
-use Rattle·fronts·proofs.proofs.Finite.{finite-none-both, halves-next, halves-end}
-use Rattle·fronts·proofs.proofs.halves_finite.Statement.{statement}
-use Rattle·fronts·proofs.proofs.halves_finite.Tie as tie
+use Rattle.fronts.specs.Finite.{all_finite_of}
+use Rattle.fronts.proofs.Finite.{finite_none_both, halves_next, halves_end}
+use Rattle.fronts.proofs.halves_finite.Statement.{statement}
+use Rattle.fronts.proofs.halves_finite.Tie as tie
 
-abbrev Inv-loop : tie.InvT-loop
-Inv-loop table half all₀ i₀ all i = (i ≤ half) × (all ≡ (allFinite table i && allFinite (drop half table) i))
+abbrev invariant-loop : tie.invariant-loop
+invariant-loop table half all₀ i₀ all i = (i ≤ half) × (all ≡ (all_finite_of table i && all_finite_of (drop half table) i))
 
-abbrev μ-loop : tie.MeasureT-loop
-μ-loop table half all₀ i₀ all i = half - i
+abbrev decreases-loop : tie.decreases-loop
+decreases-loop table half all₀ i₀ all i = half - i
 
-loop-holds : tie.Need-loop-holds Inv-loop μ-loop
-loop-holds c = (omega arith, finite-none-both _ _)
+loop-holds : tie.Need-loop-init invariant-loop decreases-loop
+loop-holds c = (omega arith, finite_none_both _ _)
 
-mul-are-finite : tie.Need-mul-are-finite Inv-loop μ-loop
-mul-are-finite c = search needs
+mul-are-finite : tie.Need-overflow-mul-are-finite invariant-loop decreases-loop
+mul-are-finite c = search rules
 
-shared-slice-read-are-finite : tie.Need-shared-slice-read-are-finite Inv-loop μ-loop
-shared-slice-read-are-finite c = search needs
+shared-slice-read-are-finite : tie.Need-shared-slice-read-are-finite invariant-loop decreases-loop
+shared-slice-read-are-finite c = search rules
 
-add-are-finite : tie.Need-add-are-finite Inv-loop μ-loop
-add-are-finite c = search needs
+add-are-finite : tie.Need-overflow-add-are-finite invariant-loop decreases-loop
+add-are-finite c = search rules
 
-mul-are-finite-2 : tie.Need-mul-are-finite-2 Inv-loop μ-loop
-mul-are-finite-2 c = search needs
+mul-are-finite-2 : tie.Need-overflow-mul-are-finite-2 invariant-loop decreases-loop
+mul-are-finite-2 c = search rules
 
-shared-slice-read-are-finite-2 : tie.Need-shared-slice-read-are-finite-2 Inv-loop μ-loop
-shared-slice-read-are-finite-2 c = search needs
+shared-slice-read-are-finite-2 : tie.Need-shared-slice-read-are-finite-2 invariant-loop decreases-loop
+shared-slice-read-are-finite-2 c = search rules
 
-are-finite-requires : tie.Need-are-finite-requires Inv-loop μ-loop
-are-finite-requires c κs = search needs
+are-finite-requires : tie.Need-are-finite-requires invariant-loop decreases-loop
+are-finite-requires c κs = search rules
 
-add-i : tie.Need-add-i Inv-loop μ-loop
-add-i c = search needs
+add-i : tie.Need-overflow-add-i invariant-loop decreases-loop
+add-i c = search rules
 
-loop-less : tie.Need-loop-less Inv-loop μ-loop
-loop-less c = search needs
+loop-less : tie.Need-loop-smaller invariant-loop decreases-loop
+loop-less c = search rules
 
-loop-again : tie.Need-loop-again Inv-loop μ-loop
-loop-again c = (omega arith, halves-next _ _ _ (c .before .before .before .before .loop .inv .1) (c .are-finite .ensures))
+loop-again : tie.Need-loop-preserved invariant-loop decreases-loop
+loop-again c = (omega arith, halves_next _ _ _ c.before.before.before.before.loop.invariant.1 c.are-finite.ensures)
 
-returns : tie.Need-returns Inv-loop μ-loop
-returns c = let l = c .before .loop in halves-end _ _ _ (l .inv .1) (l .inv .0) (c .loop-test .left)
+returns : tie.Need-returns invariant-loop decreases-loop
+returns c = let l = c.before.loop in halves_end _ _ _ l.invariant.1 l.invariant.0 c.loop-test.false
 
 pub halves-finite-spec : {M : Type 1} → statement M
 halves-finite-spec =
     tie.close
     (tie.spec
-    Inv-loop
-    μ-loop
+    invariant-loop
+    decreases-loop
     loop-holds
     mul-are-finite
     shared-slice-read-are-finite

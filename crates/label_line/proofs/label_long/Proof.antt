@@ -1,11 +1,11 @@
 -- `label_line::label_long` meets its contract: the arrays have room for every line. Assumes nothing.
-use mathlib.Core.Path.{sym, _∙_}
+use mathlib.Core.Path.{sym, ◌∙◌}
 use native.Mathlib.Omega.{arith}
-use borrow.Author.Needs.{needs}
+use borrow.Author.Rules.{rules}
 use lib.Seq.{length-take-le}
-use Rattle·labelling.proofs.Laws.{few-transitions, few-states}
-use Rattle·label_line·proofs.proofs.label_long.Statement.{statement}
-use Rattle·label_line·proofs.proofs.label_long.Tie as tie
+use Rattle.labelling.proofs.Laws.{few_transitions, few_states}
+use Rattle.label_line.proofs.label_long.Statement.{statement}
+use Rattle.label_line.proofs.label_long.Tie as tie
 
 -- where facts are taken from
 abbrev entry : tie.After-entries → tie.Start
@@ -15,54 +15,54 @@ abbrev squared : tie.After-entries2 → tie.After-entries
 squared c = search
 
 entries-requires : tie.Need-entries-requires
-entries-requires c κs = search needs
+entries-requires c κs = search rules
 
 entries-requires-2 : tie.Need-entries-requires-2
-entries-requires-2 c κs = search needs
+entries-requires-2 c κs = search rules
 
 array-borrow-prefix-transitions : tie.Need-array-borrow-prefix-transitions
 array-borrow-prefix-transitions c =
     let r : tie.After-entries2 = search in
     let q = squared r in
     let s = entry q in
-    omega (arith, q .entries .ensures, few-transitions (s .pre .model .sound .labels-in))
+    omega (arith, q.entries.ensures, few_transitions s.pre.model.sound.labels_in)
 
 slice-aggregate-label-in : tie.Need-slice-aggregate-label-in
 slice-aggregate-label-in c =
     let r : tie.After-entries2 = search in
     let q = squared r in
     let s = entry q in
-    sym (length-take-le _ _ (omega (arith, q .entries .ensures, few-transitions (s .pre .model .sound .labels-in))))
+    sym (length-take-le _ _ (omega (arith, q.entries.ensures, few_transitions s.pre.model.sound.labels_in)))
 
 array-borrow-prefix-states : tie.Need-array-borrow-prefix-states
 array-borrow-prefix-states c =
     let r : tie.After-entries2 = search in
     let s = entry (squared r) in
-    omega (arith, r .entries2 .ensures, few-states (s .pre .model .sound .labels-in) (s .pre .line .words-in))
+    omega (arith, r.entries2.ensures, few_states s.pre.model.sound.labels_in s.pre.line.words_in_lem)
 
 slice-aggregate-label-in-2 : tie.Need-slice-aggregate-label-in-2
 slice-aggregate-label-in-2 c =
     let r : tie.After-entries2 = search in
     let s = entry (squared r) in
-    sym (length-take-le _ _ (omega (arith, r .entries2 .ensures, few-states (s .pre .model .sound .labels-in) (s .pre .line .words-in))))
+    sym (length-take-le _ _ (omega (arith, r.entries2.ensures, few_states s.pre.model.sound.labels_in s.pre.line.words_in_lem)))
 
 label-in-requires : tie.Need-label-in-requires
 label-in-requires c κs =
     let r : tie.After-entries2 = search in
     let q = squared r in
     let s = entry q in (
-      s .pre,
+      s.pre,
       (
-        length-take-le _ _ (omega (arith, q .entries .ensures, few-transitions (s .pre .model .sound .labels-in))) ∙ q .entries .ensures,
-        length-take-le _ _ (omega (arith, r .entries2 .ensures, few-states (s .pre .model .sound .labels-in) (s .pre .line .words-in))) ∙ r .entries2 .ensures,
+        length-take-le _ _ (omega (arith, q.entries.ensures, few_transitions s.pre.model.sound.labels_in)) ∙ q.entries.ensures,
+        length-take-le _ _ (omega (arith, r.entries2.ensures, few_states s.pre.model.sound.labels_in s.pre.line.words_in_lem)) ∙ r.entries2.ensures,
       ),
     )
 
-same-length : tie.Need-same-length
-same-length c = search needs
+same_length : tie.Need-same-length
+same_length c = search rules
 
 returns : tie.Need-returns
-returns c = search needs
+returns c = search rules
 
 pub label-long-spec : {M : Type 1} → statement M
 label-long-spec =
@@ -75,5 +75,5 @@ label-long-spec =
     array-borrow-prefix-states
     slice-aggregate-label-in-2
     label-in-requires
-    same-length
+    same_length
     returns)

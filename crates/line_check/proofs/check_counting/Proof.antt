@@ -1,8 +1,8 @@
 -- `line_check::check_counting` meets its contract. Assumes nothing.
-use borrow.Author.Needs.{needs}
-use Rattle·line_check·proofs.proofs.Laws.{counting-answered}
-use Rattle·line_check·proofs.proofs.check_counting.Statement.{statement}
-use Rattle·line_check·proofs.proofs.check_counting.Tie as tie
+use borrow.Author.Rules.{rules}
+use Rattle.line_check.proofs.Laws.{counting_answered}
+use Rattle.line_check.proofs.check_counting.Statement.{statement}
+use Rattle.line_check.proofs.check_counting.Tie as tie
 
 -- the places that facts are taken from, each found from the one after it
 abbrev labelled : tie.After-check-labels → tie.After-sooner
@@ -18,34 +18,34 @@ abbrev bounded : tie.After-check-tables → tie.After-check-bounds
 bounded c = search
 
 check-bounds-requires : tie.Need-check-bounds-requires
-check-bounds-requires c κs = search needs
+check-bounds-requires c κs = search rules
 
 check-tables-requires : tie.Need-check-tables-requires
-check-tables-requires c κs = search needs
+check-tables-requires c κs = search rules
 
 check-line-requires : tie.Need-check-line-requires
-check-line-requires c κs = search needs
+check-line-requires c κs = search rules
 
 sooner-requires : tie.Need-sooner-requires
-sooner-requires c κs = search needs
+sooner-requires c κs = search rules
 
 check-labels-requires : tie.Need-check-labels-requires
-check-labels-requires c κs = search needs
+check-labels-requires c κs = search rules
 
 sooner-requires-2 : tie.Need-sooner-requires-2
-sooner-requires-2 c κs = search needs
+sooner-requires-2 c κs = search rules
 
-cast-n : tie.Need-cast-n
-cast-n c = search needs
+cast-n : tie.Need-overflow-cast-n
+cast-n c = search rules
 
 refuse-if-requires : tie.Need-refuse-if-requires
-refuse-if-requires c κs = search needs
+refuse-if-requires c κs = search rules
 
 sooner-requires-3 : tie.Need-sooner-requires-3
-sooner-requires-3 c κs = search needs
+sooner-requires-3 c κs = search rules
 
 or-next-requires : tie.Need-or-next-requires
-or-next-requires c κs = search needs
+or-next-requires c κs = search rules
 
 returns : tie.Need-returns
 returns c =
@@ -57,7 +57,7 @@ returns c =
     let l = lined t in
     let m = modelled l in
     let b = bounded m in
-    counting-answered _ (b .check-bounds .ensures) (m .check-tables .ensures) (l .check-line .ensures) (t .sooner .ensures) (p .check-labels .ensures) (q .sooner2 .ensures) (z .refuse-if .ensures) (a .sooner3 .ensures) (c .or-next .ensures)
+    counting_answered _ b.check-bounds.ensures m.check-tables.ensures l.check-line.ensures t.sooner.ensures p.check-labels.ensures q.sooner2.ensures z.refuse-if.ensures a.sooner3.ensures c.or-next.ensures
 
 pub check-counting-spec : {M : Type 1} → statement M
 check-counting-spec =

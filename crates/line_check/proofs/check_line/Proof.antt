@@ -1,41 +1,41 @@
 -- `line_check::check_line` meets its contract: where the sizes are accepted, every table has room for its test. Assumes nothing.
-use borrow.Author.Needs.{needs}
-use Rattle·line_check·proofs.proofs.Laws.{line-stopped, line-room, line-answered}
-use Rattle·line_check·proofs.proofs.check_line.Statement.{statement}
-use Rattle·line_check·proofs.proofs.check_line.Tie as tie
+use borrow.Author.Rules.{rules}
+use Rattle.line_check.proofs.Laws.{line_stopped, line_room, line_answered}
+use Rattle.line_check.proofs.check_line.Statement.{statement}
+use Rattle.line_check.proofs.check_line.Tie as tie
 
 check-sizes-requires : tie.Need-check-sizes-requires
-check-sizes-requires c κs = search needs
+check-sizes-requires c κs = search rules
 
 enum-known-sizes : tie.Need-enum-known-sizes
-enum-known-sizes c = search needs
+enum-known-sizes c = search rules
 
 returns : tie.Need-returns
 returns c =
     let z : tie.After-check-sizes = search in
     let k : tie.After-sizes = search in
-    line-stopped _ _ _ _ (z .check-sizes .ensures) (k .sizes .given .1)
+    line_stopped _ _ _ _ z.check-sizes.ensures k.sizes.given.1
 
-enum-told : tie.Need-enum-told
-enum-told c = search needs
+enum_told : tie.Need-enum-told
+enum_told c = search rules
 
 check-starts-requires : tie.Need-check-starts-requires
 check-starts-requires c κs =
     let z : tie.After-check-sizes = search in
     let e : tie.After-enum-told = search in
-    line-room _ _ _ (z .check-sizes .ensures) (e .enum-told .given .1) .starts
+    (line_room _ _ _ z.check-sizes.ensures e.enum_told.given.1).starts
 
 check-numbers-requires : tie.Need-check-numbers-requires
 check-numbers-requires c κs =
     let z : tie.After-check-sizes = search in
     let e : tie.After-enum-told = search in
-    line-room _ _ _ (z .check-sizes .ensures) (e .enum-told .given .1) .values
+    (line_room _ _ _ z.check-sizes.ensures e.enum_told.given.1).values
 
 returns-2 : tie.Need-returns-2
 returns-2 c =
     let z : tie.After-check-sizes = search in
     let t : tie.After-check-starts = search in
-    line-answered _ _ _ (z .check-sizes .ensures) (t .check-starts .ensures) (c .check-numbers .ensures)
+    line_answered _ _ _ z.check-sizes.ensures t.check-starts.ensures c.check-numbers.ensures
 
 pub check-line-spec : {M : Type 1} → statement M
 check-line-spec =
@@ -44,7 +44,7 @@ check-line-spec =
     check-sizes-requires
     enum-known-sizes
     returns
-    enum-told
+    enum_told
     check-starts-requires
     check-numbers-requires
     returns-2)

@@ -1,26 +1,26 @@
 -- `line_check::check_score_room` meets its contract. Assumes nothing.
-use borrow.Author.Needs.{needs}
-use Rattle·line_check·proofs.proofs.check_score_room.Statement.{statement}
-use Rattle·line_check·proofs.proofs.check_score_room.Tie as tie
+use borrow.Author.Rules.{rules}
+use Rattle.line_check.proofs.check_score_room.Statement.{statement}
+use Rattle.line_check.proofs.check_score_room.Tie as tie
 
 entries-requires : tie.Need-entries-requires
-entries-requires c κs = search needs
+entries-requires c κs = search rules
 
 refuse-if-requires : tie.Need-refuse-if-requires
-refuse-if-requires c κs = search needs
+refuse-if-requires c κs = search rules
 
 entries-requires-2 : tie.Need-entries-requires-2
-entries-requires-2 c κs = search needs
+entries-requires-2 c κs = search rules
 
 refuse-if-requires-2 : tie.Need-refuse-if-requires-2
-refuse-if-requires-2 c κs = search needs
+refuse-if-requires-2 c κs = search rules
 
 returns : tie.Need-returns
 returns c =
     let k : tie.After-entries2 = search in
     let t : tie.After-refuse-if = search in
     let e : tie.After-entries = search in
-    rw (c .refuse-if2 .ensures, k .entries2 .ensures, t .refuse-if .ensures, e .entries .ensures)
+    rw (c.refuse-if2.ensures, k.entries2.ensures, t.refuse-if.ensures, e.entries.ensures)
 
 pub check-score-room-spec : {M : Type 1} → statement M
 check-score-room-spec = tie.close (tie.spec entries-requires refuse-if-requires entries-requires-2 refuse-if-requires-2 returns)

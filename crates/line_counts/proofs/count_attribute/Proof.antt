@@ -1,85 +1,85 @@
 -- `line_counts::count_attribute` meets its contract. The loop's invariant: once the notes are added, the entries before this one have counted. Assumes nothing.
-use Prim.Native.Nat.{_-_}
+use Prim.Native.Nat.{◌-◌}
 use mathlib.Core.Path.{refl}
 use mathlib.Core.List.{[]}
 use native.Mathlib.Omega.{arith}
-use borrow.Author.Needs.{needs}
-use Rattle·lines.specs.Counted.{stateCount}
-use Rattle·lines.specs.Lent.{bare, withCounts}
-use Rattle·lines.proofs.Laws.{Passed, passed-none, passed-next, passed-end}
-use Rattle·line_counts·specs.specs.Noted.{notesAdded}
-use Rattle·line_counts·proofs.proofs.Notes.{Going}
-use Rattle·line_counts·proofs.proofs.count_attribute.Statement.{statement}
-use Rattle·line_counts·proofs.proofs.count_attribute.Tie as tie
+use borrow.Author.Rules.{rules}
+use Rattle.lines.specs.Counted.{state_count}
+use Rattle.lines.specs.Lent.{bare, with_counts}
+use Rattle.lines.proofs.Laws.{Passed, passed_none, passed_next, passed_end}
+use Rattle.line_counts.specs.Noted.{notes_added}
+use Rattle.line_counts.proofs.Notes.{Going}
+use Rattle.line_counts.proofs.count_attribute.Statement.{statement}
+use Rattle.line_counts.proofs.count_attribute.Tie as tie
 
-abbrev Inv-loop : tie.InvT-loop
-Inv-loop features kinds destinations entries label noted who₀ what₀ counts₀ value last n₀ e₀ who what counts n e =
+abbrev invariant-loop : tie.invariant-loop
+invariant-loop features kinds destinations entries label noted who₀ what₀ counts₀ value last n₀ e₀ who what counts n e =
     Going features who₀ what₀ counts₀ who what counts n
-    × Passed (stateCount (withCounts bare features kinds destinations [] 0 [] entries 0 [] []) label value) e₀ last (notesAdded kinds who₀ what₀ n₀ counts₀) (notesAdded kinds who what n counts) e
+    × Passed (state_count (with_counts bare features kinds destinations [] 0 [] entries 0 [] []) label value) e₀ last (notes_added kinds who₀ what₀ n₀ counts₀) (notes_added kinds who what n counts) e
 
-abbrev μ-loop : tie.MeasureT-loop
-μ-loop features kinds destinations entries label noted who₀ what₀ counts₀ value last n₀ e₀ who what counts n e = last - e
+abbrev decreases-loop : tie.decreases-loop
+decreases-loop features kinds destinations entries label noted who₀ what₀ counts₀ value last n₀ e₀ who what counts n e = last - e
 
-abbrev start : tie.At-loop Inv-loop μ-loop → tie.Start Inv-loop μ-loop
+abbrev start : tie.At-loop invariant-loop decreases-loop → tie.Start invariant-loop decreases-loop
 start l = search
 
-loop-holds : tie.Need-loop-holds Inv-loop μ-loop
+loop-holds : tie.Need-loop-init invariant-loop decreases-loop
 loop-holds c =
-    let s : tie.Start Inv-loop μ-loop = search in
-    let p = s .pre .1 .1 in
-    (record { notes = p .0; free = p .1 .0; who-long = refl; what-long = refl; counts-long = refl }, passed-none _ _ _)
+    let s : tie.Start invariant-loop decreases-loop = search in
+    let p = s.pre.1.1 in
+    (record { notes = p.0; free = p.1.0; who_long = refl; what_long = refl; counts_long = refl }, passed_none _ _ _)
 
-count-entry-requires : tie.Need-count-entry-requires Inv-loop μ-loop
+count-entry-requires : tie.Need-count-entry-requires invariant-loop decreases-loop
 count-entry-requires c κs =
-    let t : tie.In-loop Inv-loop μ-loop = search in
-    let l = t .before in
+    let t : tie.In-loop invariant-loop decreases-loop = search in
+    let l = t.before in
     let s = start l in
-    let g = l .loop .inv .0 in
-    let h = t .loop-test .taken in
-    (s .pre .0, (omega (arith, h, s .pre .1 .0 .within), (s .pre .1 .0 .ids _ h, (g .notes, (g .free, omega (arith, s .pre .1 .1 .1 .1, g .counts-long))))))
+    let g = l.loop.inv.0 in
+    let h = t.loop-test.taken in
+    (s.pre.0, (omega (arith, h, s.pre.1.0.within), (s.pre.1.0.ids _ h, (g.notes, (g.free, omega (arith, s.pre.1.1.1.1, g.counts_long))))))
 
-add-e : tie.Need-add-e Inv-loop μ-loop
-add-e c = search needs
+add-e : tie.Need-overflow-add-e invariant-loop decreases-loop
+add-e c = search rules
 
-loop-less : tie.Need-loop-less Inv-loop μ-loop
-loop-less c = search needs
+loop-less : tie.Need-loop-smaller invariant-loop decreases-loop
+loop-less c = search rules
 
-loop-again : tie.Need-loop-again Inv-loop μ-loop
+loop-again : tie.Need-loop-preserved invariant-loop decreases-loop
 loop-again c =
-    let k : tie.After-count-entry Inv-loop μ-loop = search in
-    let t : tie.In-loop Inv-loop μ-loop = search in
-    let i = t .before .loop .inv in
-    let q = k .count-entry .ensures in (
-      record { notes = q .0; free = q .1 .0; who-long = omega (arith, k .count-entry .kept, i .0 .who-long); what-long = omega (arith, k .count-entry .kept, i .0 .what-long); counts-long = omega (arith, k .count-entry .kept, i .0 .counts-long) },
-      passed-next (i .1) (t .loop-test .taken) (q .1 .1),
+    let k : tie.After-count-entry invariant-loop decreases-loop = search in
+    let t : tie.In-loop invariant-loop decreases-loop = search in
+    let i = t.before.loop.inv in
+    let q = k.count-entry.ensures in (
+      record { notes = q.0; free = q.1.0; who_long = omega (arith, k.count-entry.kept, i.0.who_long); what_long = omega (arith, k.count-entry.kept, i.0.what_long); counts_long = omega (arith, k.count-entry.kept, i.0.counts_long) },
+      passed_next i.1 t.loop-test.taken q.1.1,
     )
 
-same-length : tie.Need-same-length Inv-loop μ-loop
-same-length c = search needs
+same_length : tie.Need-same-length invariant-loop decreases-loop
+same_length c = search rules
 
-same-length-2 : tie.Need-same-length-2 Inv-loop μ-loop
-same-length-2 c = search needs
+same-length-2 : tie.Need-same-length-2 invariant-loop decreases-loop
+same-length-2 c = search rules
 
-same-length-3 : tie.Need-same-length-3 Inv-loop μ-loop
-same-length-3 c = search needs
+same-length-3 : tie.Need-same-length-3 invariant-loop decreases-loop
+same-length-3 c = search rules
 
-returns : tie.Need-returns Inv-loop μ-loop
+returns : tie.Need-returns invariant-loop decreases-loop
 returns c =
-    let g = c .before .loop .inv .0 in
-    (g .notes, (g .free, passed-end (c .before .loop .inv .1) (c .loop-test .left)))
+    let g = c.before.loop.invariant.0 in
+    (g.notes, (g.free, passed_end c.before.loop.invariant.1 c.loop-test.false))
 
 pub count-attribute-spec : {M : Type 1} → statement M
 count-attribute-spec =
     tie.close
     (tie.spec
-    Inv-loop
-    μ-loop
+    invariant-loop
+    decreases-loop
     loop-holds
     count-entry-requires
     add-e
     loop-less
     loop-again
-    same-length
+    same_length
     same-length-2
     same-length-3
     returns)

@@ -1,26 +1,26 @@
 -- `lines::list_span` meets its contract. Assumes nothing.
 use borrow.Author.Tests.{lt-ltb, le-ltb}
-use borrow.Author.Needs.{needs}
-use Rattle·lines·specs.specs.Spans.{spanOf}
-use Rattle·lines·proofs.proofs.list_span.Statement.{statement}
-use Rattle·lines·proofs.proofs.list_span.Tie as tie
+use borrow.Author.Rules.{rules}
+use Rattle.lines.specs.Spans.{span_of}
+use Rattle.lines.proofs.list_span.Statement.{statement}
+use Rattle.lines.proofs.list_span.Tie as tie
 
 at-requires : tie.Need-at-requires
-at-requires c κs = search needs
+at-requires c κs = search rules
 
-add-at : tie.Need-add-at
-add-at c = search needs
+add_at : tie.Need-overflow-add-at
+add_at c = search rules
 
 at-requires-2 : tie.Need-at-requires-2
-at-requires-2 c κs = search needs
+at-requires-2 c κs = search rules
 
 returns : tie.Need-returns
-unfolding spanOf
-returns c = rw (lt-ltb _ _ (c .before .before .if1 .taken), c .before .at .ensures, c .at2 .ensures)
+unfolding span_of
+returns c = rw (lt-ltb _ _ c.before.before.if1.true, c.before.at.ensures, c.at2.ensures)
 
 returns-2 : tie.Need-returns-2
-unfolding spanOf
-returns-2 c = rw (le-ltb _ _ (c .if1 .left))
+unfolding span_of
+returns-2 c = rw (le-ltb _ _ c.if1.false)
 
 pub list-span-spec : {M : Type 1} → statement M
-list-span-spec = tie.close (tie.spec at-requires add-at at-requires-2 returns returns-2)
+list-span-spec = tie.close (tie.spec at-requires add_at at-requires-2 returns returns-2)

@@ -1,24 +1,24 @@
 -- `parameters::check_passive` meets its contract. Assumes nothing.
-use borrow.Author.Needs.{needs}
-use Rattle·parameters·proofs.proofs.check_passive.Statement.{statement}
-use Rattle·parameters·proofs.proofs.check_passive.Tie as tie
+use borrow.Author.Rules.{rules}
+use Rattle.parameters.proofs.check_passive.Statement.{statement}
+use Rattle.parameters.proofs.check_passive.Tie as tie
 
 check-shared-requires : tie.Need-check-shared-requires
-check-shared-requires c κs = search needs
+check-shared-requires c κs = search rules
 
 is-not-above-zero-requires : tie.Need-is-not-above-zero-requires
-is-not-above-zero-requires c κs = search needs
+is-not-above-zero-requires c κs = search rules
 
 refuse-if-requires : tie.Need-refuse-if-requires
-refuse-if-requires c κs = search needs
+refuse-if-requires c κs = search rules
 
 refuse-if-requires-2 : tie.Need-refuse-if-requires-2
-refuse-if-requires-2 c κs = search needs
+refuse-if-requires-2 c κs = search rules
 
 returns : tie.Need-returns
 returns c =
-    let v = c .before .before in
-    rw (c .refuse-if2 .ensures, v .refuse-if .ensures, v .before .is-not-above-zero .ensures, v .before .before .check-shared .ensures)
+    let v = c.before.before in
+    rw (c.refuse-if2.ensures, v.refuse-if.ensures, v.before.is-not-above-zero.ensures, v.before.before.check-shared.ensures)
 
 pub check-passive-spec : {M : Type 1} → statement M
 check-passive-spec =

@@ -1,32 +1,32 @@
 -- `passive_aggressive::note` meets its contract. Assumes nothing.
 use mathlib.Core.Path.{refl}
-use borrow.Author.Needs.{needs}
-use Rattle·passive_aggressive·proofs.proofs.note.Statement.{statement}
-use Rattle·passive_aggressive·proofs.proofs.note.Tie as tie
+use borrow.Author.Rules.{rules}
+use Rattle.passive_aggressive.proofs.note.Statement.{statement}
+use Rattle.passive_aggressive.proofs.note.Tie as tie
 
-mul-who : tie.Need-mul-who
-mul-who c = search needs
+mul-who : tie.Need-overflow-mul-who
+mul-who c = search rules
 
 slice-write-who : tie.Need-slice-write-who
-slice-write-who c = search needs
+slice-write-who c = search rules
 
 differ-requires : tie.Need-differ-requires
-differ-requires c κs = search needs
+differ-requires c κs = search rules
 
-add-result : tie.Need-add-result
-add-result c = search needs
+add-result : tie.Need-overflow-add-result
+add-result c = search rules
 
-same-length : tie.Need-same-length
-same-length c = search needs
+same_length : tie.Need-same-length
+same_length c = search rules
 
 returns : tie.Need-returns
-returns c = (refl, rw (← c .before .differ .ensures, c .if1 .taken))
+returns c = (refl, rw (← c.before.differ.ensures, c.if1.true))
 
 same-length-2 : tie.Need-same-length-2
-same-length-2 c = search needs
+same-length-2 c = search rules
 
 returns-2 : tie.Need-returns-2
-returns-2 c = (refl, rw (← c .before .differ .ensures, c .if1 .left))
+returns-2 c = (refl, rw (← c.before.differ.ensures, c.if1.false))
 
 pub note-spec : {M : Type 1} → statement M
 note-spec =
@@ -36,7 +36,7 @@ note-spec =
     slice-write-who
     differ-requires
     add-result
-    same-length
+    same_length
     returns
     same-length-2
     returns-2)

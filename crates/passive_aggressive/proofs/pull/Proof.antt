@@ -1,129 +1,129 @@
 -- `passive_aggressive::pull` meets its contract: the loop is a pass of `pulled`, and the flag the finite test of what it left. Assumes nothing.
 use mathlib.Core.List.{List}
-use mathlib.Core.Logic.{⊎-elim}
-use mathlib.Core.Path.{_≡_, refl, sym, ap, _∙_}
-use Prim.Native.Nat.{_≤_, _-_}
-use native.Mathlib.Nat.{le-refl}
+use mathlib.Core.Logic.{⊎_elim}
+use mathlib.Core.Path.{◌≡◌, refl, sym, ap, ◌∙◌}
+use Prim.Native.Nat.{◌≤◌, ◌-◌}
+use native.Mathlib.Nat.{le_refl}
 use native.Mathlib.Omega.{arith}
-use borrow.Author.Needs.{needs}
+use borrow.Author.Rules.{rules}
 use lib.ListN.{length, length-set}
 use lib.Ieee.{Float}
-use Rattle·lines.specs.Passes.{raised}
-use Rattle·fronts.specs.Finite.{allFinite}
-use Rattle·training.specs.Rules.{pulled}
-use Rattle·training_tables.specs.Tables.{Moved}
-use Rattle·fronts.proofs.Finite.{finite-stored, finite-read, finite-kept}
-use Rattle·training_tables.proofs.Moves.{moved-none, moved-next, moved-end}
-use Rattle·passive_aggressive·proofs.proofs.pull.Statement.{statement}
-use Rattle·passive_aggressive·proofs.proofs.pull.Tie as tie
+use Rattle.lines.specs.Passes.{raised}
+use Rattle.fronts.specs.Finite.{all_finite_of}
+use Rattle.training.specs.Rules.{pulled}
+use Rattle.training_tables.specs.Tables.{Moved}
+use Rattle.fronts.proofs.Finite.{finite_stored, finite_read, finite_kept}
+use Rattle.training_tables.proofs.Moves.{moved_none, moved_next, moved_end}
+use Rattle.passive_aggressive.proofs.pull.Statement.{statement}
+use Rattle.passive_aggressive.proofs.pull.Tie as tie
 
-abbrev Inv-loop : tie.InvT-loop
-Inv-loop features averaging tau counter truly predicted weights₀ sums₀ all₀ i₀ weights sums all i =
+abbrev invariant-loop : tie.invariant-loop
+invariant-loop features averaging tau counter truly predicted weights₀ sums₀ all₀ i₀ weights sums all i =
     (i ≤ features)
     × (length weights ≡ length weights₀)
     × (length sums ≡ length sums₀)
     × Moved i (pulled truly predicted averaging tau counter) (record { weights = weights₀; beside = sums₀ }) (record { weights = weights; beside = sums }) all
 
-abbrev μ-loop : tie.MeasureT-loop
-μ-loop features averaging tau counter truly predicted weights₀ sums₀ all₀ i₀ weights sums all i = features - i
+abbrev decreases-loop : tie.decreases-loop
+decreases-loop features averaging tau counter truly predicted weights₀ sums₀ all₀ i₀ weights sums all i = features - i
 
 -- what the branch on averaging left of the running sums: as long, and the same in front of i
-module _ (c : tie.Joined1 Inv-loop μ-loop) where
-  as-long : length (c .if1 .sums) ≡ length (c .before .before .before .before .before .loop .sums)
-  as-long = ⊎-elim (λ w. ap length (w .2) ∙ simp length-set) (λ w. ap length (w .1)) (c .if1 .came)
+module _ (c : tie.Joined1 invariant-loop decreases-loop) where
+  as_long : length c.if1.sums ≡ length c.before.before.before.before.before.loop.sums
+  as_long = ⊎_elim (λ w. ap length w.2 ∙ simp length-set) (λ w. ap length w.1) c.if1.branch
 
-  same-front : (let l = c .before .before .before .before .before .loop in allFinite (c .if1 .sums) (l .i) ≡ allFinite (l .sums) (l .i))
-  same-front =
-      let i = c .before .before .before .before .before .loop .i in
-      ⊎-elim
-      (λ w. ap (λ (s : List Float). allFinite s i) (w .2) ∙ finite-kept _ _ _ _ (le-refl i))
-      (λ w. ap (λ (s : List Float). allFinite s i) (w .1))
-      (c .if1 .came)
+  same_front : (let l = c.before.before.before.before.before.loop in all_finite_of c.if1.sums l.i ≡ all_finite_of l.sums l.i)
+  same_front =
+      let i = c.before.before.before.before.before.loop.i in
+      ⊎_elim
+      (λ w. ap (λ (s : List Float). all_finite_of s i) w.2 ∙ finite_kept _ _ _ _ (le_refl i))
+      (λ w. ap (λ (s : List Float). all_finite_of s i) w.1)
+      c.if1.branch
 
-loop-holds : tie.Need-loop-holds Inv-loop μ-loop
-loop-holds c = (omega arith, refl, refl, moved-none _ _)
+loop-holds : tie.Need-loop-init invariant-loop decreases-loop
+loop-holds c = (omega arith, refl, refl, moved_none _ _)
 
-mul-delta : tie.Need-mul-delta Inv-loop μ-loop
-mul-delta c = search needs
+mul-delta : tie.Need-overflow-mul-delta invariant-loop decreases-loop
+mul-delta c = search rules
 
-shared-slice-read-delta : tie.Need-shared-slice-read-delta Inv-loop μ-loop
-shared-slice-read-delta c = search needs
+shared-slice-read-delta : tie.Need-shared-slice-read-delta invariant-loop decreases-loop
+shared-slice-read-delta c = search rules
 
-mul-delta-2 : tie.Need-mul-delta-2 Inv-loop μ-loop
-mul-delta-2 c = search needs
+mul-delta-2 : tie.Need-overflow-mul-delta-2 invariant-loop decreases-loop
+mul-delta-2 c = search rules
 
-shared-slice-read-delta-2 : tie.Need-shared-slice-read-delta-2 Inv-loop μ-loop
-shared-slice-read-delta-2 c = search needs
+shared-slice-read-delta-2 : tie.Need-shared-slice-read-delta-2 invariant-loop decreases-loop
+shared-slice-read-delta-2 c = search rules
 
-mul-w : tie.Need-mul-w Inv-loop μ-loop
-mul-w c = search needs
+mul-w : tie.Need-overflow-mul-w invariant-loop decreases-loop
+mul-w c = search rules
 
-slice-read-w : tie.Need-slice-read-w Inv-loop μ-loop
-slice-read-w c = search needs
+slice-read-w : tie.Need-slice-read-w invariant-loop decreases-loop
+slice-read-w c = search rules
 
-mul-weights : tie.Need-mul-weights Inv-loop μ-loop
-mul-weights c = search needs
+mul-weights : tie.Need-overflow-mul-weights invariant-loop decreases-loop
+mul-weights c = search rules
 
-slice-write-weights : tie.Need-slice-write-weights Inv-loop μ-loop
-slice-write-weights c = search needs
+slice-write-weights : tie.Need-slice-write-weights invariant-loop decreases-loop
+slice-write-weights c = search rules
 
-mul-sums : tie.Need-mul-sums Inv-loop μ-loop
-mul-sums c = search needs
+mul-sums : tie.Need-overflow-mul-sums invariant-loop decreases-loop
+mul-sums c = search rules
 
-slice-read-sums : tie.Need-slice-read-sums Inv-loop μ-loop
-slice-read-sums c = search needs
+slice-read-sums : tie.Need-slice-read-sums invariant-loop decreases-loop
+slice-read-sums c = search rules
 
-mul-sums-2 : tie.Need-mul-sums-2 Inv-loop μ-loop
-mul-sums-2 c = search needs
+mul-sums-2 : tie.Need-overflow-mul-sums-2 invariant-loop decreases-loop
+mul-sums-2 c = search rules
 
-slice-write-sums : tie.Need-slice-write-sums Inv-loop μ-loop
-slice-write-sums c = search needs
+slice-write-sums : tie.Need-slice-write-sums invariant-loop decreases-loop
+slice-write-sums c = search rules
 
-mul-are-finite : tie.Need-mul-are-finite Inv-loop μ-loop
-mul-are-finite c = search needs
+mul-are-finite : tie.Need-overflow-mul-are-finite invariant-loop decreases-loop
+mul-are-finite c = search rules
 
-slice-read-are-finite : tie.Need-slice-read-are-finite Inv-loop μ-loop
-slice-read-are-finite c = let k = as-long (c .before) in omega arith
+slice-read-are-finite : tie.Need-slice-read-are-finite invariant-loop decreases-loop
+slice-read-are-finite c = let k = as_long c.before in omega arith
 
-are-finite-requires : tie.Need-are-finite-requires Inv-loop μ-loop
-are-finite-requires c κs = search needs
+are-finite-requires : tie.Need-are-finite-requires invariant-loop decreases-loop
+are-finite-requires c κs = search rules
 
-add-i : tie.Need-add-i Inv-loop μ-loop
-add-i c = search needs
+add-i : tie.Need-overflow-add-i invariant-loop decreases-loop
+add-i c = search rules
 
-loop-less : tie.Need-loop-less Inv-loop μ-loop
-loop-less c = search needs
+loop-less : tie.Need-loop-smaller invariant-loop decreases-loop
+loop-less c = search rules
 
-loop-again : tie.Need-loop-again Inv-loop μ-loop
+loop-again : tie.Need-loop-preserved invariant-loop decreases-loop
 unfolding pulled raised
 loop-again c =
-    let j = c .before .before in
-    let l = j .before .before .before .before .before in (
+    let j = c.before.before in
+    let l = j.before.before.before.before.before in (
       omega arith,
-      search needs,
-      as-long j ∙ l .loop .inv .2,
-      moved-next _ _ _ _ _ (l .loop .inv .3)
-          (⊎-elim (λ w. rw (w .2, w .0 .taken)) (λ w. rw (w .1, w .0 .left)) (j .if1 .came))
-          (c .are-finite .ensures)
-          (finite-stored _ _ _ (search needs))
-          (rw (sym (same-front j)) (finite-read _ _)),
+      search rules,
+      as_long j ∙ l.loop.invariant.2,
+      moved_next _ _ _ _ _ l.loop.invariant.3
+          (⊎_elim (λ w. rw (w.2, w.0.taken)) (λ w. rw (w.1, w.0.left)) j.if1.branch)
+          c.are-finite.ensures
+          (finite_stored _ _ _ (search rules))
+          (rw (sym (same_front j)) (finite_read _ _)),
     )
 
-same-length : tie.Need-same-length Inv-loop μ-loop
-same-length c = search needs
+same_length : tie.Need-same-length invariant-loop decreases-loop
+same_length c = search rules
 
-same-length-2 : tie.Need-same-length-2 Inv-loop μ-loop
-same-length-2 c = search needs
+same-length-2 : tie.Need-same-length-2 invariant-loop decreases-loop
+same-length-2 c = search rules
 
-returns : tie.Need-returns Inv-loop μ-loop
-returns c = moved-end _ _ _ _ (c .before .loop .inv .0) (c .loop-test .left) (c .before .loop .inv .3)
+returns : tie.Need-returns invariant-loop decreases-loop
+returns c = moved_end _ _ _ _ c.before.loop.invariant.0 c.loop-test.false c.before.loop.invariant.3
 
 pub pull-spec : {M : Type 1} → statement M
 pull-spec =
     tie.close
     (tie.spec
-    Inv-loop
-    μ-loop
+    invariant-loop
+    decreases-loop
     loop-holds
     mul-delta
     shared-slice-read-delta
@@ -143,6 +143,6 @@ pull-spec =
     add-i
     loop-less
     loop-again
-    same-length
+    same_length
     same-length-2
     returns)

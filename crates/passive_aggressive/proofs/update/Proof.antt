@@ -1,34 +1,34 @@
 -- `passive_aggressive::update` meets its contract. Assumes nothing.
-use borrow.Author.Needs.{needs}
-use Rattle·passive_aggressive·proofs.proofs.Parts.{by-passive}
-use Rattle·passive_aggressive·proofs.proofs.update.Statement.{statement}
-use Rattle·passive_aggressive·proofs.proofs.update.Tie as tie
+use borrow.Author.Rules.{rules}
+use Rattle.passive_aggressive.proofs.Parts.{by_passive_lem}
+use Rattle.passive_aggressive.proofs.update.Statement.{statement}
+use Rattle.passive_aggressive.proofs.update.Tie as tie
 
 cost-of-requires : tie.Need-cost-of-requires
-cost-of-requires c κs = search needs
+cost-of-requires c κs = search rules
 
 norm-requires : tie.Need-norm-requires
-norm-requires c κs = search needs
+norm-requires c κs = search rules
 
 tau-of-requires : tie.Need-tau-of-requires
-tau-of-requires c κs = search needs
+tau-of-requires c κs = search rules
 
 pull-requires : tie.Need-pull-requires
-pull-requires c κs = search needs
+pull-requires c κs = search rules
 
-same-length : tie.Need-same-length
-same-length c = search needs
+same_length : tie.Need-same-length
+same_length c = search rules
 
 same-length-2 : tie.Need-same-length-2
-same-length-2 c = search needs
+same-length-2 c = search rules
 
 returns : tie.Need-returns
 returns c =
-    let pulls = c .before .before .before .before in
-    let steps = pulls .before .before .before in
+    let pulls = c.before.before.before.before in
+    let steps = pulls.before.before.before in
     λ words. record {
-      update = by-passive _ _ _ _ _ _ _ (steps .before .before .cost-of .ensures) (steps .before .norm .ensures) (steps .tau-of .ensures) (pulls .pull .ensures .learned);
-      finite = pulls .pull .ensures .finite;
+      update = by_passive_lem _ _ _ _ _ _ _ steps.before.before.cost-of.ensures steps.before.norm.ensures steps.tau-of.ensures pulls.pull.ensures.learned;
+      finite = pulls.pull.ensures.finite;
     }
 
 pub update-spec : {M : Type 1} → statement M
@@ -39,6 +39,6 @@ update-spec =
     norm-requires
     tau-of-requires
     pull-requires
-    same-length
+    same_length
     same-length-2
     returns)

@@ -1,14 +1,14 @@
 -- `perceptron_update::share` meets its contract. Assumes nothing.
 use mathlib.Core.Path.{refl}
-use borrow.Author.Needs.{needs}
-use Rattle·perceptron_update·proofs.proofs.share.Statement.{statement}
-use Rattle·perceptron_update·proofs.proofs.share.Tie as tie
+use borrow.Author.Rules.{rules}
+use Rattle.perceptron_update.proofs.share.Statement.{statement}
+use Rattle.perceptron_update.proofs.share.Tie as tie
 
 int-to-float-result : tie.Need-int-to-float-result
-int-to-float-result c = search needs
+int-to-float-result c = search rules
 
 int-to-float-result-2 : tie.Need-int-to-float-result-2
-int-to-float-result-2 c = search needs
+int-to-float-result-2 c = search rules
 
 returns : tie.Need-returns
 returns c = refl

@@ -1,12 +1,12 @@
 -- `read_text::read_text` meets its contract. Assumes nothing.
-use mathlib.Core.Path.{_≡_, sym, _∙_}
-use Rattle·text_check.proofs.Tells.{new-slots}
-use Rattle·text_bytes.specs.Bytes.{Readable}
-use Rattle·text_bytes.proofs.Told.{bytes-mean}
-use Rattle·read_text·proofs.proofs.Kept.{bytes-refused, read-kept}
-use borrow.Author.Needs.{needs}
-use Rattle·read_text·proofs.proofs.read_text.Statement.{statement}
-use Rattle·read_text·proofs.proofs.read_text.Tie as tie
+use mathlib.Core.Path.{◌≡◌, sym, ◌∙◌}
+use Rattle.text_check.proofs.Tells.{new_slots}
+use Rattle.text_bytes.specs.Bytes.{Readable}
+use Rattle.text_bytes.proofs.Told.{bytes_mean}
+use Rattle.read_text.proofs.Kept.{bytes_refused, read_kept}
+use borrow.Author.Rules.{rules}
+use Rattle.read_text.proofs.read_text.Statement.{statement}
+use Rattle.read_text.proofs.read_text.Tie as tie
 
 -- the places that facts are taken from, each found from the one after it
 abbrev told : tie.After-read-with → tie.After-enum-told
@@ -18,72 +18,72 @@ checked c = search
 abbrev entry : tie.After-check-bytes → tie.Start
 entry c = search
 
-readable : (e : tie.After-enum-told) → Readable (entry (checked e) .args .text .now)
-readable e = bytes-mean _ .accepted (sym (checked e .check-bytes .ensures) ∙ e .enum-told .given .1)
+readable : (e : tie.After-enum-told) → Readable (entry (checked e)).args.text.now
+readable e = (bytes_mean _).accepted (sym (checked e).check-bytes.ensures ∙ e.enum_told.given.1)
 
 check-bytes-requires : tie.Need-check-bytes-requires
-check-bytes-requires c κs = search needs
+check-bytes-requires c κs = search rules
 
 enum-known-checked : tie.Need-enum-known-checked
-enum-known-checked c = search needs
+enum-known-checked c = search rules
 
 returns : tie.Need-returns
 returns c =
     let k : tie.After-checked = search in
     let w : tie.After-check-bytes = search in
-    bytes-refused _ _ _ (sym (w .check-bytes .ensures) ∙ k .checked .given .1)
+    bytes_refused _ _ _ (sym w.check-bytes.ensures ∙ k.checked.given.1)
 
-enum-told : tie.Need-enum-told
-enum-told c = search needs
+enum_told : tie.Need-enum-told
+enum_told c = search rules
 
 slice-aggregate-read-with : tie.Need-slice-aggregate-read-with
-slice-aggregate-read-with c = search needs
+slice-aggregate-read-with c = search rules
 
 read-with-requires : tie.Need-read-with-requires
 read-with-requires c κs =
     let e : tie.After-enum-told = search in
-    (readable e, record { long = new-slots .0; free = new-slots .1 })
+    (readable e, record { long = new_slots.0; free = new_slots.1 })
 
-same-length : tie.Need-same-length
-same-length c = search needs
+same_length : tie.Need-same-length
+same_length c = search rules
 
 same-length-2 : tie.Need-same-length-2
-same-length-2 c = search needs
+same-length-2 c = search rules
 
 same-length-3 : tie.Need-same-length-3
-same-length-3 c = search needs
+same-length-3 c = search rules
 
 same-length-4 : tie.Need-same-length-4
-same-length-4 c = search needs
+same-length-4 c = search rules
 
 same-length-5 : tie.Need-same-length-5
-same-length-5 c = search needs
+same-length-5 c = search rules
 
 same-length-6 : tie.Need-same-length-6
-same-length-6 c = search needs
+same-length-6 c = search rules
 
 same-length-7 : tie.Need-same-length-7
-same-length-7 c = search needs
+same-length-7 c = search rules
 
 same-length-8 : tie.Need-same-length-8
-same-length-8 c = search needs
+same-length-8 c = search rules
 
 same-length-9 : tie.Need-same-length-9
-same-length-9 c = search needs
+same-length-9 c = search rules
 
 same-length-10 : tie.Need-same-length-10
-same-length-10 c = search needs
+same-length-10 c = search rules
 
 same-length-11 : tie.Need-same-length-11
-same-length-11 c = search needs
+same-length-11 c = search rules
 
 same-length-12 : tie.Need-same-length-12
-same-length-12 c = search needs
+same-length-12 c = search rules
 
 returns-2 : tie.Need-returns-2
 returns-2 c =
     let r : tie.After-read-with = search in
-    read-kept _ _ _ (readable (told r) .formed) (r .read-with .ensures)
+    read_kept _ _ _ (readable (told r)).formed r.read-with.ensures
 
 pub read-text-spec : {M : Type 1} → statement M
 read-text-spec =
@@ -92,10 +92,10 @@ read-text-spec =
     check-bytes-requires
     enum-known-checked
     returns
-    enum-told
+    enum_told
     slice-aggregate-read-with
     read-with-requires
-    same-length
+    same_length
     same-length-2
     same-length-3
     same-length-4

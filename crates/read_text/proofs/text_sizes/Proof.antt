@@ -1,11 +1,11 @@
 -- `read_text::text_sizes` meets its contract. Assumes nothing.
-use mathlib.Core.Path.{_≡_, sym, _∙_}
-use Rattle·text_bytes.specs.Bytes.{Readable}
-use Rattle·text_bytes.proofs.Told.{bytes-mean}
-use Rattle·read_text·proofs.proofs.Kept.{sizes-refused, sizes-kept}
-use borrow.Author.Needs.{needs}
-use Rattle·read_text·proofs.proofs.text_sizes.Statement.{statement}
-use Rattle·read_text·proofs.proofs.text_sizes.Tie as tie
+use mathlib.Core.Path.{◌≡◌, sym, ◌∙◌}
+use Rattle.text_bytes.specs.Bytes.{Readable}
+use Rattle.text_bytes.proofs.Told.{bytes_mean}
+use Rattle.read_text.proofs.Kept.{sizes_refused, sizes_kept}
+use borrow.Author.Rules.{rules}
+use Rattle.read_text.proofs.text_sizes.Statement.{statement}
+use Rattle.read_text.proofs.text_sizes.Tie as tie
 
 -- the places that facts are taken from, each found from the one after it
 abbrev checked : tie.After-enum-told → tie.After-check-bytes
@@ -14,23 +14,23 @@ checked c = search
 abbrev entry : tie.After-check-bytes → tie.Start
 entry c = search
 
-readable : (e : tie.After-enum-told) → Readable (entry (checked e) .args .text .now)
-readable e = bytes-mean _ .accepted (sym (checked e .check-bytes .ensures) ∙ e .enum-told .given .1)
+readable : (e : tie.After-enum-told) → Readable (entry (checked e)).args.text.now
+readable e = (bytes_mean _).accepted (sym (checked e).check-bytes.ensures ∙ e.enum_told.given.1)
 
 check-bytes-requires : tie.Need-check-bytes-requires
-check-bytes-requires c κs = search needs
+check-bytes-requires c κs = search rules
 
 enum-known-checked : tie.Need-enum-known-checked
-enum-known-checked c = search needs
+enum-known-checked c = search rules
 
 returns : tie.Need-returns
 returns c =
     let k : tie.After-checked = search in
     let w : tie.After-check-bytes = search in
-    sizes-refused _ _ (sym (w .check-bytes .ensures) ∙ k .checked .given .1)
+    sizes_refused _ _ (sym w.check-bytes.ensures ∙ k.checked.given.1)
 
-enum-told : tie.Need-enum-told
-enum-told c = search needs
+enum_told : tie.Need-enum-told
+enum_told c = search rules
 
 sizes-readable-requires : tie.Need-sizes-readable-requires
 sizes-readable-requires c κs =
@@ -41,7 +41,7 @@ returns-2 : tie.Need-returns-2
 returns-2 c =
     let e : tie.After-enum-told = search in
     let z : tie.After-sizes-readable = search in
-    sizes-kept _ _ (readable e .formed) (z .sizes-readable .ensures)
+    sizes_kept _ _ (readable e).formed z.sizes-readable.ensures
 
 pub text-sizes-spec : {M : Type 1} → statement M
 text-sizes-spec =
@@ -50,6 +50,6 @@ text-sizes-spec =
     check-bytes-requires
     enum-known-checked
     returns
-    enum-told
+    enum_told
     sizes-readable-requires
     returns-2)

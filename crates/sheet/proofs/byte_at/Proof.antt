@@ -1,22 +1,22 @@
 -- `sheet::byte_at` meets its contract. Assumes nothing.
-use borrow.Author.Needs.{needs}
+use borrow.Author.Rules.{rules}
 use mathlib.Core.Path.{sym}
 use native.Mathlib.Omega.{arith}
-use lib.ListN.{List·getD-eq-default}
-use Rattle·sheet·proofs.proofs.byte_at.Statement.{statement}
-use Rattle·sheet·proofs.proofs.byte_at.Tie as tie
+use lib.ListN.{get_or-eq_default}
+use Rattle.sheet.proofs.byte_at.Statement.{statement}
+use Rattle.sheet.proofs.byte_at.Tie as tie
 
 shared-slice-read-wide : tie.Need-shared-slice-read-wide
-shared-slice-read-wide c = search needs
+shared-slice-read-wide c = search rules
 
 wide-requires : tie.Need-wide-requires
-wide-requires c κs = search needs
+wide-requires c κs = search rules
 
 returns : tie.Need-returns
-returns c = search needs
+returns c = search rules
 
 returns-2 : tie.Need-returns-2
-returns-2 c = let s : tie.Start = search in (sym (List·getD-eq-default (s .args .bytes .now) 0 (c .if1 .left)), omega arith)
+returns-2 c = let s : tie.Start = search in (sym (get_or-eq_default s.args.bytes.now 0 c.if1.false), omega arith)
 
 pub byte-at-spec : {M : Type 1} → statement M
 byte-at-spec = tie.close (tie.spec shared-slice-read-wide wide-requires returns returns-2)

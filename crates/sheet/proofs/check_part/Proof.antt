@@ -1,72 +1,72 @@
 -- `sheet::check_part` meets its contract, by the laws of a search. Assumes nothing.
-use Prim.Native.Nat.{_-_, _<_}
-use mathlib.Core.Path.{_∙_}
+use Prim.Native.Nat.{◌-◌, ◌<◌}
+use mathlib.Core.Path.{◌∙◌}
 use native.Mathlib.Omega.{arith}
-use borrow.Author.Needs.{needs}
+use borrow.Author.Rules.{rules}
 use lib.ListN.{drop}
-use Rattle·refusals.specs.Tables.{notFinite}
-use Rattle·refusals.proofs.Laws.{PassedIn, begin, step, answered}
-use Rattle·sheet·specs.specs.Fields.{numbersIn}
-use Rattle·sheet·proofs.proofs.Bytes.{tested}
-use Rattle·sheet·proofs.proofs.check_part.Statement.{statement}
-use Rattle·sheet·proofs.proofs.check_part.Tie as tie
+use Rattle.refusals.specs.Tables.{not_finite}
+use Rattle.refusals.proofs.Laws.{PassedIn, begin, step, answered}
+use Rattle.sheet.specs.Fields.{numbers_in}
+use Rattle.sheet.proofs.Bytes.{tested}
+use Rattle.sheet.proofs.check_part.Statement.{statement}
+use Rattle.sheet.proofs.check_part.Tie as tie
 
-abbrev Inv-loop : tie.InvT-loop
-Inv-loop answer table bytes at n end i₀ i = PassedIn 6 table (notFinite (numbersIn n (drop at bytes))) end i
+abbrev invariant-loop : tie.invariant-loop
+invariant-loop answer table bytes at n end i₀ i = PassedIn 6 table (not_finite (numbers_in n (drop at bytes))) end i
 
-abbrev μ-loop : tie.MeasureT-loop
-μ-loop answer table bytes at n end i₀ i = end - i
+abbrev decreases-loop : tie.decreases-loop
+decreases-loop answer table bytes at n end i₀ i = end - i
 
-to-check-requires : tie.Need-to-check-requires Inv-loop μ-loop
+to-check-requires : tie.Need-to-check-requires invariant-loop decreases-loop
 to-check-requires c κs = tt
 
-loop-holds : tie.Need-loop-holds Inv-loop μ-loop
+loop-holds : tie.Need-loop-init invariant-loop decreases-loop
 loop-holds c = begin
 
-mul-word-at : tie.Need-mul-word-at Inv-loop μ-loop
+mul-word-at : tie.Need-overflow-mul-word-at invariant-loop decreases-loop
 mul-word-at c = omega arith
 
-add-word-at : tie.Need-add-word-at Inv-loop μ-loop
+add-word-at : tie.Need-overflow-add-word-at invariant-loop decreases-loop
 add-word-at c = omega arith
 
-word-at-requires : tie.Need-word-at-requires Inv-loop μ-loop
+word-at-requires : tie.Need-word-at-requires invariant-loop decreases-loop
 word-at-requires c κs = omega arith
 
-is-finite-pattern-requires : tie.Need-is-finite-pattern-requires Inv-loop μ-loop
+is-finite-pattern-requires : tie.Need-is-finite-pattern-requires invariant-loop decreases-loop
 is-finite-pattern-requires c κs = tt
 
-add-i : tie.Need-add-i Inv-loop μ-loop
-add-i c = search needs
+add-i : tie.Need-overflow-add-i invariant-loop decreases-loop
+add-i c = search rules
 
-loop-less : tie.Need-loop-less Inv-loop μ-loop
-loop-less c = search needs
+loop-less : tie.Need-loop-smaller invariant-loop decreases-loop
+loop-less c = search rules
 
-loop-again : tie.Need-loop-again Inv-loop μ-loop
+loop-again : tie.Need-loop-preserved invariant-loop decreases-loop
 loop-again c =
-    let w = c .before .before in
-    let l = w .before .before in
-    let h : l .loop .i < l .before .before .before .args .n = omega arith in
-    step (l .loop .inv) (omega arith)
-    (tested _ _ _ _ h (w .word-at .ensures) (c .before .is-finite-pattern .ensures) ∙ c .if1 .left)
+    let w = c.before.before in
+    let l = w.before.before in
+    let h : l.loop.i < l.before.before.before.args.n = omega arith in
+    step l.loop.invariant (omega arith)
+    (tested _ _ _ _ h w.word_at.ensures c.before.is-finite-pattern.ensures ∙ c.if1.false)
 
-refuse-in-requires : tie.Need-refuse-in-requires Inv-loop μ-loop
+refuse-in-requires : tie.Need-refuse-in-requires invariant-loop decreases-loop
 refuse-in-requires c κs = tt
 
-returns : tie.Need-returns Inv-loop μ-loop
+returns : tie.Need-returns invariant-loop decreases-loop
 returns c =
-    let l = c .before .before in
-    answered _ _ (c .refuse-in .ensures) (l .before .to-check .ensures .1) (l .loop .inv) (λ w. w .left)
+    let l = c.before.before in
+    answered _ _ c.refuse-in.ensures l.before.to-check.ensures.1 l.loop.invariant (λ w. w.left)
     (λ w.
-    let h : l .loop .i < l .before .before .before .args .n = omega (arith, w .0 .taken) in
-    (w .0 .taken, tested _ _ _ _ h (w .1 .ensures) (w .2 .ensures) ∙ w .3 .taken))
-    (c .before .loop-test .came)
+    let h : l.loop.i < l.before.before.before.args.n = omega (arith, w.0.taken) in
+    (w.0.taken, tested _ _ _ _ h w.1.ensures w.2.ensures ∙ w.3.taken))
+    c.before.loop-test.branch
 
 pub check-part-spec : {M : Type 1} → statement M
 check-part-spec =
     tie.close
     (tie.spec
-    Inv-loop
-    μ-loop
+    invariant-loop
+    decreases-loop
     to-check-requires
     loop-holds
     mul-word-at

@@ -1,14 +1,14 @@
 -- `sheet::read_sheet` meets its contract. Assumes nothing.
-use Prim.Native.Nat.{ℕ, _*_}
-use mathlib.Core.Path.{_≡_, sym, _∙_}
+use Prim.Native.Nat.{ℕ, ◌*◌}
+use mathlib.Core.Path.{◌≡◌, sym, ◌∙◌}
 use native.Mathlib.Omega.{arith}
-use borrow.Author.Needs.{needs}
-use Rattle·sheet·specs.specs.Fields.{transitionsIn, statesIn}
-use Rattle·sheet·proofs.proofs.Rows.{Accepts, accepts, transitions-finite, states-finite}
-use Rattle·sheet·specs.specs.Promise.{read}
-use Rattle·sheet·proofs.proofs.Kept.{promised-refused, promised-read}
-use Rattle·sheet·proofs.proofs.read_sheet.Statement.{statement}
-use Rattle·sheet·proofs.proofs.read_sheet.Tie as tie
+use borrow.Author.Rules.{rules}
+use Rattle.sheet.specs.Fields.{transitions_in_of, states_in_of}
+use Rattle.sheet.proofs.Rows.{Accepts, accepts, transitions_finite, states_finite}
+use Rattle.sheet.specs.Promise.{read}
+use Rattle.sheet.proofs.Kept.{promised_refused, promised_read}
+use Rattle.sheet.proofs.read_sheet.Statement.{statement}
+use Rattle.sheet.proofs.read_sheet.Tie as tie
 
 -- the places that facts are taken from, each found from one after it
 abbrev entry : tie.After-check-sheet → tie.Start
@@ -24,8 +24,8 @@ abbrev counted : tie.After-read-part → tie.After-entries
 counted c = search
 
 -- what the accepted sheet gives
-told : (c : tie.After-enum-told) → let a = entry (checked c) .args in Accepts (a .bytes .now) (record { transitions = a .transitions .now; states = a .states .now })
-told c = accepts _ _ (sym (checked c .check-sheet .ensures) ∙ c .enum-told .given .1)
+told : (c : tie.After-enum-told) → let a = (entry (checked c)).args in Accepts a.bytes.now (record { transitions = a.transitions.now; states = a.states.now })
+told c = accepts _ _ (sym (checked c).check-sheet.ensures ∙ c.enum_told.given.1)
 
 -- how many entries a table has
 size : {n a b x y : ℕ} → n ≡ a * b → a ≡ x → b ≡ y → n ≡ x * y
@@ -36,82 +36,82 @@ says : {a b x y : ℕ} → a ≡ x → b ≡ y → read a b ≡ read x y
 says a b = rw (a, b)
 
 check-sheet-requires : tie.Need-check-sheet-requires
-check-sheet-requires c κs = search needs
+check-sheet-requires c κs = search rules
 
 enum-known-why : tie.Need-enum-known-why
-enum-known-why c = search needs
+enum-known-why c = search rules
 
-same-length : tie.Need-same-length
-same-length c = search needs
+same_length : tie.Need-same-length
+same_length c = search rules
 
 same-length-2 : tie.Need-same-length-2
-same-length-2 c = search needs
+same-length-2 c = search rules
 
 returns : tie.Need-returns
-returns c = let s : tie.After-check-sheet = search in let w : tie.After-why = search in promised-refused _ _ _ (sym (s .check-sheet .ensures) ∙ w .why .given .1)
+returns c = let s : tie.After-check-sheet = search in let w : tie.After-why = search in promised_refused _ _ _ (sym s.check-sheet.ensures ∙ w.why.given.1)
 
-enum-told : tie.Need-enum-told
-enum-told c = search needs
+enum_told : tie.Need-enum-told
+enum_told c = search rules
 
 labels-in-requires : tie.Need-labels-in-requires
-labels-in-requires c κs = search needs
+labels-in-requires c κs = search rules
 
 words-in-requires : tie.Need-words-in-requires
-words-in-requires c κs = search needs
+words-in-requires c κs = search rules
 
 entries-requires : tie.Need-entries-requires
-entries-requires c κs = search needs
+entries-requires c κs = search rules
 
 read-part-requires : tie.Need-read-part-requires
-unfolding transitionsIn
+unfolding transitions_in_of
 read-part-requires c κs =
     let m : tie.After-entries = search in
     let l : tie.After-labels-in = search in
     let a = told (accepted l) in
-    let e = size (m .entries .ensures) (l .labels-in .ensures .0) (l .labels-in .ensures .0) in
-    (omega (arith, e, a .sizes-in .exact), (omega (arith, e, a .sizes-in .room .room .long-transitions), rw e (transitions-finite _ _ a)))
+    let e = size m.entries.ensures l.labels_in.ensures.0 l.labels_in.ensures.0 in
+    (omega (arith, e, a.sizes_in.exact), (omega (arith, e, a.sizes_in.room.room.long_transitions), rw e (transitions_finite _ _ a)))
 
 states-from-requires : tie.Need-states-from-requires
-states-from-requires c κs = search needs
+states-from-requires c κs = search rules
 
 entries-requires-2 : tie.Need-entries-requires-2
-entries-requires-2 c κs = search needs
+entries-requires-2 c κs = search rules
 
 read-part-requires-2 : tie.Need-read-part-requires-2
-unfolding statesIn
+unfolding states_in_of
 read-part-requires-2 c κs =
     let n : tie.After-entries2 = search in
     let f : tie.After-states-from = search in
     let p : tie.After-read-part = search in
-    let w : tie.After-words-in = counted p .before in
-    let l = w .before in
+    let w : tie.After-words-in = (counted p).before in
+    let l = w.before in
     let a = told (accepted l) in
-    let e = size (n .entries2 .ensures) (w .words-in .ensures .0) (l .labels-in .ensures .0) in
-    (omega (arith, e, f .states-from .ensures, a .sizes-in .exact), (omega (arith, e, a .sizes-in .room .room .long-states), rw (e, f .states-from .ensures) (states-finite _ _ a)))
+    let e = size n.entries2.ensures w.words-in.ensures.0 l.labels_in.ensures.0 in
+    (omega (arith, e, f.states-from.ensures, a.sizes_in.exact), (omega (arith, e, a.sizes_in.room.room.long_states), rw (e, f.states-from.ensures) (states_finite _ _ a)))
 
 same-length-3 : tie.Need-same-length-3
-same-length-3 c = search needs
+same-length-3 c = search rules
 
 same-length-4 : tie.Need-same-length-4
-same-length-4 c = search needs
+same-length-4 c = search rules
 
 returns-2 : tie.Need-returns-2
-unfolding transitionsIn statesIn
+unfolding transitions_in_of states_in_of
 returns-2 c =
     let q : tie.After-read-part2 = search in
     let n : tie.After-entries2 = search in
     let f : tie.After-states-from = search in
     let p : tie.After-read-part = search in
     let m = counted p in
-    let w : tie.After-words-in = m .before in
-    let l = w .before in
+    let w : tie.After-words-in = m.before in
+    let l = w.before in
     let t = accepted l in
-    let e = size (m .entries .ensures) (l .labels-in .ensures .0) (l .labels-in .ensures .0) in
-    let d = size (n .entries2 .ensures) (w .words-in .ensures .0) (l .labels-in .ensures .0) in
-    promised-read _ _ _ (sym (checked t .check-sheet .ensures) ∙ t .enum-told .given .1)
-    (says (l .labels-in .ensures .0) (w .words-in .ensures .0))
-    (rw e at (p .read-part .ensures))
-    (rw (d, f .states-from .ensures) at (q .read-part2 .ensures))
+    let e = size m.entries.ensures l.labels_in.ensures.0 l.labels_in.ensures.0 in
+    let d = size n.entries2.ensures w.words-in.ensures.0 l.labels_in.ensures.0 in
+    promised_read _ _ _ (sym (checked t).check-sheet.ensures ∙ t.enum_told.given.1)
+    (says l.labels_in.ensures.0 w.words-in.ensures.0)
+    (rw e at p.read-part.ensures)
+    (rw (d, f.states-from.ensures) at q.read-part2.ensures)
 
 pub read-sheet-spec : {M : Type 1} → statement M
 read-sheet-spec =
@@ -119,10 +119,10 @@ read-sheet-spec =
     (tie.spec
     check-sheet-requires
     enum-known-why
-    same-length
+    same_length
     same-length-2
     returns
-    enum-told
+    enum_told
     labels-in-requires
     words-in-requires
     entries-requires

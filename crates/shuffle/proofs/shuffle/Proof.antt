@@ -1,68 +1,68 @@
 -- `shuffle::shuffle` meets its contract. The loop's invariant: what is left to do, done to what there is, gives what is promised. Assumes nothing.
-use Prim.Native.Nat.{ℕ, _≤_, _<_, _-_}
-use mathlib.Core.Path.{_≡_, refl, sym, ap, _∙_}
+use Prim.Native.Nat.{ℕ, ◌≤◌, ◌<◌, ◌-◌}
+use mathlib.Core.Path.{◌≡◌, refl, sym, ap, ◌∙◌}
 use native.Mathlib.Omega.{arith}
-use borrow.Author.Needs.{needs}
+use borrow.Author.Rules.{rules}
 use lib.ListN.{length}
-use Rattle·shuffle·specs.specs.Shuffle.{Deal, chosen, shuffledFrom, shuffled}
-use Rattle·shuffle·proofs.proofs.Laws.{chosen-within, from-next, from-end}
-use Rattle·shuffle·proofs.proofs.shuffle.Statement.{statement}
-use Rattle·shuffle·proofs.proofs.shuffle.Tie as tie
+use Rattle.shuffle.specs.Shuffle.{Deal, chosen, shuffled_from, shuffled}
+use Rattle.shuffle.proofs.Laws.{chosen_within, from_next, from_end}
+use Rattle.shuffle.proofs.shuffle.Statement.{statement}
+use Rattle.shuffle.proofs.shuffle.Tie as tie
 
-abbrev Inv-loop : tie.InvT-loop
-Inv-loop state n order₀ s₀ i₀ order s i =
-    (i < n) × (length order ≡ length order₀) × (shuffledFrom i (record { state = s; order = order }) ≡ shuffled n (record { state = state; order = order₀ }))
+abbrev invariant-loop : tie.invariant-loop
+invariant-loop state n order₀ s₀ i₀ order s i =
+    (i < n) × (length order ≡ length order₀) × (shuffled_from i (record { state = s; order = order }) ≡ shuffled n (record { state = state; order = order₀ }))
 
-abbrev μ-loop : tie.MeasureT-loop
-μ-loop state n order₀ s₀ i₀ order s i = i
+abbrev decreases-loop : tie.decreases-loop
+decreases-loop state n order₀ s₀ i₀ order s i = i
 
-sub-i : tie.Need-sub-i Inv-loop μ-loop
-sub-i c = search needs
+sub-i : tie.Need-overflow-sub-i invariant-loop decreases-loop
+sub-i c = search rules
 
-loop-holds : tie.Need-loop-holds Inv-loop μ-loop
+loop-holds : tie.Need-loop-init invariant-loop decreases-loop
 unfolding shuffled
 loop-holds c = (omega arith, refl, refl)
 
-draw-from-requires : tie.Need-draw-from-requires Inv-loop μ-loop
-draw-from-requires c κs = search needs
+draw-from-requires : tie.Need-draw-from-requires invariant-loop decreases-loop
+draw-from-requires c κs = search rules
 
-choose-requires : tie.Need-choose-requires Inv-loop μ-loop
-choose-requires c κs = search needs
+choose-requires : tie.Need-choose-requires invariant-loop decreases-loop
+choose-requires c κs = search rules
 
-swap-requires : tie.Need-swap-requires Inv-loop μ-loop
+swap-requires : tie.Need-swap-requires invariant-loop decreases-loop
 swap-requires c κs =
-    let p = c .before in
-    omega (arith, p .choose .ensures, chosen-within (p .before .draw-from .result .number) (p .before .before .before .loop .i))
+    let p = c.before in
+    omega (arith, p.choose.ensures, chosen_within p.before.draw-from.result.number p.before.before.before.loop.i)
 
-sub-i-2 : tie.Need-sub-i-2 Inv-loop μ-loop
-sub-i-2 c = search needs
+sub-i-2 : tie.Need-overflow-sub-i-2 invariant-loop decreases-loop
+sub-i-2 c = search rules
 
-loop-less : tie.Need-loop-less Inv-loop μ-loop
-loop-less c = search needs
+loop-less : tie.Need-loop-smaller invariant-loop decreases-loop
+loop-less c = search rules
 
-loop-again : tie.Need-loop-again Inv-loop μ-loop
+loop-again : tie.Need-loop-preserved invariant-loop decreases-loop
 loop-again c =
-    let k = c .before .before in
-    let p = k .before .before in
-    let d = p .before in
-    let l = d .before .before in (
+    let k = c.before.before in
+    let p = k.before.before in
+    let d = p.before in
+    let l = d.before.before in (
       omega arith,
-      search needs,
-      sym (from-next _ _ _ _ _ _ (d .before .loop-test .taken) (d .draw-from .ensures .1) (p .choose .ensures ∙ ap (λ (x : ℕ). chosen x (l .loop .i)) (d .draw-from .ensures .0)) (k .swap .ensures)) ∙ l .loop .inv .2,
+      search rules,
+      sym (from_next _ _ _ _ _ _ d.before.loop-test.true d.draw-from.ensures.1 (p.choose.ensures ∙ ap (λ (x : ℕ). chosen x l.loop.i) d.draw-from.ensures.0) k.swap.ensures) ∙ l.loop.invariant.2,
     )
 
-same-length : tie.Need-same-length Inv-loop μ-loop
-same-length c = search needs
+same_length : tie.Need-same-length invariant-loop decreases-loop
+same_length c = search rules
 
-returns : tie.Need-returns Inv-loop μ-loop
-returns c = sym (from-end _ _ (c .loop-test .left)) ∙ c .before .loop .inv .2
+returns : tie.Need-returns invariant-loop decreases-loop
+returns c = sym (from_end _ _ c.loop-test.false) ∙ c.before.loop.invariant.2
 
 pub shuffle-spec : {M : Type 1} → statement M
 shuffle-spec =
     tie.close
     (tie.spec
-    Inv-loop
-    μ-loop
+    invariant-loop
+    decreases-loop
     sub-i
     loop-holds
     draw-from-requires
@@ -71,5 +71,5 @@ shuffle-spec =
     sub-i-2
     loop-less
     loop-again
-    same-length
+    same_length
     returns)

@@ -1,17 +1,17 @@
 -- `survey::begun` meets its contract. Assumes nothing.
-use borrow.Author.Tests.{eq-eqb, ne-eqb}
-use borrow.Author.Needs.{needs}
-use Rattle·survey·proofs.proofs.begun.Statement.{statement}
-use Rattle·survey·proofs.proofs.begun.Tie as tie
+use borrow.Author.Tests.{eq-eqb, ne_eqb}
+use borrow.Author.Rules.{rules}
+use Rattle.survey.proofs.begun.Statement.{statement}
+use Rattle.survey.proofs.begun.Tie as tie
 
-add-result : tie.Need-add-result
-add-result c = search needs
+add-result : tie.Need-overflow-add-result
+add-result c = search rules
 
 returns : tie.Need-returns
-returns c = simp (eq-eqb _ _ (c .if1 .taken))
+returns c = simp (eq-eqb _ _ c.if1.true)
 
 returns-2 : tie.Need-returns-2
-returns-2 c = simp (ne-eqb _ _ (c .if1 .left))
+returns-2 c = simp (ne_eqb _ _ c.if1.false)
 
 pub begun-spec : {M : Type 1} → statement M
 begun-spec = tie.close (tie.spec add-result returns returns-2)

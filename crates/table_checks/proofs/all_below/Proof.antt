@@ -1,38 +1,38 @@
 -- `table_checks::all_below` meets its contract: while the flag holds, no place so far is bad. Assumes nothing.
-use Prim.Native.Nat.{_-_}
+use Prim.Native.Nat.{◌-◌}
 use native.Mathlib.Omega.{arith}
-use borrow.Author.Needs.{needs}
-use Rattle·refusals.specs.Tables.{notBelow}
-use Rattle·table_checks·proofs.proofs.Passing.{Passing, pass-begin, pass-end, below-step}
-use Rattle·table_checks·proofs.proofs.all_below.Statement.{statement}
-use Rattle·table_checks·proofs.proofs.all_below.Tie as tie
+use borrow.Author.Rules.{rules}
+use Rattle.refusals.specs.Tables.{not_below}
+use Rattle.table_checks.proofs.Passing.{Passing, pass_begin, pass_end, below_step}
+use Rattle.table_checks.proofs.all_below.Statement.{statement}
+use Rattle.table_checks.proofs.all_below.Tie as tie
 
-abbrev Inv-loop : tie.InvT-loop
-Inv-loop ids n bound all₀ i₀ all i = Passing (notBelow ids bound) n all i
+abbrev invariant-loop : tie.invariant-loop
+invariant-loop ids n bound all₀ i₀ all i = Passing (not_below ids bound) n all i
 
-abbrev μ-loop : tie.MeasureT-loop
-μ-loop ids n bound all₀ i₀ all i = n - i
+abbrev decreases-loop : tie.decreases-loop
+decreases-loop ids n bound all₀ i₀ all i = n - i
 
-loop-holds : tie.Need-loop-holds Inv-loop μ-loop
-loop-holds c = pass-begin
+loop-holds : tie.Need-loop-init invariant-loop decreases-loop
+loop-holds c = pass_begin
 
-mul-all : tie.Need-mul-all Inv-loop μ-loop
-mul-all c = search needs
+mul-all : tie.Need-overflow-mul-all invariant-loop decreases-loop
+mul-all c = search rules
 
-shared-slice-read-all : tie.Need-shared-slice-read-all Inv-loop μ-loop
-shared-slice-read-all c = search needs
+shared-slice-read-all : tie.Need-shared-slice-read-all invariant-loop decreases-loop
+shared-slice-read-all c = search rules
 
-add-i : tie.Need-add-i Inv-loop μ-loop
-add-i c = search needs
+add-i : tie.Need-overflow-add-i invariant-loop decreases-loop
+add-i c = search rules
 
-loop-less : tie.Need-loop-less Inv-loop μ-loop
-loop-less c = search needs
+loop-less : tie.Need-loop-smaller invariant-loop decreases-loop
+loop-less c = search rules
 
-loop-again : tie.Need-loop-again Inv-loop μ-loop
-loop-again c = let a = c .before .before .before .args in below-step (a .ids .now) (a .bound) (c .before .before .loop .inv) (omega arith)
+loop-again : tie.Need-loop-preserved invariant-loop decreases-loop
+loop-again c = let a = c.before.before.before.args in below_step a.ids.now a.bound c.before.before.loop.invariant (omega arith)
 
-returns : tie.Need-returns Inv-loop μ-loop
-returns c = pass-end (c .before .loop .inv) (c .loop-test .left)
+returns : tie.Need-returns invariant-loop decreases-loop
+returns c = pass_end c.before.loop.invariant c.loop-test.false
 
 pub all-below-spec : {M : Type 1} → statement M
-all-below-spec = tie.close (tie.spec Inv-loop μ-loop loop-holds mul-all shared-slice-read-all add-i loop-less loop-again returns)
+all-below-spec = tie.close (tie.spec invariant-loop decreases-loop loop-holds mul-all shared-slice-read-all add-i loop-less loop-again returns)

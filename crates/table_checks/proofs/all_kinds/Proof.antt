@@ -1,35 +1,35 @@
 -- `table_checks::all_kinds` meets its contract: while the flag holds, no place so far is bad. Assumes nothing.
-use Prim.Native.Nat.{_-_}
+use Prim.Native.Nat.{◌-◌}
 use native.Mathlib.Omega.{arith}
-use borrow.Author.Needs.{needs}
-use Rattle·refusals.specs.Tables.{badKind}
-use Rattle·table_checks·proofs.proofs.Passing.{Passing, pass-begin, pass-end, kind-step}
-use Rattle·table_checks·proofs.proofs.all_kinds.Statement.{statement}
-use Rattle·table_checks·proofs.proofs.all_kinds.Tie as tie
+use borrow.Author.Rules.{rules}
+use Rattle.refusals.specs.Tables.{bad_kind}
+use Rattle.table_checks.proofs.Passing.{Passing, pass_begin, pass_end, kind_step}
+use Rattle.table_checks.proofs.all_kinds.Statement.{statement}
+use Rattle.table_checks.proofs.all_kinds.Tie as tie
 
-abbrev Inv-loop : tie.InvT-loop
-Inv-loop kinds n all₀ i₀ all i = Passing (badKind kinds) n all i
+abbrev invariant-loop : tie.invariant-loop
+invariant-loop kinds n all₀ i₀ all i = Passing (bad_kind kinds) n all i
 
-abbrev μ-loop : tie.MeasureT-loop
-μ-loop kinds n all₀ i₀ all i = n - i
+abbrev decreases-loop : tie.decreases-loop
+decreases-loop kinds n all₀ i₀ all i = n - i
 
-loop-holds : tie.Need-loop-holds Inv-loop μ-loop
-loop-holds c = pass-begin
+loop-holds : tie.Need-loop-init invariant-loop decreases-loop
+loop-holds c = pass_begin
 
-shared-slice-read-all : tie.Need-shared-slice-read-all Inv-loop μ-loop
-shared-slice-read-all c = search needs
+shared-slice-read-all : tie.Need-shared-slice-read-all invariant-loop decreases-loop
+shared-slice-read-all c = search rules
 
-add-i : tie.Need-add-i Inv-loop μ-loop
-add-i c = search needs
+add-i : tie.Need-overflow-add-i invariant-loop decreases-loop
+add-i c = search rules
 
-loop-less : tie.Need-loop-less Inv-loop μ-loop
-loop-less c = search needs
+loop-less : tie.Need-loop-smaller invariant-loop decreases-loop
+loop-less c = search rules
 
-loop-again : tie.Need-loop-again Inv-loop μ-loop
-loop-again c = let a = c .before .before .before .args in kind-step (a .kinds .now) (c .before .before .loop .inv) (omega arith)
+loop-again : tie.Need-loop-preserved invariant-loop decreases-loop
+loop-again c = let a = c.before.before.before.args in kind_step a.kinds.now c.before.before.loop.invariant (omega arith)
 
-returns : tie.Need-returns Inv-loop μ-loop
-returns c = pass-end (c .before .loop .inv) (c .loop-test .left)
+returns : tie.Need-returns invariant-loop decreases-loop
+returns c = pass_end c.before.loop.invariant c.loop-test.false
 
 pub all-kinds-spec : {M : Type 1} → statement M
-all-kinds-spec = tie.close (tie.spec Inv-loop μ-loop loop-holds shared-slice-read-all add-i loop-less loop-again returns)
+all-kinds-spec = tie.close (tie.spec invariant-loop decreases-loop loop-holds shared-slice-read-all add-i loop-less loop-again returns)

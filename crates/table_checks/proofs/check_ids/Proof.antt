@@ -1,58 +1,58 @@
 -- `table_checks::check_ids` meets its contract, by the laws of a search. Assumes nothing.
-use Prim.Native.Nat.{_-_}
+use Prim.Native.Nat.{◌-◌}
 use native.Mathlib.Omega.{arith}
-use borrow.Author.Needs.{needs}
-use Rattle·refusals.specs.Tables.{notBelow}
-use Rattle·refusals.proofs.Laws.{PassedIn, step, answered}
-use Rattle·table_checks·proofs.proofs.Passing.{begun}
-use Rattle·table_checks·proofs.proofs.check_ids.Statement.{statement}
-use Rattle·table_checks·proofs.proofs.check_ids.Tie as tie
+use borrow.Author.Rules.{rules}
+use Rattle.refusals.specs.Tables.{not_below}
+use Rattle.refusals.proofs.Laws.{PassedIn, step, answered}
+use Rattle.table_checks.proofs.Passing.{begun}
+use Rattle.table_checks.proofs.check_ids.Statement.{statement}
+use Rattle.table_checks.proofs.check_ids.Tie as tie
 
-abbrev Inv-loop : tie.InvT-loop
-Inv-loop answer table ids n bound end i₀ i = PassedIn 5 table (notBelow ids bound) end i
+abbrev invariant-loop : tie.invariant-loop
+invariant-loop answer table ids n bound end i₀ i = PassedIn 5 table (not_below ids bound) end i
 
-abbrev μ-loop : tie.MeasureT-loop
-μ-loop answer table ids n bound end i₀ i = end - i
+abbrev decreases-loop : tie.decreases-loop
+decreases-loop answer table ids n bound end i₀ i = end - i
 
-to-check-requires : tie.Need-to-check-requires Inv-loop μ-loop
-to-check-requires c κs = search needs
+to-check-requires : tie.Need-to-check-requires invariant-loop decreases-loop
+to-check-requires c κs = search rules
 
-all-below-requires : tie.Need-all-below-requires Inv-loop μ-loop
-all-below-requires c κs = search needs
+all-below-requires : tie.Need-all-below-requires invariant-loop decreases-loop
+all-below-requires c κs = search rules
 
-begin-at-requires : tie.Need-begin-at-requires Inv-loop μ-loop
-begin-at-requires c κs = search needs
+begin-at-requires : tie.Need-begin-at-requires invariant-loop decreases-loop
+begin-at-requires c κs = search rules
 
-loop-holds : tie.Need-loop-holds Inv-loop μ-loop
-loop-holds c = begun (c .before .all-below .ensures) (c .begin-at .ensures)
+loop-holds : tie.Need-loop-init invariant-loop decreases-loop
+loop-holds c = begun c.before.all-below.ensures c.begin-at.ensures
 
-mul-bad : tie.Need-mul-bad Inv-loop μ-loop
-mul-bad c = search needs
+mul-bad : tie.Need-overflow-mul-bad invariant-loop decreases-loop
+mul-bad c = search rules
 
-shared-slice-read-bad : tie.Need-shared-slice-read-bad Inv-loop μ-loop
-shared-slice-read-bad c = search needs
+shared-slice-read-bad : tie.Need-shared-slice-read-bad invariant-loop decreases-loop
+shared-slice-read-bad c = search rules
 
-add-i : tie.Need-add-i Inv-loop μ-loop
-add-i c = search needs
+add-i : tie.Need-overflow-add-i invariant-loop decreases-loop
+add-i c = search rules
 
-loop-less : tie.Need-loop-less Inv-loop μ-loop
-loop-less c = search needs
+loop-less : tie.Need-loop-smaller invariant-loop decreases-loop
+loop-less c = search rules
 
-loop-again : tie.Need-loop-again Inv-loop μ-loop
-loop-again c = step (c .before .before .before .loop .inv) (omega arith) (c .if1 .left)
+loop-again : tie.Need-loop-preserved invariant-loop decreases-loop
+loop-again c = step c.before.before.before.loop.invariant (omega arith) c.if1.false
 
-refuse-in-requires : tie.Need-refuse-in-requires Inv-loop μ-loop
-refuse-in-requires c κs = search needs
+refuse-in-requires : tie.Need-refuse-in-requires invariant-loop decreases-loop
+refuse-in-requires c κs = search rules
 
-returns : tie.Need-returns Inv-loop μ-loop
-returns c = answered _ _ (c .refuse-in .ensures) (c .before .before .before .before .before .to-check .ensures .1) (c .before .before .loop .inv) (λ w. w .left) (λ w. (w .0 .taken, w .2 .taken)) (c .before .loop-test .came)
+returns : tie.Need-returns invariant-loop decreases-loop
+returns c = answered _ _ c.refuse-in.ensures c.before.before.before.before.before.to-check.ensures.1 c.before.before.loop.invariant (λ w. w.left) (λ w. (w.0.taken, w.2.taken)) c.before.loop-test.branch
 
 pub check-ids-spec : {M : Type 1} → statement M
 check-ids-spec =
     tie.close
     (tie.spec
-    Inv-loop
-    μ-loop
+    invariant-loop
+    decreases-loop
     to-check-requires
     all-below-requires
     begin-at-requires

@@ -1,62 +1,62 @@
 -- `table_checks::check_numbers` meets its contract, by the laws of a search. Assumes nothing.
-use mathlib.Core.Path.{sym, _∙_}
-use Prim.Native.Nat.{_-_}
+use mathlib.Core.Path.{sym, ◌∙◌}
+use Prim.Native.Nat.{◌-◌}
 use native.Mathlib.Omega.{arith}
-use borrow.Author.Needs.{needs}
-use Rattle·refusals.specs.Tables.{notFinite}
-use Rattle·refusals.proofs.Laws.{PassedIn, step, answered}
-use Rattle·table_checks·proofs.proofs.Passing.{begun, finite-passed}
-use Rattle·table_checks·proofs.proofs.check_numbers.Statement.{statement}
-use Rattle·table_checks·proofs.proofs.check_numbers.Tie as tie
+use borrow.Author.Rules.{rules}
+use Rattle.refusals.specs.Tables.{not_finite}
+use Rattle.refusals.proofs.Laws.{PassedIn, step, answered}
+use Rattle.table_checks.proofs.Passing.{begun, finite_passed}
+use Rattle.table_checks.proofs.check_numbers.Statement.{statement}
+use Rattle.table_checks.proofs.check_numbers.Tie as tie
 
-abbrev Inv-loop : tie.InvT-loop
-Inv-loop answer table numbers n end i₀ i = PassedIn 6 table (notFinite numbers) end i
+abbrev invariant-loop : tie.invariant-loop
+invariant-loop answer table numbers n end i₀ i = PassedIn 6 table (not_finite numbers) end i
 
-abbrev μ-loop : tie.MeasureT-loop
-μ-loop answer table numbers n end i₀ i = end - i
+abbrev decreases-loop : tie.decreases-loop
+decreases-loop answer table numbers n end i₀ i = end - i
 
-to-check-requires : tie.Need-to-check-requires Inv-loop μ-loop
-to-check-requires c κs = search needs
+to-check-requires : tie.Need-to-check-requires invariant-loop decreases-loop
+to-check-requires c κs = search rules
 
-all-finite-requires : tie.Need-all-finite-requires Inv-loop μ-loop
-all-finite-requires c κs = search needs
+all-finite-requires : tie.Need-all-finite-requires invariant-loop decreases-loop
+all-finite-requires c κs = search rules
 
-begin-at-requires : tie.Need-begin-at-requires Inv-loop μ-loop
-begin-at-requires c κs = search needs
+begin-at-requires : tie.Need-begin-at-requires invariant-loop decreases-loop
+begin-at-requires c κs = search rules
 
-loop-holds : tie.Need-loop-holds Inv-loop μ-loop
-loop-holds c = begun (λ h. finite-passed _ _ (sym (c .before .all-finite .ensures) ∙ h)) (c .begin-at .ensures)
+loop-holds : tie.Need-loop-init invariant-loop decreases-loop
+loop-holds c = begun (λ h. finite_passed _ _ (sym c.before.all-finite.ensures ∙ h)) c.begin-at.ensures
 
-mul-is-finite : tie.Need-mul-is-finite Inv-loop μ-loop
-mul-is-finite c = search needs
+mul-is-finite : tie.Need-overflow-mul-is-finite invariant-loop decreases-loop
+mul-is-finite c = search rules
 
-shared-slice-read-is-finite : tie.Need-shared-slice-read-is-finite Inv-loop μ-loop
-shared-slice-read-is-finite c = search needs
+shared-slice-read-is-finite : tie.Need-shared-slice-read-is-finite invariant-loop decreases-loop
+shared-slice-read-is-finite c = search rules
 
-is-finite-requires : tie.Need-is-finite-requires Inv-loop μ-loop
-is-finite-requires c κs = search needs
+is-finite-requires : tie.Need-is-finite-requires invariant-loop decreases-loop
+is-finite-requires c κs = search rules
 
-add-i : tie.Need-add-i Inv-loop μ-loop
-add-i c = search needs
+add-i : tie.Need-overflow-add-i invariant-loop decreases-loop
+add-i c = search rules
 
-loop-less : tie.Need-loop-less Inv-loop μ-loop
-loop-less c = search needs
+loop-less : tie.Need-loop-smaller invariant-loop decreases-loop
+loop-less c = search rules
 
-loop-again : tie.Need-loop-again Inv-loop μ-loop
-loop-again c = step (c .before .before .before .before .loop .inv) (omega arith) (rw (c .before .is-finite .ensures) at (c .if1 .left))
+loop-again : tie.Need-loop-preserved invariant-loop decreases-loop
+loop-again c = step c.before.before.before.before.loop.invariant (omega arith) (rw c.before.is_finite.ensures at c.if1.false)
 
-refuse-in-requires : tie.Need-refuse-in-requires Inv-loop μ-loop
-refuse-in-requires c κs = search needs
+refuse-in-requires : tie.Need-refuse-in-requires invariant-loop decreases-loop
+refuse-in-requires c κs = search rules
 
-returns : tie.Need-returns Inv-loop μ-loop
-returns c = answered _ _ (c .refuse-in .ensures) (c .before .before .before .before .before .to-check .ensures .1) (c .before .before .loop .inv) (λ w. w .left) (λ w. (w .0 .taken, rw (w .2 .ensures) at (w .3 .taken))) (c .before .loop-test .came)
+returns : tie.Need-returns invariant-loop decreases-loop
+returns c = answered _ _ c.refuse-in.ensures c.before.before.before.before.before.to-check.ensures.1 c.before.before.loop.invariant (λ w. w.left) (λ w. (w.0.taken, rw w.2.ensures at w.3.taken)) c.before.loop-test.branch
 
 pub check-numbers-spec : {M : Type 1} → statement M
 check-numbers-spec =
     tie.close
     (tie.spec
-    Inv-loop
-    μ-loop
+    invariant-loop
+    decreases-loop
     to-check-requires
     all-finite-requires
     begin-at-requires

@@ -1,58 +1,58 @@
 -- `table_checks::check_starts` meets its contract, by the laws of a search. Assumes nothing.
-use Prim.Native.Nat.{_-_}
-use mathlib.Core.Path.{_≡_, refl}
+use Prim.Native.Nat.{◌-◌}
+use mathlib.Core.Path.{◌≡◌, refl}
 use native.Mathlib.Numerals.{add-one}
 use native.Mathlib.Omega.{arith}
-use borrow.Author.Needs.{needs}
-use Rattle·refusals.specs.Tables.{badStart, startBefore}
-use Rattle·refusals.proofs.Laws.{Passed, begin, step, answered}
-use Rattle·table_checks·proofs.proofs.check_starts.Statement.{statement}
-use Rattle·table_checks·proofs.proofs.check_starts.Tie as tie
+use borrow.Author.Rules.{rules}
+use Rattle.refusals.specs.Tables.{bad_start, start_before}
+use Rattle.refusals.proofs.Laws.{Passed, begin, step, answered}
+use Rattle.table_checks.proofs.check_starts.Statement.{statement}
+use Rattle.table_checks.proofs.check_starts.Tie as tie
 
-abbrev Inv-loop : tie.InvT-loop
-Inv-loop answer starts n entries end low₀ i₀ low i = Passed 3 (badStart starts n entries) end i × (low ≡ startBefore starts i)
+abbrev invariant-loop : tie.invariant-loop
+invariant-loop answer starts n entries end low₀ i₀ low i = Passed 3 (bad_start starts n entries) end i × (low ≡ start_before starts i)
 
-abbrev μ-loop : tie.MeasureT-loop
-μ-loop answer starts n entries end low₀ i₀ low i = end - i
+abbrev decreases-loop : tie.decreases-loop
+decreases-loop answer starts n entries end low₀ i₀ low i = end - i
 
-add-to-check : tie.Need-add-to-check Inv-loop μ-loop
-add-to-check c = search needs
+add-to-check : tie.Need-overflow-add-to-check invariant-loop decreases-loop
+add-to-check c = search rules
 
-to-check-requires : tie.Need-to-check-requires Inv-loop μ-loop
-to-check-requires c κs = search needs
+to-check-requires : tie.Need-to-check-requires invariant-loop decreases-loop
+to-check-requires c κs = search rules
 
-loop-holds : tie.Need-loop-holds Inv-loop μ-loop
+loop-holds : tie.Need-loop-init invariant-loop decreases-loop
 loop-holds c = (begin, refl)
 
-mul-start : tie.Need-mul-start Inv-loop μ-loop
-mul-start c = search needs
+mul-start : tie.Need-overflow-mul-start invariant-loop decreases-loop
+mul-start c = search rules
 
-shared-slice-read-start : tie.Need-shared-slice-read-start Inv-loop μ-loop
-shared-slice-read-start c = search needs
+shared-slice-read-start : tie.Need-shared-slice-read-start invariant-loop decreases-loop
+shared-slice-read-start c = search rules
 
-add-i : tie.Need-add-i Inv-loop μ-loop
-add-i c = search needs
+add-i : tie.Need-overflow-add-i invariant-loop decreases-loop
+add-i c = search rules
 
-loop-less : tie.Need-loop-less Inv-loop μ-loop
-loop-less c = search needs
+loop-less : tie.Need-loop-smaller invariant-loop decreases-loop
+loop-less c = search rules
 
-loop-again : tie.Need-loop-again Inv-loop μ-loop
+loop-again : tie.Need-loop-preserved invariant-loop decreases-loop
 loop-again c =
-    let l = c .before .before .before .loop in
-    (step (l .inv .0) (omega arith) (rw (l .inv .1) at (c .if1 .left)), rw add-one)
+    let l = c.before.before.before.loop in
+    (step l.invariant.0 (omega arith) (rw l.invariant.1 at c.if1.false), rw add-one)
 
-refuse-if-requires : tie.Need-refuse-if-requires Inv-loop μ-loop
-refuse-if-requires c κs = search needs
+refuse-if-requires : tie.Need-refuse-if-requires invariant-loop decreases-loop
+refuse-if-requires c κs = search rules
 
-returns : tie.Need-returns Inv-loop μ-loop
-returns c = answered _ _ (c .refuse-if .ensures) (c .before .before .before .to-check .ensures .1) (c .before .before .loop .inv .0) (λ w. w .left) (λ w. (w .0 .taken, rw (c .before .before .loop .inv .1) at (w .2 .taken))) (c .before .loop-test .came)
+returns : tie.Need-returns invariant-loop decreases-loop
+returns c = answered _ _ c.refuse-if.ensures c.before.before.before.to-check.ensures.1 c.before.before.loop.invariant.0 (λ w. w.left) (λ w. (w.0.taken, rw c.before.before.loop.invariant.1 at w.2.taken)) c.before.loop-test.branch
 
 pub check-starts-spec : {M : Type 1} → statement M
 check-starts-spec =
     tie.close
     (tie.spec
-    Inv-loop
-    μ-loop
+    invariant-loop
+    decreases-loop
     add-to-check
     to-check-requires
     loop-holds

@@ -1,20 +1,20 @@
 -- `text_bytes::check_bytes` meets its contract. Assumes nothing.
-use Rattle·text_bytes·proofs.proofs.Told.{bytes-said}
-use borrow.Author.Needs.{needs}
-use Rattle·text_bytes·proofs.proofs.check_bytes.Statement.{statement}
-use Rattle·text_bytes·proofs.proofs.check_bytes.Tie as tie
+use Rattle.text_bytes.proofs.Told.{bytes_said}
+use borrow.Author.Rules.{rules}
+use Rattle.text_bytes.proofs.check_bytes.Statement.{statement}
+use Rattle.text_bytes.proofs.check_bytes.Tie as tie
 
 look-through-requires : tie.Need-look-through-requires
-look-through-requires c κs = search needs
+look-through-requires c κs = search rules
 
 well-formed-requires : tie.Need-well-formed-requires
-well-formed-requires c κs = search needs
+well-formed-requires c κs = search rules
 
 too-long-requires : tie.Need-too-long-requires
-too-long-requires c κs = search needs
+too-long-requires c κs = search rules
 
 or-next-requires : tie.Need-or-next-requires
-or-next-requires c κs = search needs
+or-next-requires c κs = search rules
 
 returns : tie.Need-returns
 returns c =
@@ -22,7 +22,7 @@ returns c =
     let n : tie.After-too-long = search in
     let w : tie.After-well-formed = search in
     let l : tie.After-look-through = search in
-    bytes-said _ (l .look-through .ensures) (w .well-formed .ensures) (n .too-long .ensures) (r .or-next .ensures)
+    bytes_said _ l.look-through.ensures w.well-formed.ensures n.too_long.ensures r.or-next.ensures
 
 pub check-bytes-spec : {M : Type 1} → statement M
 check-bytes-spec =

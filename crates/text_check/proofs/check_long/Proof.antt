@@ -1,26 +1,26 @@
 -- `text_check::check_long` meets its contract. Assumes nothing.
-use borrow.Author.Needs.{needs}
-use Rattle·text_check·proofs.proofs.Long.{long-none, long-some}
-use Rattle·text_check·proofs.proofs.check_long.Statement.{statement}
-use Rattle·text_check·proofs.proofs.check_long.Tie as tie
+use borrow.Author.Rules.{rules}
+use Rattle.text_check.proofs.Long.{long_none, long_some}
+use Rattle.text_check.proofs.check_long.Statement.{statement}
+use Rattle.text_check.proofs.check_long.Tie as tie
 
 returns : tie.Need-returns
-returns c = long-none _ _ (c .if1 .taken)
+returns c = long_none _ _ c.if1.true
 
-sub-refused : tie.Need-sub-refused
-sub-refused c = search needs
+sub-refused : tie.Need-overflow-sub-refused
+sub-refused c = search rules
 
 refused-requires : tie.Need-refused-requires
-refused-requires c κs = search needs
+refused-requires c κs = search rules
 
 or-next-requires : tie.Need-or-next-requires
-or-next-requires c κs = search needs
+or-next-requires c κs = search rules
 
 returns-2 : tie.Need-returns-2
 returns-2 c =
     let e : tie.Else1 = search in
     let r : tie.After-refused = search in
-    long-some _ _ _ _ (e .if1 .left) (r .refused .ensures) (c .or-next .ensures)
+    long_some _ _ _ _ e.if1.left r.refused.ensures c.or-next.ensures
 
 pub check-long-spec : {M : Type 1} → statement M
 check-long-spec =

@@ -1,31 +1,31 @@
 -- `text_writing::put_scale` meets its contract. Assumes nothing.
 use mathlib.Core.Path.{sym}
-use Rattle·byte_buffers.proofs.Laws.{put-nothing, put-then, room-first, room-next, put-as}
-use Rattle·text_writing·proofs.proofs.Laws.{part-stands, scale-none, scale-some, room-as}
-use borrow.Author.Needs.{needs}
-use Rattle·text_writing·proofs.proofs.put_scale.Statement.{statement}
-use Rattle·text_writing·proofs.proofs.put_scale.Tie as tie
-use Rattle·text_writing·proofs.proofs.put_scale.Reads as reads
-use Rattle·text_writing·proofs.proofs.put_scale.Lts as lts
-use Rattle·lines.proofs.at.Reads as at-reads
-use Rattle·byte_buffers.proofs.put_byte.Reads as put-byte-reads
-use Rattle·byte_buffers.proofs.put_bytes.Reads as put-bytes-reads
+use Rattle.byte_buffers.proofs.Laws.{put_nothing, put_then, room_first, room_next, put_as}
+use Rattle.text_writing.proofs.Laws.{part_stands, scale_none, scale_some, room_as}
+use borrow.Author.Rules.{rules}
+use Rattle.text_writing.proofs.put_scale.Statement.{statement}
+use Rattle.text_writing.proofs.put_scale.Tie as tie
+use Rattle.text_writing.proofs.put_scale.Reads as reads
+use Rattle.text_writing.proofs.put_scale.Lts as lts
+use Rattle.lines.proofs.at.Reads as at_reads
+use Rattle.byte_buffers.proofs.put_byte.Reads as put_byte_reads
+use Rattle.byte_buffers.proofs.put_bytes.Reads as put_bytes_reads
 
 at-requires : tie.Need-at-requires
-at-requires c κs = search needs
+at-requires c κs = search rules
 
-add-at : tie.Need-add-at
-add-at c = search needs
+add_at : tie.Need-overflow-add-at
+add_at c = search rules
 
 at-requires-2 : tie.Need-at-requires-2
-at-requires-2 c κs = search needs
+at-requires-2 c κs = search rules
 
 returns : tie.Need-returns
 returns c =
     let s : tie.Start = search in
     let a : tie.After-at = search in
     let b : tie.After-at2 = search in
-    put-nothing (scale-none (s .pre .0) (a .at .ensures) (b .at2 .ensures) (c .if1 .taken))
+    put_nothing (scale_none s.pre.0 a.at.ensures b.at2.ensures c.if1.true)
 
 put-byte-requires : tie.Need-put-byte-requires
 put-byte-requires c κs =
@@ -33,7 +33,7 @@ put-byte-requires c κs =
     let a : tie.After-at = search in
     let b : tie.After-at2 = search in
     let e : tie.Else1 = search in
-    room-first _ _ (room-as (sym (scale-some (s .pre .0) (a .at .ensures) (b .at2 .ensures) (e .if1 .left))) (s .pre .1))
+    room_first _ _ (room_as (sym (scale_some s.pre.0 a.at.ensures b.at2.ensures e.if1.left)) s.pre.1)
 
 put-bytes-requires : tie.Need-put-bytes-requires
 put-bytes-requires c κs =
@@ -42,12 +42,12 @@ put-bytes-requires c κs =
     let b : tie.After-at2 = search in
     let e : tie.Else1 = search in
     let p : tie.After-put-byte = search in (
-      part-stands (s .pre .0) (a .at .ensures) (b .at2 .ensures),
-      room-next _ (p .put-byte .ensures) (room-as (sym (scale-some (s .pre .0) (a .at .ensures) (b .at2 .ensures) (e .if1 .left))) (s .pre .1)),
+      part_stands s.pre.0 a.at.ensures b.at2.ensures,
+      room_next _ p.put_byte.ensures (room_as (sym (scale_some s.pre.0 a.at.ensures b.at2.ensures e.if1.left)) s.pre.1),
     )
 
-same-length : tie.Need-same-length
-same-length c = search needs
+same_length : tie.Need-same-length
+same_length c = search rules
 
 returns-2 : tie.Need-returns-2
 returns-2 c =
@@ -57,17 +57,17 @@ returns-2 c =
     let e : tie.Else1 = search in
     let p : tie.After-put-byte = search in
     let q : tie.After-put-bytes = search in
-    put-as (sym (scale-some (s .pre .0) (a .at .ensures) (b .at2 .ensures) (e .if1 .left))) (put-then (p .put-byte .ensures) (q .put-bytes .ensures))
+    put_as (sym (scale_some s.pre.0 a.at.ensures b.at2.ensures e.if1.left)) (put_then p.put_byte.ensures q.put-bytes.ensures)
 
 pub put-scale-spec : {M : Type 1} → statement M
 put-scale-spec =
     tie.close
     (tie.spec
     at-requires
-    add-at
+    add_at
     at-requires-2
     returns
     put-byte-requires
     put-bytes-requires
-    same-length
+    same_length
     returns-2)

@@ -1,75 +1,75 @@
 -- `text_writing::put_words` meets its contract. Assumes nothing.
-use Prim.Native.Nat.{_-_}
+use Prim.Native.Nat.{◌-◌}
 use native.Mathlib.Omega.{arith}
-use borrow.Author.Needs.{needs}
-use Rattle·text_writing·specs.specs.Ready.{strings, wordTables, wordBytes, eachFrom}
-use Rattle·byte_buffers.proofs.Onto.{Onto, onto-starts, onto-as, onto-part, onto-put, onto-over}
-use Rattle·text_writing·proofs.proofs.Laws.{each-first, each-over}
-use Rattle·text_writing·proofs.proofs.put_words.Statement.{statement}
-use Rattle·text_writing·proofs.proofs.put_words.Tie as tie
-use Rattle·text_writing·proofs.proofs.put_words.Reads as reads
-use Rattle·text_writing·proofs.proofs.put_words.Lts as lts
-use Rattle·text_writing·proofs.proofs.put_word.Reads as put-word-reads
+use borrow.Author.Rules.{rules}
+use Rattle.text_writing.specs.Ready.{strings, word_tables, word_bytes, each_from}
+use Rattle.byte_buffers.proofs.Onto.{Onto, onto_starts, onto_as, onto_part, onto_put, onto_over}
+use Rattle.text_writing.proofs.Laws.{each_first, each_over}
+use Rattle.text_writing.proofs.put_words.Statement.{statement}
+use Rattle.text_writing.proofs.put_words.Tie as tie
+use Rattle.text_writing.proofs.put_words.Reads as reads
+use Rattle.text_writing.proofs.put_words.Lts as lts
+use Rattle.text_writing.proofs.put_word.Reads as put_word_reads
 
-abbrev Inv-loop : tie.InvT-loop
-Inv-loop text₀ at begins ids references label-starts labels name-starts names scale-starts scales first end w₀ k₀ text w k =
-    let t = wordTables begins ids references (strings label-starts labels) (strings name-starts names) (strings scale-starts scales) in
-    Onto (eachFrom (wordBytes t) w (end - w)) (eachFrom (wordBytes t) first (end - first)) k at text text₀
+abbrev invariant-loop : tie.invariant-loop
+invariant-loop text₀ at begins ids references label_starts_lem labels name_starts_lem names scale_starts_lem scales first end w₀ k₀ text w k =
+    let t = word_tables begins ids references (strings label_starts_lem labels) (strings name_starts_lem names) (strings scale_starts_lem scales) in
+    Onto (each_from (word_bytes t) w (end - w)) (each_from (word_bytes t) first (end - first)) k at text text₀
 
-abbrev μ-loop : tie.MeasureT-loop
-μ-loop text₀ at begins ids references label-starts labels name-starts names scale-starts scales first end w₀ k₀ text w k =
+abbrev decreases-loop : tie.decreases-loop
+decreases-loop text₀ at begins ids references label_starts_lem labels name_starts_lem names scale_starts_lem scales first end w₀ k₀ text w k =
     end - w
 
-abbrev entry : tie.At-loop Inv-loop μ-loop → tie.Start Inv-loop μ-loop
+abbrev entry : tie.At-loop invariant-loop decreases-loop → tie.Start invariant-loop decreases-loop
 entry c = search
 
-loop-holds : tie.Need-loop-holds Inv-loop μ-loop
+loop-holds : tie.Need-loop-init invariant-loop decreases-loop
 loop-holds c =
-    let s : tie.Start Inv-loop μ-loop = search in
-    onto-starts (s .pre .1)
+    let s : tie.Start invariant-loop decreases-loop = search in
+    onto_starts s.pre.1
 
-put-word-requires : tie.Need-put-word-requires Inv-loop μ-loop
+put-word-requires : tie.Need-put-word-requires invariant-loop decreases-loop
 put-word-requires c κs =
-    let l : tie.At-loop Inv-loop μ-loop = search in
-    let t : tie.In-loop Inv-loop μ-loop = search in
-    let s : tie.Start Inv-loop μ-loop = entry l in
-    let g = onto-as (each-first _ _ _ (t .loop-test .taken)) (l .loop .inv) in
-    (s .pre .0 _ (t .loop-test .taken), onto-part _ _ g)
+    let l : tie.At-loop invariant-loop decreases-loop = search in
+    let t : tie.In-loop invariant-loop decreases-loop = search in
+    let s : tie.Start invariant-loop decreases-loop = entry l in
+    let g = onto_as (each_first _ _ _ t.loop-test.taken) l.loop.inv in
+    (s.pre.0 _ t.loop-test.taken, onto_part _ _ g)
 
-add-w : tie.Need-add-w Inv-loop μ-loop
-add-w c = search needs
+add-w : tie.Need-overflow-add-w invariant-loop decreases-loop
+add-w c = search rules
 
-loop-less : tie.Need-loop-less Inv-loop μ-loop
+loop-less : tie.Need-loop-smaller invariant-loop decreases-loop
 loop-less c = omega arith
 
-loop-again : tie.Need-loop-again Inv-loop μ-loop
+loop-again : tie.Need-loop-preserved invariant-loop decreases-loop
 loop-again c =
-    let l : tie.At-loop Inv-loop μ-loop = search in
-    let t : tie.In-loop Inv-loop μ-loop = search in
-    let g = onto-as (each-first _ _ _ (t .loop-test .taken)) (l .loop .inv) in
-    let p : tie.After-put-word Inv-loop μ-loop = search in
-    onto-put _ _ (p .put-word .ensures) g
+    let l : tie.At-loop invariant-loop decreases-loop = search in
+    let t : tie.In-loop invariant-loop decreases-loop = search in
+    let g = onto_as (each_first _ _ _ t.loop-test.taken) l.loop.inv in
+    let p : tie.After-put-word invariant-loop decreases-loop = search in
+    onto_put _ _ p.put_word.ensures g
 
-same-length : tie.Need-same-length Inv-loop μ-loop
-same-length c =
-    let l : tie.At-loop Inv-loop μ-loop = search in
-    l .loop .inv .long
+same_length : tie.Need-same-length invariant-loop decreases-loop
+same_length c =
+    let l : tie.At-loop invariant-loop decreases-loop = search in
+    l.loop.inv.long
 
-returns : tie.Need-returns Inv-loop μ-loop
+returns : tie.Need-returns invariant-loop decreases-loop
 returns c =
-    let l : tie.At-loop Inv-loop μ-loop = search in
-    onto-over (onto-as (each-over _ _ _ (c .loop-test .left)) (l .loop .inv))
+    let l : tie.At-loop invariant-loop decreases-loop = search in
+    onto_over (onto_as (each_over _ _ _ c.loop-test.false) l.loop.inv)
 
 pub put-words-spec : {M : Type 1} → statement M
 put-words-spec =
     tie.close
     (tie.spec
-    Inv-loop
-    μ-loop
+    invariant-loop
+    decreases-loop
     loop-holds
     put-word-requires
     add-w
     loop-less
     loop-again
-    same-length
+    same_length
     returns)

@@ -1,31 +1,31 @@
 -- `training_check::check_data` meets its contract. Assumes nothing.
 use mathlib.Core.Path.{refl}
-use borrow.Author.Needs.{needs}
-use Rattle·refusals.specs.Bounds.{instanceWeightTable}
-use Rattle·training_check·proofs.proofs.Laws.{data-joined}
-use Rattle·training_check·proofs.proofs.check_data.Statement.{statement}
-use Rattle·training_check·proofs.proofs.check_data.Tie as tie
+use borrow.Author.Rules.{rules}
+use Rattle.refusals.specs.Bounds.{instance_weight_table}
+use Rattle.training_check.proofs.Laws.{data_joined}
+use Rattle.training_check.proofs.check_data.Statement.{statement}
+use Rattle.training_check.proofs.check_data.Tie as tie
 
 check-instances-requires : tie.Need-check-instances-requires
-check-instances-requires c κs = search needs
+check-instances-requires c κs = search rules
 
 check-line-requires : tie.Need-check-line-requires
-check-line-requires c κs = search needs
+check-line-requires c κs = search rules
 
 sooner-requires : tie.Need-sooner-requires
-sooner-requires c κs = search needs
+sooner-requires c κs = search rules
 
 check-labels-requires : tie.Need-check-labels-requires
-check-labels-requires c κs = search needs
+check-labels-requires c κs = search rules
 
 sooner-requires-2 : tie.Need-sooner-requires-2
-sooner-requires-2 c κs = search needs
+sooner-requires-2 c κs = search rules
 
 check-weights-requires : tie.Need-check-weights-requires
-check-weights-requires c κs = search needs
+check-weights-requires c κs = search rules
 
 sooner-requires-3 : tie.Need-sooner-requires-3
-sooner-requires-3 c κs = search needs
+sooner-requires-3 c κs = search rules
 
 returns : tie.Need-returns
 returns c =
@@ -35,7 +35,7 @@ returns c =
     let s : tie.After-sooner = search in
     let l : tie.After-check-line = search in
     let i : tie.After-check-instances = search in
-    data-joined _ _ (i .check-instances .ensures) (l .check-line .ensures) (s .sooner .ensures) (p .check-labels .ensures) (t .sooner2 .ensures) (w .check-weights .ensures instanceWeightTable refl) (c .sooner3 .ensures)
+    data_joined _ _ i.check-instances.ensures l.check-line.ensures s.sooner.ensures p.check-labels.ensures t.sooner2.ensures (w.check-weights.ensures instance_weight_table refl) c.sooner3.ensures
 
 pub check-data-spec : {M : Type 1} → statement M
 check-data-spec =

@@ -1,34 +1,34 @@
 -- `training_check::check_sizes` meets its contract. Assumes nothing.
-use borrow.Author.Needs.{needs}
-use Rattle·training_check·specs.specs.Parts.{instancesSized}
-use Rattle·training_check·proofs.proofs.check_sizes.Statement.{statement}
-use Rattle·training_check·proofs.proofs.check_sizes.Tie as tie
+use borrow.Author.Rules.{rules}
+use Rattle.training_check.specs.Parts.{instances_sized}
+use Rattle.training_check.proofs.check_sizes.Statement.{statement}
+use Rattle.training_check.proofs.check_sizes.Tie as tie
 
 is-outside-requires : tie.Need-is-outside-requires
-is-outside-requires c κs = search needs
+is-outside-requires c κs = search rules
 
-cast-starts : tie.Need-cast-starts
-cast-starts c = search needs
+cast-starts : tie.Need-overflow-cast-starts
+cast-starts c = search rules
 
-add-starts : tie.Need-add-starts
-add-starts c = search needs
+add-starts : tie.Need-overflow-add-starts
+add-starts c = search rules
 
 refuse-if-requires : tie.Need-refuse-if-requires
-refuse-if-requires c κs = search needs
+refuse-if-requires c κs = search rules
 
 refuse-if-requires-2 : tie.Need-refuse-if-requires-2
-refuse-if-requires-2 c κs = search needs
+refuse-if-requires-2 c κs = search rules
 
 refuse-if-requires-3 : tie.Need-refuse-if-requires-3
-refuse-if-requires-3 c κs = search needs
+refuse-if-requires-3 c κs = search rules
 
 returns : tie.Need-returns
-unfolding instancesSized
+unfolding instances_sized
 returns c =
     let d : tie.After-refuse-if2 = search in
     let e : tie.After-refuse-if = search in
     let o : tie.After-is-outside = search in
-    rw (c .refuse-if3 .ensures, d .refuse-if2 .ensures, e .refuse-if .ensures, o .is-outside .ensures)
+    rw (c.refuse-if3.ensures, d.refuse-if2.ensures, e.refuse-if.ensures, o.is-outside.ensures)
 
 pub check-sizes-spec : {M : Type 1} → statement M
 check-sizes-spec =

@@ -1,46 +1,46 @@
 -- `training_exports::bodkinbloom_averaged_perceptron` meets its contract: what `train` promises, as numbers. Assumes nothing.
 use native.Mathlib.Omega.{arith}
-use borrow.Author.Needs.{needs}
-use Rattle·training_exports·proofs.proofs.Kept.{as-numbers}
-use Rattle·training_exports·proofs.proofs.bodkinbloom_averaged_perceptron.Statement.{statement}
-use Rattle·training_exports·proofs.proofs.bodkinbloom_averaged_perceptron.Tie as tie
+use borrow.Author.Rules.{rules}
+use Rattle.training_exports.proofs.Kept.{as_numbers}
+use Rattle.training_exports.proofs.bodkinbloom_averaged_perceptron.Statement.{statement}
+use Rattle.training_exports.proofs.bodkinbloom_averaged_perceptron.Tie as tie
 
 train-requires : tie.Need-train-requires
-train-requires c κs = search needs
+train-requires c κs = search rules
 
 numbers-of-training-requires : tie.Need-numbers-of-training-requires
-numbers-of-training-requires c κs = search needs
+numbers-of-training-requires c κs = search rules
 
-same-length : tie.Need-same-length
-same-length c =
+same_length : tie.Need-same-length
+same_length c =
     let t : tie.After-train = search in
-    omega (arith, t .train .kept)
+    omega (arith, t.train.kept)
 
 same-length-2 : tie.Need-same-length-2
 same-length-2 c =
     let t : tie.After-train = search in
-    omega (arith, t .train .kept)
+    omega (arith, t.train.kept)
 
 same-length-3 : tie.Need-same-length-3
 same-length-3 c =
     let t : tie.After-train = search in
-    omega (arith, t .train .kept)
+    omega (arith, t.train.kept)
 
 same-length-4 : tie.Need-same-length-4
 same-length-4 c =
     let t : tie.After-train = search in
-    omega (arith, t .train .kept)
+    omega (arith, t.train.kept)
 
 same-length-5 : tie.Need-same-length-5
 same-length-5 c =
     let t : tie.After-train = search in
-    omega (arith, t .train .kept)
+    omega (arith, t.train.kept)
 
 returns : tie.Need-returns
 returns c =
     let t : tie.After-train = search in
-    as-numbers (c .numbers-of-training .ensures) (t .train .ensures)
+    as_numbers c.numbers-of-training.ensures t.train.ensures
 
 pub bodkinbloom-averaged-perceptron-spec : {M : Type 1} → statement M
 bodkinbloom-averaged-perceptron-spec =
-    tie.close (tie.spec train-requires numbers-of-training-requires same-length same-length-2 same-length-3 same-length-4 same-length-5 returns)
+    tie.close (tie.spec train-requires numbers-of-training-requires same_length same-length-2 same-length-3 same-length-4 same-length-5 returns)

@@ -1,80 +1,80 @@
 -- `training_tables::average` meets its contract: the loop is a pass of `averagedAt`, and the flag the finite test of what it stored. Assumes nothing.
-use mathlib.Core.Path.{_≡_, refl, _∙_}
-use Prim.Native.Nat.{_≤_, _-_}
+use mathlib.Core.Path.{◌≡◌, refl, ◌∙◌}
+use Prim.Native.Nat.{◌≤◌, ◌-◌}
 use native.Mathlib.Omega.{arith}
-use borrow.Author.Needs.{needs}
+use borrow.Author.Rules.{rules}
 use lib.ListN.{length}
-use Rattle·lines.specs.Passes.{through}
-use Rattle·fronts.specs.Finite.{allFinite}
-use Rattle·training.specs.Rules.{averagedAt}
-use Rattle·lines.proofs.Laws.{through-none, through-next, through-end}
-use Rattle·fronts.proofs.Finite.{finite-none, finite-stored, flag-next, finite-end}
-use Rattle·training_tables·proofs.proofs.average.Statement.{statement}
-use Rattle·training_tables·proofs.proofs.average.Tie as tie
+use Rattle.lines.specs.Passes.{through}
+use Rattle.fronts.specs.Finite.{all_finite_of}
+use Rattle.training.specs.Rules.{averaged_at}
+use Rattle.lines.proofs.Laws.{through_none, through_next, through_end}
+use Rattle.fronts.proofs.Finite.{finite_none, finite_stored, flag_next, finite_end}
+use Rattle.training_tables.proofs.average.Statement.{statement}
+use Rattle.training_tables.proofs.average.Tie as tie
 
-abbrev Inv-loop : tie.InvT-loop
-Inv-loop features counter sums weights₀ all₀ i₀ weights all i = (i ≤ features) × (length weights ≡ length weights₀) × (weights ≡ through (averagedAt counter sums) 0 i weights₀) × (all ≡ allFinite weights i)
+abbrev invariant-loop : tie.invariant-loop
+invariant-loop features counter sums weights₀ all₀ i₀ weights all i = (i ≤ features) × (length weights ≡ length weights₀) × (weights ≡ through (averaged_at counter sums) 0 i weights₀) × (all ≡ all_finite_of weights i)
 
-abbrev μ-loop : tie.MeasureT-loop
-μ-loop features counter sums weights₀ all₀ i₀ weights all i = features - i
+abbrev decreases-loop : tie.decreases-loop
+decreases-loop features counter sums weights₀ all₀ i₀ weights all i = features - i
 
-loop-holds : tie.Need-loop-holds Inv-loop μ-loop
-loop-holds c = (omega arith, refl, through-none _ _ _, finite-none _)
+loop-holds : tie.Need-loop-init invariant-loop decreases-loop
+loop-holds c = (omega arith, refl, through_none _ _ _, finite_none _)
 
-mul-w : tie.Need-mul-w Inv-loop μ-loop
-mul-w c = search needs
+mul-w : tie.Need-overflow-mul-w invariant-loop decreases-loop
+mul-w c = search rules
 
-slice-read-w : tie.Need-slice-read-w Inv-loop μ-loop
-slice-read-w c = search needs
+slice-read-w : tie.Need-slice-read-w invariant-loop decreases-loop
+slice-read-w c = search rules
 
-mul-w-2 : tie.Need-mul-w-2 Inv-loop μ-loop
-mul-w-2 c = search needs
+mul-w-2 : tie.Need-overflow-mul-w-2 invariant-loop decreases-loop
+mul-w-2 c = search rules
 
-shared-slice-read-w : tie.Need-shared-slice-read-w Inv-loop μ-loop
-shared-slice-read-w c = search needs
+shared-slice-read-w : tie.Need-shared-slice-read-w invariant-loop decreases-loop
+shared-slice-read-w c = search rules
 
-mul-weights : tie.Need-mul-weights Inv-loop μ-loop
-mul-weights c = search needs
+mul-weights : tie.Need-overflow-mul-weights invariant-loop decreases-loop
+mul-weights c = search rules
 
-slice-write-weights : tie.Need-slice-write-weights Inv-loop μ-loop
-slice-write-weights c = search needs
+slice-write-weights : tie.Need-slice-write-weights invariant-loop decreases-loop
+slice-write-weights c = search rules
 
-is-finite-requires : tie.Need-is-finite-requires Inv-loop μ-loop
-is-finite-requires c κs = search needs
+is-finite-requires : tie.Need-is-finite-requires invariant-loop decreases-loop
+is-finite-requires c κs = search rules
 
-add-i : tie.Need-add-i Inv-loop μ-loop
-add-i c = search needs
+add-i : tie.Need-overflow-add-i invariant-loop decreases-loop
+add-i c = search rules
 
-loop-less : tie.Need-loop-less Inv-loop μ-loop
-loop-less c = search needs
+loop-less : tie.Need-loop-smaller invariant-loop decreases-loop
+loop-less c = search rules
 
-loop-again : tie.Need-loop-again Inv-loop μ-loop
-unfolding averagedAt
+loop-again : tie.Need-loop-preserved invariant-loop decreases-loop
+unfolding averaged_at
 loop-again c =
-    let l = c .before .before .before .before in (
+    let l = c.before.before.before.before in (
       omega arith,
-      search needs,
-      through-next _ _ _ (l .loop .inv .2) refl,
-      flag-next (l .loop .inv .3) (c .is-finite .ensures) (finite-stored _ _ _ (search needs)),
+      search rules,
+      through_next _ _ _ l.loop.invariant.2 refl,
+      flag_next l.loop.invariant.3 c.is_finite.ensures (finite_stored _ _ _ (search rules)),
     )
 
-same-length : tie.Need-same-length Inv-loop μ-loop
-same-length c = search needs
+same_length : tie.Need-same-length invariant-loop decreases-loop
+same_length c = search rules
 
-returns : tie.Need-returns Inv-loop μ-loop
+returns : tie.Need-returns invariant-loop decreases-loop
 returns c =
-    let l = c .before .loop .inv in
+    let l = c.before.loop.invariant in
     record {
-      weights = l .2 ∙ through-end _ _ _ _ (l .0) (c .loop-test .left);
-      finite = l .3 ∙ finite-end _ _ _ (l .0) (c .loop-test .left);
+      weights = l.2 ∙ through_end _ _ _ _ l.0 c.loop-test.false;
+      finite = l.3 ∙ finite_end _ _ _ l.0 c.loop-test.false;
     }
 
 pub average-spec : {M : Type 1} → statement M
 average-spec =
     tie.close
     (tie.spec
-    Inv-loop
-    μ-loop
+    invariant-loop
+    decreases-loop
     loop-holds
     mul-w
     slice-read-w
@@ -86,5 +86,5 @@ average-spec =
     add-i
     loop-less
     loop-again
-    same-length
+    same_length
     returns)

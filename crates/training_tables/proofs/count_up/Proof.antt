@@ -1,59 +1,59 @@
 -- `training_tables::count_up` meets its contract: each place passed has its own place. Assumes nothing.
-use mathlib.Core.Path.{_≡_, refl, sym, _∙_}
-use Prim.Native.Nat.{_≤_, _-_}
+use mathlib.Core.Path.{◌≡◌, refl, sym, ◌∙◌}
+use Prim.Native.Nat.{◌≤◌, ◌-◌}
 use native.Mathlib.Omega.{arith}
-use borrow.Author.Needs.{needs}
+use borrow.Author.Rules.{rules}
 use lib.ListN.{length}
 use native.Mathlib.Nat.{zero-add}
-use Rattle·training.specs.Epochs.{upTo}
-use Rattle·training_tables·proofs.proofs.Counted.{length-counted, getD-counted}
-use Rattle·fronts.proofs.Filled.{filled, filled-none, filled-next, filled-end}
-use Rattle·training_tables·proofs.proofs.count_up.Statement.{statement}
-use Rattle·training_tables·proofs.proofs.count_up.Tie as tie
+use Rattle.training.specs.Epochs.{up_to}
+use Rattle.training_tables.proofs.Counted.{length_counted, get_d_counted}
+use Rattle.fronts.proofs.Filled.{filled, filled_none, filled_next, filled_end}
+use Rattle.training_tables.proofs.count_up.Statement.{statement}
+use Rattle.training_tables.proofs.count_up.Tie as tie
 
-abbrev Inv-loop : tie.InvT-loop
-Inv-loop order₀ n i₀ order i = (i ≤ n) × (length order ≡ length order₀) × (order ≡ filled order₀ (upTo n) i)
+abbrev invariant-loop : tie.invariant-loop
+invariant-loop order₀ n i₀ order i = (i ≤ n) × (length order ≡ length order₀) × (order ≡ filled order₀ (up_to n) i)
 
-abbrev μ-loop : tie.MeasureT-loop
-μ-loop order₀ n i₀ order i = n - i
+abbrev decreases-loop : tie.decreases-loop
+decreases-loop order₀ n i₀ order i = n - i
 
-loop-holds : tie.Need-loop-holds Inv-loop μ-loop
-loop-holds c = (omega arith, refl, filled-none _ _)
+loop-holds : tie.Need-loop-init invariant-loop decreases-loop
+loop-holds c = (omega arith, refl, filled_none _ _)
 
-cast-order : tie.Need-cast-order Inv-loop μ-loop
-cast-order c = search needs
+cast-order : tie.Need-overflow-cast-order invariant-loop decreases-loop
+cast-order c = search rules
 
-mul-order : tie.Need-mul-order Inv-loop μ-loop
-mul-order c = search needs
+mul-order : tie.Need-overflow-mul-order invariant-loop decreases-loop
+mul-order c = search rules
 
-slice-write-order : tie.Need-slice-write-order Inv-loop μ-loop
-slice-write-order c = search needs
+slice-write-order : tie.Need-slice-write-order invariant-loop decreases-loop
+slice-write-order c = search rules
 
-add-i : tie.Need-add-i Inv-loop μ-loop
-add-i c = search needs
+add-i : tie.Need-overflow-add-i invariant-loop decreases-loop
+add-i c = search rules
 
-loop-less : tie.Need-loop-less Inv-loop μ-loop
-loop-less c = search needs
+loop-less : tie.Need-loop-smaller invariant-loop decreases-loop
+loop-less c = search rules
 
-loop-again : tie.Need-loop-again Inv-loop μ-loop
+loop-again : tie.Need-loop-preserved invariant-loop decreases-loop
 loop-again c = (
   omega arith,
-  search needs,
-  filled-next _ _ _ 0 _ (search needs) (rw (length-counted) (c .loop-test .taken)) (c .before .loop .inv .2) (sym (getD-counted 0 _ _ (c .loop-test .taken) ∙ zero-add _)),
+  search rules,
+  filled_next _ _ _ 0 _ (search rules) (rw (length_counted) c.loop-test.true) c.before.loop.invariant.2 (sym (get_d_counted 0 _ _ c.loop-test.true ∙ zero-add _)),
 )
 
-same-length : tie.Need-same-length Inv-loop μ-loop
-same-length c = search needs
+same_length : tie.Need-same-length invariant-loop decreases-loop
+same_length c = search rules
 
-returns : tie.Need-returns Inv-loop μ-loop
-returns c = c .before .loop .inv .2 ∙ filled-end _ _ _ _ (length-counted _ _) (c .before .loop .inv .0) (c .loop-test .left)
+returns : tie.Need-returns invariant-loop decreases-loop
+returns c = c.before.loop.invariant.2 ∙ filled_end _ _ _ _ (length_counted _ _) c.before.loop.invariant.0 c.loop-test.false
 
 pub count-up-spec : {M : Type 1} → statement M
 count-up-spec =
     tie.close
     (tie.spec
-    Inv-loop
-    μ-loop
+    invariant-loop
+    decreases-loop
     loop-holds
     cast-order
     mul-order
@@ -61,5 +61,5 @@ count-up-spec =
     add-i
     loop-less
     loop-again
-    same-length
+    same_length
     returns)

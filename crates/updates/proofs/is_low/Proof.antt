@@ -1,29 +1,29 @@
 -- `updates::is_low` meets its contract, trainer by trainer. Assumes nothing.
-use borrow.Author.Needs.{needs}
-use Rattle·training.specs.Rules.{stops}
-use Rattle·updates·proofs.proofs.is_low.Statement.{statement}
-use Rattle·updates·proofs.proofs.is_low.Tie as tie
+use borrow.Author.Rules.{rules}
+use Rattle.training.specs.Rules.{stops}
+use Rattle.updates.proofs.is_low.Statement.{statement}
+use Rattle.updates.proofs.is_low.Tie as tie
 
-enum-told : tie.Need-enum-told
-enum-told c = search needs
+enum_told : tie.Need-enum-told
+enum_told c = search rules
 
 enum-told-2 : tie.Need-enum-told-2
-enum-told-2 c = search needs
+enum-told-2 c = search rules
 
 enum-told-3 : tie.Need-enum-told-3
-enum-told-3 c = search needs
+enum-told-3 c = search rules
 
 returns : tie.Need-returns
 unfolding stops
-returns c = rw (c .enum-told .given .1)
+returns c = rw c.enum_told.given.1
 
 returns-2 : tie.Need-returns-2
 unfolding stops
-returns-2 c = rw (c .enum-told2 .given .1)
+returns-2 c = rw c.enum-told2.given.1
 
 returns-3 : tie.Need-returns-3
 unfolding stops
-returns-3 c = rw (c .enum-told3 .given .1)
+returns-3 c = rw c.enum-told3.given.1
 
 pub is-low-spec : {M : Type 1} → statement M
-is-low-spec = tie.close (tie.spec enum-told enum-told-2 enum-told-3 returns returns-2 returns-3)
+is-low-spec = tie.close (tie.spec enum_told enum-told-2 enum-told-3 returns returns-2 returns-3)

@@ -1,11 +1,11 @@
 -- `viterbi_decode` meets its contract. Assumes nothing.
-use mathlib.Core.Path.{_≡_, sym, _∙_}
-use Rattle·refusals.specs.declared.Checked.the-variants.{Accepted}
-use Rattle·viterbi·specs.specs.Promise.{Given, checkedOf}
-use Rattle·viterbi·proofs.proofs.Kept.{ready, decoded-kept, refused-kept}
-use borrow.Author.Needs.{needs}
-use Rattle·viterbi·proofs.proofs.viterbi_decode.Statement.{statement}
-use Rattle·viterbi·proofs.proofs.viterbi_decode.Tie as tie
+use mathlib.Core.Path.{◌≡◌, sym, ◌∙◌}
+use Rattle.refusals.specs.declared.Checked.TheVariants.{Accepted}
+use Rattle.viterbi.specs.Promise.{Given, checked_of}
+use Rattle.viterbi.proofs.Kept.{ready, decoded_kept, refused_kept}
+use borrow.Author.Rules.{rules}
+use Rattle.viterbi.proofs.viterbi_decode.Statement.{statement}
+use Rattle.viterbi.proofs.viterbi_decode.Tie as tie
 
 -- the places that facts are taken from, each found from the one after it
 abbrev entry : tie.After-check-decode → tie.Start
@@ -20,29 +20,29 @@ told c = search
 -- what the call is given, and that it is accepted
 abbrev given : tie.Start → Given
 given s =
-    let a = s .args in
-    record { labels = a .labels; words = a .words; transitions = a .transitions .now; states = a .states .now }
+    let a = s.args in
+    record { labels = a.labels; words = a.words; transitions = a.transitions.now; states = a.states.now }
 
-accepted : (e : tie.After-enum-told) → checkedOf (given (entry (checked e))) (entry (checked e) .args .path .now) ≡ Accepted
-accepted e = sym (checked e .check-decode .ensures) ∙ e .enum-told .given .1
+accepted : (e : tie.After-enum-told) → checked_of (given (entry (checked e))) (entry (checked e)).args.path.now ≡ Accepted
+accepted e = sym (checked e).check-decode.ensures ∙ e.enum_told.given.1
 
 check-decode-requires : tie.Need-check-decode-requires
-check-decode-requires c κs = search needs
+check-decode-requires c κs = search rules
 
 enum-known-checked : tie.Need-enum-known-checked
-enum-known-checked c = search needs
+enum-known-checked c = search rules
 
-same-length : tie.Need-same-length
-same-length c = search needs
+same_length : tie.Need-same-length
+same_length c = search rules
 
 returns : tie.Need-returns
 returns c =
     let d : tie.After-check-decode = search in
     let e : tie.After-checked = search in
-    refused-kept _ _ _ (sym (d .check-decode .ensures) ∙ e .checked .given .1)
+    refused_kept _ _ _ (sym d.check-decode.ensures ∙ e.checked.given.1)
 
-enum-told : tie.Need-enum-told
-enum-told c = search needs
+enum_told : tie.Need-enum-told
+enum_told c = search rules
 
 decode-tables-requires : tie.Need-decode-tables-requires
 decode-tables-requires c κs =
@@ -50,13 +50,13 @@ decode-tables-requires c κs =
     ready (given (entry (checked e))) _ (accepted e)
 
 same-length-2 : tie.Need-same-length-2
-same-length-2 c = search needs
+same-length-2 c = search rules
 
 returns-2 : tie.Need-returns-2
 returns-2 c =
     let d : tie.After-decode-tables = search in
     let e = told d in
-    decoded-kept (given (entry (checked e))) _ (accepted e) _ _ (d .decode-tables .ensures)
+    decoded_kept (given (entry (checked e))) _ (accepted e) _ _ d.decode-tables.ensures
 
 pub viterbi-decode-spec : {M : Type 1} → statement M
 viterbi-decode-spec =
@@ -64,9 +64,9 @@ viterbi-decode-spec =
     (tie.spec
     check-decode-requires
     enum-known-checked
-    same-length
+    same_length
     returns
-    enum-told
+    enum_told
     decode-tables-requires
     same-length-2
     returns-2)

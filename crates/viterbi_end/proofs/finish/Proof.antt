@@ -1,11 +1,11 @@
 -- `finish` meets its contract. Assumes nothing.
-use Prim.Native.Nat.{_<_}
+use Prim.Native.Nat.{◌<◌}
 use native.Mathlib.Omega.{arith}
-use borrow.Author.Needs.{needs}
-use Rattle·refusals.specs.Bounds.{theLabels, most}
-use Rattle·viterbi_end·proofs.proofs.Laws.{ended}
-use Rattle·viterbi_end·proofs.proofs.finish.Statement.{statement}
-use Rattle·viterbi_end·proofs.proofs.finish.Tie as tie
+use borrow.Author.Rules.{rules}
+use Rattle.refusals.specs.Bounds.{the_labels, most}
+use Rattle.viterbi_end.proofs.Laws.{ended}
+use Rattle.viterbi_end.proofs.finish.Statement.{statement}
+use Rattle.viterbi_end.proofs.finish.Tie as tie
 
 -- the places that facts are taken from, each found from the one after it
 abbrev entry : tie.After-last-largest → tie.Start
@@ -15,42 +15,42 @@ abbrev picked : tie.After-walk-back → tie.After-last-largest
 picked c = search
 
 -- the last label is within the row
-last-within : (l : tie.After-last-largest) → l .last-largest .result < most theLabels
-last-within l = omega (arith, l .last-largest .ensures .0, entry l .pre .few)
+last_within : (l : tie.After-last-largest) → l.last-largest.result < most the_labels
+last_within l = omega (arith, l.last-largest.ensures.0, (entry l).requires.few)
 
 last-largest-requires : tie.Need-last-largest-requires
-last-largest-requires c κs = search needs
+last-largest-requires c κs = search rules
 
 walk-back-requires : tie.Need-walk-back-requires
 walk-back-requires c κs =
     let l : tie.After-last-largest = search in
-    (entry l .pre, l .last-largest .ensures .0)
+    ((entry l).pre, l.last-largest.ensures.0)
 
-mul-t10 : tie.Need-mul-t10
+mul-t10 : tie.Need-overflow-mul-t10
 mul-t10 c =
     let l : tie.After-last-largest = search in
-    omega (arith, last-within l)
+    omega (arith, last_within l)
 
 element-copy-out-t13 : tie.Need-element-copy-out-t13
 element-copy-out-t13 c =
     let l : tie.After-last-largest = search in
-    last-within l
+    last_within l
 
 lead-of-requires : tie.Need-lead-of-requires
 lead-of-requires c κs =
     let l : tie.After-last-largest = search in
-    (l .last-largest .ensures .0, entry l .pre .few)
+    (l.last-largest.ensures.0, (entry l).pre.few)
 
-same-length : tie.Need-same-length
-same-length c = search needs
+same_length : tie.Need-same-length
+same_length c = search rules
 
 returns : tie.Need-returns
 returns c =
     let w : tie.After-walk-back = search in
-    ended (picked w .last-largest .ensures .1) (c .lead-of .ensures) (w .walk-back .ensures)
+    ended (picked w).last-largest.ensures.1 c.lead-of.ensures w.walk-back.ensures
 
-pub finish-spec : {M : Type 1} → statement M
-finish-spec =
+pub finish_spec : {M : Type 1} → statement M
+finish_spec =
     tie.close
     (tie.spec
     last-largest-requires
@@ -58,5 +58,5 @@ finish-spec =
     mul-t10
     element-copy-out-t13
     lead-of-requires
-    same-length
+    same_length
     returns)

@@ -1,61 +1,61 @@
 -- `keep_steps` meets its contract. The loop's invariant: the labels passed have their mark in its place. Assumes nothing.
-use mathlib.Core.Path.{_≡_, refl}
-use Prim.Native.Nat.{_-_, _≤_}
+use mathlib.Core.Path.{◌≡◌, refl}
+use Prim.Native.Nat.{◌-◌, ◌≤◌}
 use native.Mathlib.Omega.{arith}
-use borrow.Author.Needs.{needs}
-use lib.ListN.{length, getD, length-set}
-use Rattle·viterbi_steps·specs.specs.Written.{written}
-use Rattle·viterbi_steps·proofs.proofs.Written.{written-none, written-more, written-end}
-use Rattle·viterbi_steps·proofs.proofs.keep_steps.Statement.{statement}
-use Rattle·viterbi_steps·proofs.proofs.keep_steps.Tie as tie
+use borrow.Author.Rules.{rules}
+use lib.ListN.{length, get_or, length-set}
+use Rattle.viterbi_steps.specs.Written.{written}
+use Rattle.viterbi_steps.proofs.Written.{written_none, written_more, written_end}
+use Rattle.viterbi_steps.proofs.keep_steps.Statement.{statement}
+use Rattle.viterbi_steps.proofs.keep_steps.Tie as tie
 
-abbrev Inv-loop : tie.InvT-loop
-Inv-loop steps₀ at from n label₀ steps label = (label ≤ n) × (length steps ≡ length steps₀) × (steps ≡ written at (λ k. getD from k 0) label steps₀)
+abbrev invariant-loop : tie.invariant-loop
+invariant-loop steps₀ at from n label₀ steps label = (label ≤ n) × (length steps ≡ length steps₀) × (steps ≡ written at (λ k. get_or from k 0) label steps₀)
 
-abbrev μ-loop : tie.MeasureT-loop
-μ-loop steps₀ at from n label₀ steps label = n - label
+abbrev decreases-loop : tie.decreases-loop
+decreases-loop steps₀ at from n label₀ steps label = n - label
 
-loop-holds : tie.Need-loop-holds Inv-loop μ-loop
-loop-holds c = (search needs, refl, written-none _ _ _)
+loop-holds : tie.Need-loop-init invariant-loop decreases-loop
+loop-holds c = (search rules, refl, written_none _ _ _)
 
-mul-steps : tie.Need-mul-steps Inv-loop μ-loop
-mul-steps c = search needs
+mul-steps : tie.Need-overflow-mul-steps invariant-loop decreases-loop
+mul-steps c = search rules
 
-element-copy-out-steps : tie.Need-element-copy-out-steps Inv-loop μ-loop
-element-copy-out-steps c = search needs
+element-copy-out-steps : tie.Need-element-copy-out-steps invariant-loop decreases-loop
+element-copy-out-steps c = search rules
 
-cast-steps : tie.Need-cast-steps Inv-loop μ-loop
-cast-steps c = record { fits = c .before .before .before .pre .2 _ (c .before .loop-test .taken) }
+cast-steps : tie.Need-overflow-cast-steps invariant-loop decreases-loop
+cast-steps c = record { fits = c.before.before.before.requires.2 _ c.before.loop-test.true }
 
-add-steps : tie.Need-add-steps Inv-loop μ-loop
-add-steps c = search needs
+add-steps : tie.Need-overflow-add-steps invariant-loop decreases-loop
+add-steps c = search rules
 
-slice-write-steps : tie.Need-slice-write-steps Inv-loop μ-loop
-slice-write-steps c = search needs
+slice-write-steps : tie.Need-slice-write-steps invariant-loop decreases-loop
+slice-write-steps c = search rules
 
-add-label : tie.Need-add-label Inv-loop μ-loop
-add-label c = search needs
+add-label : tie.Need-overflow-add-label invariant-loop decreases-loop
+add-label c = search rules
 
-loop-less : tie.Need-loop-less Inv-loop μ-loop
-loop-less c = search needs
+loop-less : tie.Need-loop-smaller invariant-loop decreases-loop
+loop-less c = search rules
 
-loop-again : tie.Need-loop-again Inv-loop μ-loop
+loop-again : tie.Need-loop-preserved invariant-loop decreases-loop
 loop-again c =
-    let l = c .before .before in
-    (omega arith, simp length-set (l .loop .inv .1), written-more (l .before .args .at) _ _ (l .loop .label) (l .loop .steps) _ (l .loop .inv .2) refl)
+    let l = c.before.before in
+    (omega arith, simp length-set l.loop.invariant.1, written_more l.before.args.at _ _ l.loop.label l.loop.steps _ l.loop.invariant.2 refl)
 
-same-length : tie.Need-same-length Inv-loop μ-loop
-same-length c = search needs
+same_length : tie.Need-same-length invariant-loop decreases-loop
+same_length c = search rules
 
-returns : tie.Need-returns Inv-loop μ-loop
-returns c = written-end _ _ _ _ _ _ (c .before .loop .inv .0) (c .loop-test .left) (c .before .loop .inv .2)
+returns : tie.Need-returns invariant-loop decreases-loop
+returns c = written_end _ _ _ _ _ _ c.before.loop.invariant.0 c.loop-test.false c.before.loop.invariant.2
 
 pub keep-steps-spec : {M : Type 1} → statement M
 keep-steps-spec =
     tie.close
     (tie.spec
-    Inv-loop
-    μ-loop
+    invariant-loop
+    decreases-loop
     loop-holds
     mul-steps
     element-copy-out-steps
@@ -65,5 +65,5 @@ keep-steps-spec =
     add-label
     loop-less
     loop-again
-    same-length
+    same_length
     returns)

@@ -1,22 +1,22 @@
 -- `write_check::check_counts` meets its contract. Assumes nothing.
-use borrow.Author.Needs.{needs}
-use Rattle·write_check·proofs.proofs.check_counts.Statement.{statement}
-use Rattle·write_check·proofs.proofs.check_counts.Tie as tie
+use borrow.Author.Rules.{rules}
+use Rattle.write_check.proofs.check_counts.Statement.{statement}
+use Rattle.write_check.proofs.check_counts.Tie as tie
 
 is-outside-requires : tie.Need-is-outside-requires
-is-outside-requires c κs = search needs
+is-outside-requires c κs = search rules
 
 refuse-if-requires : tie.Need-refuse-if-requires
-refuse-if-requires c κs = search needs
+refuse-if-requires c κs = search rules
 
 refuse-if-requires-2 : tie.Need-refuse-if-requires-2
-refuse-if-requires-2 c κs = search needs
+refuse-if-requires-2 c κs = search rules
 
 refuse-if-requires-3 : tie.Need-refuse-if-requires-3
-refuse-if-requires-3 c κs = search needs
+refuse-if-requires-3 c κs = search rules
 
 refuse-if-requires-4 : tie.Need-refuse-if-requires-4
-refuse-if-requires-4 c κs = search needs
+refuse-if-requires-4 c κs = search rules
 
 returns : tie.Need-returns
 returns c =
@@ -24,7 +24,7 @@ returns c =
     let p2 : tie.After-refuse-if2 = search in
     let p1 : tie.After-refuse-if = search in
     let o : tie.After-is-outside = search in
-    rw (c .refuse-if4 .ensures, p3 .refuse-if3 .ensures, p2 .refuse-if2 .ensures, p1 .refuse-if .ensures, o .is-outside .ensures)
+    rw (c.refuse-if4.ensures, p3.refuse-if3.ensures, p2.refuse-if2.ensures, p1.refuse-if.ensures, o.is-outside.ensures)
 
 pub check-counts-spec : {M : Type 1} → statement M
 check-counts-spec =

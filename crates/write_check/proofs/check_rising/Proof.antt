@@ -1,37 +1,37 @@
 -- `write_check::check_rising` meets its contract. Assumes nothing.
-use borrow.Author.Needs.{needs}
-use Rattle·write_check·proofs.proofs.check_rising.Statement.{statement}
-use Rattle·write_check·proofs.proofs.check_rising.Tie as tie
-use Rattle·write_check·proofs.proofs.check_rising.Reads as reads
-use Rattle·write_check·proofs.proofs.check_rising.Lts as lts
-use Rattle·table_checks.proofs.check_starts.Reads as check-starts-reads
+use borrow.Author.Rules.{rules}
+use Rattle.write_check.proofs.check_rising.Statement.{statement}
+use Rattle.write_check.proofs.check_rising.Tie as tie
+use Rattle.write_check.proofs.check_rising.Reads as reads
+use Rattle.write_check.proofs.check_rising.Lts as lts
+use Rattle.table_checks.proofs.check_starts.Reads as check_starts_reads
 
-cast-instances : tie.Need-cast-instances
-cast-instances c = search needs
+cast-instances : tie.Need-overflow-cast-instances
+cast-instances c = search rules
 
 check-starts-requires : tie.Need-check-starts-requires
-check-starts-requires c κs = search needs
+check-starts-requires c κs = search rules
 
-cast-check-starts : tie.Need-cast-check-starts
-cast-check-starts c = search needs
+cast-check-starts : tie.Need-overflow-cast-check-starts
+cast-check-starts c = search rules
 
 check-starts-requires-2 : tie.Need-check-starts-requires-2
-check-starts-requires-2 c κs = search needs
+check-starts-requires-2 c κs = search rules
 
 check-starts-requires-3 : tie.Need-check-starts-requires-3
-check-starts-requires-3 c κs = search needs
+check-starts-requires-3 c κs = search rules
 
-cast-known : tie.Need-cast-known
-cast-known c = search needs
+cast-known : tie.Need-overflow-cast-known
+cast-known c = search rules
 
 check-starts-requires-4 : tie.Need-check-starts-requires-4
-check-starts-requires-4 c κs = search needs
+check-starts-requires-4 c κs = search rules
 
-cast-check-starts-2 : tie.Need-cast-check-starts-2
-cast-check-starts-2 c = search needs
+cast-check-starts-2 : tie.Need-overflow-cast-check-starts-2
+cast-check-starts-2 c = search rules
 
 check-starts-requires-5 : tie.Need-check-starts-requires-5
-check-starts-requires-5 c κs = search needs
+check-starts-requires-5 c κs = search rules
 
 returns : tie.Need-returns
 returns c =
@@ -40,7 +40,7 @@ returns c =
     let b : tie.After-check-starts3 = search in
     let a : tie.After-check-starts2 = search in
     let f : tie.After-check-starts = search in
-    rw (e .check-starts5 .ensures, d .check-starts4 .ensures, b .check-starts3 .ensures, a .check-starts2 .ensures, f .check-starts .ensures)
+    rw (e.check-starts5.ensures, d.check-starts4.ensures, b.check-starts3.ensures, a.check-starts2.ensures, f.check-starts.ensures)
 
 pub check-rising-spec : {M : Type 1} → statement M
 check-rising-spec =

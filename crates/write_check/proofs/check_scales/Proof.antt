@@ -1,64 +1,64 @@
 -- `write_check::check_scales` meets its contract. Assumes nothing.
-use mathlib.Core.Path.{sym, _∙_}
-use Prim.Native.Nat.{ℕ, _-_}
+use mathlib.Core.Path.{sym, ◌∙◌}
+use Prim.Native.Nat.{ℕ, ◌-◌}
 use native.Mathlib.Omega.{arith}
-use borrow.Author.Needs.{needs}
-use Rattle·refusals.proofs.Laws.{Passed, begin, step, answered}
-use Rattle·text_tables.specs.Written.{stringAt}
-use Rattle·text_writing.specs.Ready.{strings}
-use Rattle·write_check·specs.specs.Carry.{notKept}
-use Rattle·write_check·proofs.proofs.check_scales.Statement.{statement}
-use Rattle·write_check·proofs.proofs.check_scales.Tie as tie
-use Rattle·write_check·proofs.proofs.check_scales.Reads as reads
-use Rattle·write_check·proofs.proofs.check_scales.Lts as lts
-use Rattle·write_check·proofs.proofs.lacks_scale.Reads as lacks-scale-reads
-use Rattle·refusals.proofs.refuse_if.Reads as refuse-if-reads
-use Rattle·refusals.proofs.to_check.Reads as to-check-reads
+use borrow.Author.Rules.{rules}
+use Rattle.refusals.proofs.Laws.{Passed, begin, step, answered}
+use Rattle.text_tables.specs.Written.{string_at}
+use Rattle.text_writing.specs.Ready.{strings}
+use Rattle.write_check.specs.Carry.{not_kept}
+use Rattle.write_check.proofs.check_scales.Statement.{statement}
+use Rattle.write_check.proofs.check_scales.Tie as tie
+use Rattle.write_check.proofs.check_scales.Reads as reads
+use Rattle.write_check.proofs.check_scales.Lts as lts
+use Rattle.write_check.proofs.lacks_scale.Reads as lacks_scale_reads
+use Rattle.refusals.proofs.refuse_if.Reads as refuse_if_reads
+use Rattle.refusals.proofs.to_check.Reads as to_check_reads
 
-abbrev Inv-loop : tie.InvT-loop
-Inv-loop answer starts bytes n end i₀ i = Passed 11 (λ (k : ℕ). notKept (stringAt (strings starts bytes) k)) end i
+abbrev invariant-loop : tie.invariant-loop
+invariant-loop answer starts bytes n end i₀ i = Passed 11 (λ (k : ℕ). not_kept (string_at (strings starts bytes) k)) end i
 
-abbrev μ-loop : tie.MeasureT-loop
-μ-loop answer starts bytes n end i₀ i = end - i
+abbrev decreases-loop : tie.decreases-loop
+decreases-loop answer starts bytes n end i₀ i = end - i
 
-to-check-requires : tie.Need-to-check-requires Inv-loop μ-loop
-to-check-requires c κs = search needs
+to-check-requires : tie.Need-to-check-requires invariant-loop decreases-loop
+to-check-requires c κs = search rules
 
-loop-holds : tie.Need-loop-holds Inv-loop μ-loop
+loop-holds : tie.Need-loop-init invariant-loop decreases-loop
 loop-holds c = begin
 
-lacks-scale-requires : tie.Need-lacks-scale-requires Inv-loop μ-loop
+lacks-scale-requires : tie.Need-lacks-scale-requires invariant-loop decreases-loop
 lacks-scale-requires c κs =
-    let s : tie.Start Inv-loop μ-loop = search in
-    let e : tie.After-to-check Inv-loop μ-loop = search in
-    let t : tie.In-loop Inv-loop μ-loop = search in
-    s .pre _ (omega (arith, t .loop-test .taken, e .to-check .ensures .0))
+    let s : tie.Start invariant-loop decreases-loop = search in
+    let e : tie.After-to-check invariant-loop decreases-loop = search in
+    let t : tie.In-loop invariant-loop decreases-loop = search in
+    s.pre _ (omega (arith, t.loop-test.taken, e.to-check.ensures.0))
 
-add-i : tie.Need-add-i Inv-loop μ-loop
-add-i c = search needs
+add-i : tie.Need-overflow-add-i invariant-loop decreases-loop
+add-i c = search rules
 
-loop-less : tie.Need-loop-less Inv-loop μ-loop
-loop-less c = search needs
+loop-less : tie.Need-loop-smaller invariant-loop decreases-loop
+loop-less c = search rules
 
-loop-again : tie.Need-loop-again Inv-loop μ-loop
+loop-again : tie.Need-loop-preserved invariant-loop decreases-loop
 loop-again c =
-    let l : tie.At-loop Inv-loop μ-loop = search in
-    let b : tie.After-lacks-scale Inv-loop μ-loop = search in
-    let e : tie.Else1 Inv-loop μ-loop = search in
-    step (l .loop .inv) (omega arith) (sym (b .lacks-scale .ensures) ∙ e .if1 .left)
+    let l : tie.At-loop invariant-loop decreases-loop = search in
+    let b : tie.After-lacks-scale invariant-loop decreases-loop = search in
+    let e : tie.Else1 invariant-loop decreases-loop = search in
+    step l.loop.inv (omega arith) (sym b.lacks-scale.ensures ∙ e.if1.left)
 
-refuse-if-requires : tie.Need-refuse-if-requires Inv-loop μ-loop
-refuse-if-requires c κs = search needs
+refuse-if-requires : tie.Need-refuse-if-requires invariant-loop decreases-loop
+refuse-if-requires c κs = search rules
 
-returns : tie.Need-returns Inv-loop μ-loop
-returns c = answered _ _ (c .refuse-if .ensures) (c .before .before .before .to-check .ensures .1) (c .before .before .loop .inv) (λ w. w .left) (λ w. (w .0 .taken, sym (w .1 .ensures) ∙ w .2 .taken)) (c .before .loop-test .came)
+returns : tie.Need-returns invariant-loop decreases-loop
+returns c = answered _ _ c.refuse-if.ensures c.before.before.before.to-check.ensures.1 c.before.before.loop.invariant (λ w. w.left) (λ w. (w.0.taken, sym w.1.ensures ∙ w.2.taken)) c.before.loop-test.branch
 
 pub check-scales-spec : {M : Type 1} → statement M
 check-scales-spec =
     tie.close
     (tie.spec
-    Inv-loop
-    μ-loop
+    invariant-loop
+    decreases-loop
     to-check-requires
     loop-holds
     lacks-scale-requires

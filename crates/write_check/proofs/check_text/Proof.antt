@@ -1,49 +1,49 @@
 -- `write_check::check_text` meets its contract. Assumes nothing.
-use Rattle·write_check·proofs.proofs.Laws.{measurable, labels-stand, names-stand, scales-stand}
-use borrow.Author.Needs.{needs}
-use Rattle·write_check·proofs.proofs.check_text.Statement.{statement}
-use Rattle·write_check·proofs.proofs.check_text.Tie as tie
-use Rattle·write_check·proofs.proofs.check_text.Reads as reads
-use Rattle·write_check·proofs.proofs.check_text.Lts as lts
-use Rattle·write_check·proofs.proofs.check_names.Reads as check-names-reads
-use Rattle·write_check·proofs.proofs.check_scales.Reads as check-scales-reads
-use Rattle·refusals.proofs.refuse_if.Reads as refuse-if-reads
-use Rattle·text_writing.proofs.written_length.Reads as written-length-reads
+use Rattle.write_check.proofs.Laws.{measurable, labels_stand, names_stand, scales_stand}
+use borrow.Author.Rules.{rules}
+use Rattle.write_check.proofs.check_text.Statement.{statement}
+use Rattle.write_check.proofs.check_text.Tie as tie
+use Rattle.write_check.proofs.check_text.Reads as reads
+use Rattle.write_check.proofs.check_text.Lts as lts
+use Rattle.write_check.proofs.check_names.Reads as check_names_reads
+use Rattle.write_check.proofs.check_scales.Reads as check_scales_reads
+use Rattle.refusals.proofs.refuse_if.Reads as refuse_if_reads
+use Rattle.text_writing.proofs.written_length.Reads as written_length_reads
 
-cast-words : tie.Need-cast-words
-cast-words c = search needs
+cast-words : tie.Need-overflow-cast-words
+cast-words c = search rules
 
-cast-attributes : tie.Need-cast-attributes
-cast-attributes c = search needs
+cast-attributes : tie.Need-overflow-cast-attributes
+cast-attributes c = search rules
 
-cast-written-length : tie.Need-cast-written-length
-cast-written-length c = search needs
+cast-written-length : tie.Need-overflow-cast-written-length
+cast-written-length c = search rules
 
 written-length-requires : tie.Need-written-length-requires
 written-length-requires c κs =
     let s : tie.Start = search in
-    measurable (s .pre)
+    measurable s.pre
 
 refuse-if-requires : tie.Need-refuse-if-requires
-refuse-if-requires c κs = search needs
+refuse-if-requires c κs = search rules
 
 check-names-requires : tie.Need-check-names-requires
 check-names-requires c κs =
     let s : tie.Start = search in
-    labels-stand (s .pre)
+    labels_stand s.pre
 
-cast-known : tie.Need-cast-known
-cast-known c = search needs
+cast-known : tie.Need-overflow-cast-known
+cast-known c = search rules
 
 check-names-requires-2 : tie.Need-check-names-requires-2
 check-names-requires-2 c κs =
     let s : tie.Start = search in
-    names-stand (s .pre)
+    names_stand s.pre
 
 check-scales-requires : tie.Need-check-scales-requires
 check-scales-requires c κs =
     let s : tie.Start = search in
-    scales-stand (s .pre)
+    scales_stand s.pre
 
 returns : tie.Need-returns
 returns c =
@@ -52,7 +52,7 @@ returns c =
     let a : tie.After-check-names = search in
     let r : tie.After-refuse-if = search in
     let w : tie.After-written-length = search in
-    rw (k .check-scales .ensures, b .check-names2 .ensures, a .check-names .ensures, r .refuse-if .ensures, w .written-length .ensures)
+    rw (k.check-scales.ensures, b.check-names2.ensures, a.check-names.ensures, r.refuse-if.ensures, w.written-length.ensures)
 
 pub check-text-spec : {M : Type 1} → statement M
 check-text-spec =

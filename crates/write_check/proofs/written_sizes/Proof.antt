@@ -1,24 +1,24 @@
 -- `write_check::written_sizes` meets its contract. Assumes nothing.
-use mathlib.Core.Path.{_∙_}
-use Rattle·write_check·proofs.proofs.Laws.{write-sized}
-use borrow.Author.Needs.{needs}
-use Rattle·write_check·proofs.proofs.written_sizes.Statement.{statement}
-use Rattle·write_check·proofs.proofs.written_sizes.Tie as tie
+use mathlib.Core.Path.{◌∙◌}
+use Rattle.write_check.proofs.Laws.{write_sized}
+use borrow.Author.Rules.{rules}
+use Rattle.write_check.proofs.written_sizes.Statement.{statement}
+use Rattle.write_check.proofs.written_sizes.Tie as tie
 
 is-outside-requires : tie.Need-is-outside-requires
-is-outside-requires c κs = search needs
+is-outside-requires c κs = search rules
 
 refuse-if-requires : tie.Need-refuse-if-requires
-refuse-if-requires c κs = search needs
+refuse-if-requires c κs = search rules
 
 check-counts-requires : tie.Need-check-counts-requires
-check-counts-requires c κs = search needs
+check-counts-requires c κs = search rules
 
 check-word-room-requires : tie.Need-check-word-room-requires
-check-word-room-requires c κs = search needs
+check-word-room-requires c κs = search rules
 
 check-string-room-requires : tie.Need-check-string-room-requires
-check-string-room-requires c κs = search needs
+check-string-room-requires c κs = search rules
 
 returns : tie.Need-returns
 returns c =
@@ -27,9 +27,9 @@ returns c =
     let m : tie.After-check-counts = search in
     let o : tie.After-refuse-if = search in
     let i : tie.After-is-outside = search in
-    l .check-string-room .ensures
-    ∙ rw (w .check-word-room .ensures, m .check-counts .ensures, o .refuse-if .ensures, i .is-outside .ensures)
-    (write-sized _)
+    l.check-string-room.ensures
+    ∙ rw (w.check-word-room.ensures, m.check-counts.ensures, o.refuse-if.ensures, i.is-outside.ensures)
+    (write_sized _)
 
 pub written-sizes-spec : {M : Type 1} → statement M
 written-sizes-spec =

@@ -1,21 +1,21 @@
 -- `answers::decoding::numbers_of_score` meets its contract, by the two cases of an answer. Assumes nothing.
-use lib.Ieee.{ofBits}
-use borrow.Author.Needs.{needs}
-use Rattle·answers·proofs.proofs.decoding.numbers_of_score.Statement.{statement}
-use Rattle·answers·proofs.proofs.decoding.numbers_of_score.Tie as tie
+use lib.Ieee.{of_bits}
+use borrow.Author.Rules.{rules}
+use Rattle.answers.proofs.decoding.numbers_of_score.Statement.{statement}
+use Rattle.answers.proofs.decoding.numbers_of_score.Tie as tie
 
 enum-known-answer : tie.Need-enum-known-answer
-enum-known-answer c = search needs
+enum-known-answer c = search rules
 
 enum-known-answer-2 : tie.Need-enum-known-answer-2
-enum-known-answer-2 c = search needs
+enum-known-answer-2 c = search rules
 
 returns : tie.Need-returns
-returns c = rw (c .before .answer .given .1)
+returns c = rw c.before.answer.given.1
 
 returns-2 : tie.Need-returns-2
-unfolding ofBits
-returns-2 c = rw (c .before .answer2 .given .1)
+unfolding of_bits
+returns-2 c = rw c.before.answer2.given.1
 
 pub numbers-of-score-spec : {M : Type 1} → statement M
 numbers-of-score-spec =

@@ -1,45 +1,45 @@
 -- `replay::answers::deal` is safe and ends. Assumes nothing.
-use Prim.Native.Nat.{_≤_, _<_, _-_, _^_}
-use mathlib.Core.Path.{_≡_, refl}
+use Prim.Native.Nat.{◌≤◌, ◌<◌, ◌-◌, ◌^◌}
+use mathlib.Core.Path.{◌≡◌, refl}
 use native.Mathlib.Omega.{arith}
 use lib.ListN.{length, length-set}
-use borrow.Author.Needs.{needs}
-use Rattle·replay·proofs.proofs.answers.deal.Statement.{statement}
-use Rattle·replay·proofs.proofs.answers.deal.Tie as tie
+use borrow.Author.Rules.{rules}
+use Rattle.replay.proofs.answers.deal.Statement.{statement}
+use Rattle.replay.proofs.answers.deal.Tie as tie
 
-abbrev Inv-loop : tie.InvT-loop
-Inv-loop seed n epochs order₀ state₀ left₀ order state left = length order ≡ 12
+abbrev invariant-loop : tie.invariant-loop
+invariant-loop seed n epochs order₀ state₀ left₀ order state left = length order ≡ 12
 
-abbrev μ-loop : tie.MeasureT-loop
-μ-loop seed n epochs order₀ state₀ left₀ order state left = left
+abbrev decreases-loop : tie.decreases-loop
+decreases-loop seed n epochs order₀ state₀ left₀ order state left = left
 
-loop-holds : tie.Need-loop-holds Inv-loop μ-loop
-loop-holds c = search needs
+loop-holds : tie.Need-loop-init invariant-loop decreases-loop
+loop-holds c = search rules
 
-slice-aggregate-shuffle : tie.Need-slice-aggregate-shuffle Inv-loop μ-loop
-slice-aggregate-shuffle c = search needs
+slice-aggregate-shuffle : tie.Need-slice-aggregate-shuffle invariant-loop decreases-loop
+slice-aggregate-shuffle c = search rules
 
-shuffle-requires : tie.Need-shuffle-requires Inv-loop μ-loop
-shuffle-requires c κs = search needs
+shuffle-requires : tie.Need-shuffle-requires invariant-loop decreases-loop
+shuffle-requires c κs = search rules
 
-sub-left : tie.Need-sub-left Inv-loop μ-loop
-sub-left c = search needs
+sub-left : tie.Need-overflow-sub-left invariant-loop decreases-loop
+sub-left c = search rules
 
-loop-less : tie.Need-loop-less Inv-loop μ-loop
-loop-less c = search needs
+loop-less : tie.Need-loop-smaller invariant-loop decreases-loop
+loop-less c = search rules
 
-loop-again : tie.Need-loop-again Inv-loop μ-loop
-loop-again c = search needs
+loop-again : tie.Need-loop-preserved invariant-loop decreases-loop
+loop-again c = search rules
 
-returns : tie.Need-returns Inv-loop μ-loop
-returns c = search needs
+returns : tie.Need-returns invariant-loop decreases-loop
+returns c = search rules
 
 pub deal-spec : {M : Type 1} → statement M
 deal-spec =
     tie.close
     (tie.spec
-    Inv-loop
-    μ-loop
+    invariant-loop
+    decreases-loop
     loop-holds
     slice-aggregate-shuffle
     shuffle-requires

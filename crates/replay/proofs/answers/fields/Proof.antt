@@ -1,57 +1,57 @@
 -- `replay::answers::fields` is safe and ends. Assumes nothing.
-use Prim.Native.Nat.{_≤_, _<_, _-_, _^_}
-use mathlib.Core.Path.{_≡_, refl}
+use Prim.Native.Nat.{◌≤◌, ◌<◌, ◌-◌, ◌^◌}
+use mathlib.Core.Path.{◌≡◌, refl}
 use native.Mathlib.Omega.{arith}
 use lib.ListN.{length, length-set}
-use borrow.Author.Needs.{needs}
-use Rattle·replay·proofs.proofs.answers.fields.Statement.{statement}
-use Rattle·replay·proofs.proofs.answers.fields.Tie as tie
+use borrow.Author.Rules.{rules}
+use Rattle.replay.proofs.answers.fields.Statement.{statement}
+use Rattle.replay.proofs.answers.fields.Tie as tie
 
-abbrev Inv-loop : tie.InvT-loop
-Inv-loop divisor table fields₀ i₀ fields i = (i ≤ 12) × (length fields ≡ 12) × (length table ≡ 12)
+abbrev invariant-loop : tie.invariant-loop
+invariant-loop divisor table fields₀ i₀ fields i = (i ≤ 12) × (length fields ≡ 12) × (length table ≡ 12)
 
-abbrev μ-loop : tie.MeasureT-loop
-μ-loop divisor table fields₀ i₀ fields i = 12 - i
+abbrev decreases-loop : tie.decreases-loop
+decreases-loop divisor table fields₀ i₀ fields i = 12 - i
 
-loop-holds : tie.Need-loop-holds Inv-loop μ-loop
-loop-holds c = search needs
+loop-holds : tie.Need-loop-init invariant-loop decreases-loop
+loop-holds c = search rules
 
-mul-quotient : tie.Need-mul-quotient Inv-loop μ-loop
-mul-quotient c = search needs
+mul-quotient : tie.Need-overflow-mul-quotient invariant-loop decreases-loop
+mul-quotient c = search rules
 
-array-read-quotient : tie.Need-array-read-quotient Inv-loop μ-loop
-array-read-quotient c = search needs
+array-read-quotient : tie.Need-array-read-quotient invariant-loop decreases-loop
+array-read-quotient c = search rules
 
-quotient-requires : tie.Need-quotient-requires Inv-loop μ-loop
-quotient-requires c κs = search needs
+quotient-requires : tie.Need-quotient-requires invariant-loop decreases-loop
+quotient-requires c κs = search rules
 
-cast-fields : tie.Need-cast-fields Inv-loop μ-loop
-cast-fields c = search needs
+cast-fields : tie.Need-overflow-cast-fields invariant-loop decreases-loop
+cast-fields c = search rules
 
-mul-fields : tie.Need-mul-fields Inv-loop μ-loop
-mul-fields c = search needs
+mul-fields : tie.Need-overflow-mul-fields invariant-loop decreases-loop
+mul-fields c = search rules
 
-array-write-fields : tie.Need-array-write-fields Inv-loop μ-loop
-array-write-fields c = search needs
+array-write-fields : tie.Need-array-write-fields invariant-loop decreases-loop
+array-write-fields c = search rules
 
-add-i : tie.Need-add-i Inv-loop μ-loop
-add-i c = search needs
+add-i : tie.Need-overflow-add-i invariant-loop decreases-loop
+add-i c = search rules
 
-loop-less : tie.Need-loop-less Inv-loop μ-loop
-loop-less c = search needs
+loop-less : tie.Need-loop-smaller invariant-loop decreases-loop
+loop-less c = search rules
 
-loop-again : tie.Need-loop-again Inv-loop μ-loop
-loop-again c = search needs
+loop-again : tie.Need-loop-preserved invariant-loop decreases-loop
+loop-again c = search rules
 
-returns : tie.Need-returns Inv-loop μ-loop
-returns c = search needs
+returns : tie.Need-returns invariant-loop decreases-loop
+returns c = search rules
 
 pub fields-spec : {M : Type 1} → statement M
 fields-spec =
     tie.close
     (tie.spec
-    Inv-loop
-    μ-loop
+    invariant-loop
+    decreases-loop
     loop-holds
     mul-quotient
     array-read-quotient

@@ -1,37 +1,37 @@
 -- `replay::answers::last_of` is safe and ends. Assumes nothing.
-use Prim.Native.Nat.{_≤_, _<_, _-_, _^_}
-use mathlib.Core.Path.{_≡_, refl}
+use Prim.Native.Nat.{◌≤◌, ◌<◌, ◌-◌, ◌^◌}
+use mathlib.Core.Path.{◌≡◌, refl}
 use native.Mathlib.Omega.{arith}
 use lib.ListN.{length, length-set}
-use borrow.Author.Needs.{needs}
-use Rattle·replay·proofs.proofs.answers.last_of.Statement.{statement}
-use Rattle·replay·proofs.proofs.answers.last_of.Tie as tie
+use borrow.Author.Rules.{rules}
+use Rattle.replay.proofs.answers.last_of.Statement.{statement}
+use Rattle.replay.proofs.answers.last_of.Tie as tie
 
-abbrev Inv-loop : tie.InvT-loop
-Inv-loop seed draws state₀ number₀ left₀ state number left = 0 ≤ left
+abbrev invariant-loop : tie.invariant-loop
+invariant-loop seed draws state₀ number₀ left₀ state number left = 0 ≤ left
 
-abbrev μ-loop : tie.MeasureT-loop
-μ-loop seed draws state₀ number₀ left₀ state number left = left
+abbrev decreases-loop : tie.decreases-loop
+decreases-loop seed draws state₀ number₀ left₀ state number left = left
 
-loop-holds : tie.Need-loop-holds Inv-loop μ-loop
-loop-holds c = search needs
+loop-holds : tie.Need-loop-init invariant-loop decreases-loop
+loop-holds c = search rules
 
-draw-from-requires : tie.Need-draw-from-requires Inv-loop μ-loop
-draw-from-requires c κs = search needs
+draw-from-requires : tie.Need-draw-from-requires invariant-loop decreases-loop
+draw-from-requires c κs = search rules
 
-sub-left : tie.Need-sub-left Inv-loop μ-loop
-sub-left c = search needs
+sub-left : tie.Need-overflow-sub-left invariant-loop decreases-loop
+sub-left c = search rules
 
-loop-less : tie.Need-loop-less Inv-loop μ-loop
-loop-less c = search needs
+loop-less : tie.Need-loop-smaller invariant-loop decreases-loop
+loop-less c = search rules
 
-loop-again : tie.Need-loop-again Inv-loop μ-loop
-loop-again c = search needs
+loop-again : tie.Need-loop-preserved invariant-loop decreases-loop
+loop-again c = search rules
 
-returns : tie.Need-returns Inv-loop μ-loop
-returns c = search needs
+returns : tie.Need-returns invariant-loop decreases-loop
+returns c = search rules
 
 pub last-of-spec : {M : Type 1} → statement M
 last-of-spec =
     tie.close
-    (tie.spec Inv-loop μ-loop loop-holds draw-from-requires sub-left loop-less loop-again returns)
+    (tie.spec invariant-loop decreases-loop loop-holds draw-from-requires sub-left loop-less loop-again returns)

@@ -1,63 +1,63 @@
 -- `replay::answers::numbers` is safe and ends. Assumes nothing.
-use Prim.Native.Nat.{_≤_, _<_, _-_, _^_}
-use mathlib.Core.Path.{_≡_, refl}
+use Prim.Native.Nat.{◌≤◌, ◌<◌, ◌-◌, ◌^◌}
+use mathlib.Core.Path.{◌≡◌, refl}
 use native.Mathlib.Omega.{arith}
 use lib.ListN.{length, length-set}
-use borrow.Author.Needs.{needs}
-use Rattle·replay·proofs.proofs.answers.numbers.Statement.{statement}
-use Rattle·replay·proofs.proofs.answers.numbers.Tie as tie
+use borrow.Author.Rules.{rules}
+use Rattle.replay.proofs.answers.numbers.Statement.{statement}
+use Rattle.replay.proofs.answers.numbers.Tie as tie
 
-abbrev Inv-loop : tie.InvT-loop
-Inv-loop a table numbers₀ i₀ numbers i = (i ≤ 12) × (length numbers ≡ 12) × (length table ≡ 12)
+abbrev invariant-loop : tie.invariant-loop
+invariant-loop a table numbers₀ i₀ numbers i = (i ≤ 12) × (length numbers ≡ 12) × (length table ≡ 12)
 
-abbrev μ-loop : tie.MeasureT-loop
-μ-loop a table numbers₀ i₀ numbers i = 12 - i
+abbrev decreases-loop : tie.decreases-loop
+decreases-loop a table numbers₀ i₀ numbers i = 12 - i
 
-loop-holds : tie.Need-loop-holds Inv-loop μ-loop
-loop-holds c = search needs
+loop-holds : tie.Need-loop-init invariant-loop decreases-loop
+loop-holds c = search rules
 
-mul-float : tie.Need-mul-float Inv-loop μ-loop
-mul-float c = search needs
+mul-float : tie.Need-overflow-mul-float invariant-loop decreases-loop
+mul-float c = search rules
 
-array-read-float : tie.Need-array-read-float Inv-loop μ-loop
-array-read-float c = search needs
+array-read-float : tie.Need-array-read-float invariant-loop decreases-loop
+array-read-float c = search rules
 
-float-requires : tie.Need-float-requires Inv-loop μ-loop
-float-requires c κs = search needs
+float-requires : tie.Need-float-requires invariant-loop decreases-loop
+float-requires c κs = search rules
 
-mul-numbers : tie.Need-mul-numbers Inv-loop μ-loop
-mul-numbers c = search needs
+mul-numbers : tie.Need-overflow-mul-numbers invariant-loop decreases-loop
+mul-numbers c = search rules
 
-array-write-numbers : tie.Need-array-write-numbers Inv-loop μ-loop
-array-write-numbers c = search needs
+array-write-numbers : tie.Need-array-write-numbers invariant-loop decreases-loop
+array-write-numbers c = search rules
 
-add-i : tie.Need-add-i Inv-loop μ-loop
-add-i c = search needs
+add-i : tie.Need-overflow-add-i invariant-loop decreases-loop
+add-i c = search rules
 
-loop-less : tie.Need-loop-less Inv-loop μ-loop
-loop-less c = search needs
+loop-less : tie.Need-loop-smaller invariant-loop decreases-loop
+loop-less c = search rules
 
-loop-again : tie.Need-loop-again Inv-loop μ-loop
-loop-again c = search needs
+loop-again : tie.Need-loop-preserved invariant-loop decreases-loop
+loop-again c = search rules
 
-slice-aggregate-check-numbers : tie.Need-slice-aggregate-check-numbers Inv-loop μ-loop
-slice-aggregate-check-numbers c = search needs
+slice-aggregate-check-numbers : tie.Need-slice-aggregate-check-numbers invariant-loop decreases-loop
+slice-aggregate-check-numbers c = search rules
 
-check-numbers-requires : tie.Need-check-numbers-requires Inv-loop μ-loop
-check-numbers-requires c κs = search needs
+check-numbers-requires : tie.Need-check-numbers-requires invariant-loop decreases-loop
+check-numbers-requires c κs = search rules
 
-checked-requires : tie.Need-checked-requires Inv-loop μ-loop
-checked-requires c κs = search needs
+checked-requires : tie.Need-checked-requires invariant-loop decreases-loop
+checked-requires c κs = search rules
 
-returns : tie.Need-returns Inv-loop μ-loop
-returns c = search needs
+returns : tie.Need-returns invariant-loop decreases-loop
+returns c = search rules
 
 pub numbers-spec : {M : Type 1} → statement M
 numbers-spec =
     tie.close
     (tie.spec
-    Inv-loop
-    μ-loop
+    invariant-loop
+    decreases-loop
     loop-holds
     mul-float
     array-read-float

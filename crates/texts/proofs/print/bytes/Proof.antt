@@ -1,51 +1,51 @@
 -- `texts::print::bytes` is safe and ends. Assumes nothing.
-use Prim.Native.Nat.{_-_}
-use borrow.Author.Needs.{needs}
-use Rattle·texts·proofs.proofs.print.bytes.Statement.{statement}
-use Rattle·texts·proofs.proofs.print.bytes.Tie as tie
+use Prim.Native.Nat.{◌-◌}
+use borrow.Author.Rules.{rules}
+use Rattle.texts.proofs.print.bytes.Statement.{statement}
+use Rattle.texts.proofs.print.bytes.Tie as tie
 
-abbrev Inv-loop : tie.InvT-loop
-Inv-loop table n i₀ i = Unit {0}
+abbrev invariant-loop : tie.invariant-loop
+invariant-loop table n i₀ i = Unit {0}
 
-abbrev μ-loop : tie.MeasureT-loop
-μ-loop table n i₀ i = n - i
+abbrev decreases-loop : tie.decreases-loop
+decreases-loop table n i₀ i = n - i
 
-none-requires : tie.Need-none-requires Inv-loop μ-loop
-none-requires c κs = search needs
+none-requires : tie.Need-none-requires invariant-loop decreases-loop
+none-requires c κs = search rules
 
-slice-aggregate-word : tie.Need-slice-aggregate-word Inv-loop μ-loop
-slice-aggregate-word c = search needs
+slice-aggregate-word : tie.Need-slice-aggregate-word invariant-loop decreases-loop
+slice-aggregate-word c = search rules
 
-word-requires : tie.Need-word-requires Inv-loop μ-loop
-word-requires c κs = search needs
+word-requires : tie.Need-word-requires invariant-loop decreases-loop
+word-requires c κs = search rules
 
-loop-holds : tie.Need-loop-holds Inv-loop μ-loop
-loop-holds c = search needs
+loop-holds : tie.Need-loop-init invariant-loop decreases-loop
+loop-holds c = search rules
 
-byte-at-requires : tie.Need-byte-at-requires Inv-loop μ-loop
-byte-at-requires c κs = search needs
+byte-at-requires : tie.Need-byte-at-requires invariant-loop decreases-loop
+byte-at-requires c κs = search rules
 
-print-hex-requires : tie.Need-print-hex-requires Inv-loop μ-loop
-print-hex-requires c κs = search needs
+print-hex-requires : tie.Need-print-hex-requires invariant-loop decreases-loop
+print-hex-requires c κs = search rules
 
-add-i : tie.Need-add-i Inv-loop μ-loop
-add-i c = search needs
+add-i : tie.Need-overflow-add-i invariant-loop decreases-loop
+add-i c = search rules
 
-loop-less : tie.Need-loop-less Inv-loop μ-loop
-loop-less c = search needs
+loop-less : tie.Need-loop-smaller invariant-loop decreases-loop
+loop-less c = search rules
 
-loop-again : tie.Need-loop-again Inv-loop μ-loop
-loop-again c = search needs
+loop-again : tie.Need-loop-preserved invariant-loop decreases-loop
+loop-again c = search rules
 
-returns : tie.Need-returns Inv-loop μ-loop
-returns c = search needs
+returns : tie.Need-returns invariant-loop decreases-loop
+returns c = search rules
 
 pub bytes-spec : {M : Type 1} → statement M
 bytes-spec =
     tie.close
     (tie.spec
-    Inv-loop
-    μ-loop
+    invariant-loop
+    decreases-loop
     none-requires
     slice-aggregate-word
     word-requires

@@ -1,48 +1,48 @@
 -- `texts::print::numbers` is safe and ends. Assumes nothing.
-use Prim.Native.Nat.{_-_}
-use borrow.Author.Needs.{needs}
-use Rattle·texts·proofs.proofs.print.numbers.Statement.{statement}
-use Rattle·texts·proofs.proofs.print.numbers.Tie as tie
+use Prim.Native.Nat.{◌-◌}
+use borrow.Author.Rules.{rules}
+use Rattle.texts.proofs.print.numbers.Statement.{statement}
+use Rattle.texts.proofs.print.numbers.Tie as tie
 
-abbrev Inv-loop : tie.InvT-loop
-Inv-loop table n i₀ i = Unit {0}
+abbrev invariant-loop : tie.invariant-loop
+invariant-loop table n i₀ i = Unit {0}
 
-abbrev μ-loop : tie.MeasureT-loop
-μ-loop table n i₀ i = n - i
+abbrev decreases-loop : tie.decreases-loop
+decreases-loop table n i₀ i = n - i
 
-none-requires : tie.Need-none-requires Inv-loop μ-loop
-none-requires c κs = search needs
+none-requires : tie.Need-none-requires invariant-loop decreases-loop
+none-requires c κs = search rules
 
-loop-holds : tie.Need-loop-holds Inv-loop μ-loop
-loop-holds c = search needs
+loop-holds : tie.Need-loop-init invariant-loop decreases-loop
+loop-holds c = search rules
 
-before-requires : tie.Need-before-requires Inv-loop μ-loop
-before-requires c κs = search needs
+before-requires : tie.Need-before-requires invariant-loop decreases-loop
+before-requires c κs = search rules
 
-number-at-requires : tie.Need-number-at-requires Inv-loop μ-loop
-number-at-requires c κs = search needs
+number-at-requires : tie.Need-number-at-requires invariant-loop decreases-loop
+number-at-requires c κs = search rules
 
-decimal-requires : tie.Need-decimal-requires Inv-loop μ-loop
-decimal-requires c κs = search needs
+decimal-requires : tie.Need-decimal-requires invariant-loop decreases-loop
+decimal-requires c κs = search rules
 
-add-i : tie.Need-add-i Inv-loop μ-loop
-add-i c = search needs
+add-i : tie.Need-overflow-add-i invariant-loop decreases-loop
+add-i c = search rules
 
-loop-less : tie.Need-loop-less Inv-loop μ-loop
-loop-less c = search needs
+loop-less : tie.Need-loop-smaller invariant-loop decreases-loop
+loop-less c = search rules
 
-loop-again : tie.Need-loop-again Inv-loop μ-loop
-loop-again c = search needs
+loop-again : tie.Need-loop-preserved invariant-loop decreases-loop
+loop-again c = search rules
 
-returns : tie.Need-returns Inv-loop μ-loop
-returns c = search needs
+returns : tie.Need-returns invariant-loop decreases-loop
+returns c = search rules
 
 pub numbers-spec : {M : Type 1} → statement M
 numbers-spec =
     tie.close
     (tie.spec
-    Inv-loop
-    μ-loop
+    invariant-loop
+    decreases-loop
     none-requires
     loop-holds
     before-requires
