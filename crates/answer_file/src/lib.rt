@@ -18,6 +18,7 @@ fn read_bytes<R: Read>(file: &mut R, bytes: &mut [u8]) -> usize
     ensures end { 0 < result → result < length bytes.new → IsAtEnd (R.remaining file.new) }
 {
     let mut done = 0usize;
+    // On by what was taken, which the reader decides.
     while done < bytes.len() {
         let Ok(more) = file.read(&mut bytes[done..]) else {
             return 0;
@@ -46,6 +47,7 @@ fn write_line<W: Write>(out: &mut W, line: &[u8]) -> io::Result<()>
     ensures err { OnErr result ((k : ℕ) × Appends (W.contents out.old) (W.contents out.new) (take k line.now)) }
 {
     let mut done = 0usize;
+    // On by what was taken, which the writer decides.
     while done < line.len() {
         let more = out.write(&line[done..])?;
         if more == 0 {

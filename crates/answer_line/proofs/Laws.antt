@@ -6,8 +6,9 @@ use native.Mathlib.Numerals.{add-one}
 use native.Mathlib.Nat.{pow-suc, mod-lt}
 use native.Mathlib.Omega.{arith}
 use borrow.Author.Tests.{lt-ltb, le-ltb}
-use lib.ListN.{length, get_or, set, drop, length-append, drop_of_length-le}
+use lib.ListN.{length, get_or, set, take, drop, length-append, drop_of_length-le}
 use lib.Seq.{drop-cons}
+use Rattle.std.proofs.lemmas.List.{take_rest}
 use Rattle.answer_line.specs.Digits.{digit, digits, places_within, decimal_places, decimal}
 use Rattle.byte_buffers.specs.Stored.{stored}
 use Rattle.byte_buffers.proofs.Laws.{stored_append, stored_one, stored_past}
@@ -65,10 +66,10 @@ one_place (suc v) rest p h = let b : rest < 10 = omega arith in rw (lt-ltb rest 
 
 -- ---- labels
 
-pub first_label : (labels : List ℕ) → 0 < length labels → joined_labels labels ≡ decimal (get_or labels 0 0) ++ further_labels (drop 1 labels)
+pub first_label : (labels : List ℕ) → 0 < length labels → joined_labels labels ≡ decimal (get_or labels 0 0) ++ further_labels (take (length labels - 1) (drop 1 labels))
 unfolding joined_labels
 first_label [] h = absurd (omega arith)
-first_label (label ∷ labels) h = refl
+first_label (label ∷ labels) h = rw (take_rest (label ∷ labels) 1)
 
 pub next_label : (labels : List ℕ) (i : ℕ) → i < length labels → further_labels (drop i labels) ≡ comma ∷ (decimal (get_or labels i 0) ++ further_labels (drop (i + 1) labels))
 unfolding further_labels

@@ -10,12 +10,6 @@ ghost use Rattle.answer_line.specs.Line.{joined_labels, path_line_of, refused_li
 // Room for every line of a path of at most 128 labels below 100.
 pub const PATH_ROOM: usize = 406;
 
-fn wide(x: u32) -> u64
-    ensures { result ≡ x }
-{
-    x as u64
-}
-
 // A digit below 16 in ASCII.
 fn digit(d: u64) -> u8
     requires { d < 16 }
@@ -30,6 +24,7 @@ fn places(n: u64) -> usize
 {
     let mut k = 1usize;
     let mut rest = n;
+    // A digit less a turn.
     while 9 < rest {
         rest /= 10;
         k += 1;
@@ -51,10 +46,8 @@ fn put_digits(line: &mut [u8], at: usize, n: u64, base: u64, k: usize) -> usize
     requires k_in_bounds { at + k ≤ length line.old }
     ensures { Put (digits base k n) line.old at result line.new }
 {
-    let mut i = k;
     let mut rest = n;
-    while 0 < i {
-        i -= 1;
+    for i in (0..k).rev() {
         line[at + i] = digit(rest % base);
         rest /= base;
     }
@@ -73,12 +66,10 @@ fn put_labels(line: &mut [u8], start: usize, labels: &[u32]) -> usize
     requires room_for { RoomFor (joined_labels labels.now) line.old start }
     ensures { Put (joined_labels labels.now) line.old start result line.new }
 {
-    let mut at = put_decimal(line, start, wide(labels[0]));
-    let mut i = 1usize;
-    while i < labels.len() {
+    let mut at = put_decimal(line, start, u64::from(labels[0]));
+    for label in &labels[1..] {
         let next = byte_buffers::put_byte(line, at, b',');
-        at = put_decimal(line, next, wide(labels[i]));
-        i += 1;
+        at = put_decimal(line, next, u64::from(*label));
     }
     at
 }
@@ -103,7 +94,7 @@ pub fn refused_line(number: u32, place: u64, line: &mut [u8]) -> usize
     ensures { Written (refused_line_of number place) line.old result line.new }
 {
     let word = put_text(line, 0, b"REFUSED ");
-    let first = put_decimal(line, word, wide(number));
+    let first = put_decimal(line, word, u64::from(number));
     let gap = byte_buffers::put_byte(line, first, b' ');
     let second = put_decimal(line, gap, place);
     byte_buffers::put_byte(line, second, b'\n')

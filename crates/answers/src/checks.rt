@@ -3,7 +3,7 @@ ghost use Rattle.std.specs.Prelude.{◌≡◌};
 ghost use Rattle.refusals.specs.Said.{said_of};
 ghost use Rattle.answers.specs.Numbers.{numbers};
 
-use refusals::Checked;
+use refusals::Refusal;
 
 // A refusal of document 01; the number 0 says that nothing was refused.
 #[repr(C)]
@@ -13,17 +13,19 @@ pub struct Refused {
     pub place: u64,
 }
 
-pub fn numbers_of_check(answer: Checked) -> Refused
-    ensures { result ≡ numbers (said_of answer) }
-{
-    match answer {
-        Checked::Accepted => Refused {
-            number: 0,
-            place: 0,
-        },
-        Checked::Refused(why) => Refused {
-            number: why.number,
-            place: why.place,
-        },
+impl From<Result<(), Refusal>> for Refused {
+    ghost from_gives = { λ answer told. told ≡ numbers (said_of answer) };
+
+    fn from(answer: Result<(), Refusal>) -> Refused {
+        match answer {
+            Ok(()) => Refused {
+                number: 0,
+                place: 0,
+            },
+            Err(why) => Refused {
+                number: why.number,
+                place: why.place,
+            },
+        }
     }
 }

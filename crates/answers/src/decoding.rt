@@ -1,12 +1,11 @@
 // The answers of a decoded line and of a scored path.
-ghost use Rattle.std.specs.Prelude.{◌≡◌};
+ghost use Rattle.std.specs.Prelude.{◌≡◌, Ok};
 ghost use Rattle.viterbi.specs.Promise.{said};
 ghost use Rattle.sequence_score.specs.Promise.{said as score_said};
 ghost use Rattle.answers.specs.Numbers.{decoded_numbers, scored_numbers};
 
-use sequence_score::PathScore;
-use viterbi::Decoding;
-use viterbi_end::{Found, Lead};
+use refusals::Refusal;
+use viterbi_end::Found;
 
 // The answer of a decoded line: `has_lead` is 0 where there is no lead.
 #[repr(C)]
@@ -28,56 +27,61 @@ pub struct Scored {
     pub score: f64,
 }
 
-fn numbers_of_found(found: Found) -> Decoded
-    ensures { result ≡ decoded_numbers (said (Decoding.Decoded found)) }
-{
-    let lead = found.lead;
-    match lead {
-        Lead::NoLead => Decoded {
-            number: 0,
-            has_lead: 0,
-            place: 0,
-            sum: found.sum,
-            lead: 0.0,
-        },
-        Lead::By(x) => Decoded {
-            number: 0,
-            has_lead: 1,
-            place: 0,
-            sum: found.sum,
-            lead: x,
-        },
+impl From<Found> for Decoded {
+    ghost from_gives = { λ found told. told ≡ decoded_numbers (said (Ok found)) };
+
+    fn from(found: Found) -> Decoded {
+        match found.lead {
+            None => Decoded {
+                number: 0,
+                has_lead: 0,
+                place: 0,
+                sum: found.sum,
+                lead: 0.0,
+            },
+            Some(lead) => Decoded {
+                number: 0,
+                has_lead: 1,
+                place: 0,
+                sum: found.sum,
+                lead,
+            },
+        }
     }
 }
 
-pub fn numbers_of_decoding(answer: Decoding) -> Decoded
-    ensures { result ≡ decoded_numbers (said answer) }
-{
-    match answer {
-        Decoding::Decoded(found) => numbers_of_found(found),
-        Decoding::Refused(why) => Decoded {
-            number: why.number,
-            has_lead: 0,
-            place: why.place,
-            sum: 0.0,
-            lead: 0.0,
-        },
+impl From<Result<Found, Refusal>> for Decoded {
+    ghost from_gives = { λ answer told. told ≡ decoded_numbers (said answer) };
+
+    fn from(answer: Result<Found, Refusal>) -> Decoded {
+        match answer {
+            Ok(found) => found.into(),
+            Err(why) => Decoded {
+                number: why.number,
+                has_lead: 0,
+                place: why.place,
+                sum: 0.0,
+                lead: 0.0,
+            },
+        }
     }
 }
 
-pub fn numbers_of_score(answer: PathScore) -> Scored
-    ensures { result ≡ scored_numbers (score_said answer) }
-{
-    match answer {
-        PathScore::Scored(score) => Scored {
-            number: 0,
-            place: 0,
-            score: score,
-        },
-        PathScore::Refused(why) => Scored {
-            number: why.number,
-            place: why.place,
-            score: 0.0,
-        },
+impl From<Result<f64, Refusal>> for Scored {
+    ghost from_gives = { λ answer told. told ≡ scored_numbers (score_said answer) };
+
+    fn from(answer: Result<f64, Refusal>) -> Scored {
+        match answer {
+            Ok(score) => Scored {
+                number: 0,
+                place: 0,
+                score: score,
+            },
+            Err(why) => Scored {
+                number: why.number,
+                place: why.place,
+                score: 0.0,
+            },
+        }
     }
 }

@@ -3,7 +3,7 @@ ghost use Rattle.std.specs.Prelude.{◌≡◌};
 ghost use Rattle.training.specs.Said.{said};
 ghost use Rattle.answers.specs.Numbers.{trained_numbers};
 
-use training::Training;
+use refusals::Refusal;
 
 // The refusal's number and place, or epochs run, visits and updates; what has no value is 0.
 #[repr(C)]
@@ -16,23 +16,25 @@ pub struct Trained {
     pub updates: u64,
 }
 
-pub fn numbers_of_training(answer: Training) -> Trained
-    ensures { result ≡ trained_numbers (said answer) }
-{
-    match answer {
-        Training::Accepted(trained) => Trained {
-            number: 0,
-            place: 0,
-            epochs: trained.epochs,
-            visits: trained.visits,
-            updates: trained.updates,
-        },
-        Training::Refused(why) => Trained {
-            number: why.number,
-            place: why.place,
-            epochs: 0,
-            visits: 0,
-            updates: 0,
-        },
+impl From<Result<training::Trained, Refusal>> for Trained {
+    ghost from_gives = { λ answer told. told ≡ trained_numbers (said answer) };
+
+    fn from(answer: Result<training::Trained, Refusal>) -> Trained {
+        match answer {
+            Ok(trained) => Trained {
+                number: 0,
+                place: 0,
+                epochs: trained.epochs,
+                visits: trained.visits,
+                updates: trained.updates,
+            },
+            Err(why) => Trained {
+                number: why.number,
+                place: why.place,
+                epochs: 0,
+                visits: 0,
+                updates: 0,
+            },
+        }
     }
 }

@@ -30,11 +30,9 @@ pub fn spread_of(
     ensures { result ≡ through (spread truly.now predicted.now weight covariance.now) 0 features gamma }
 {
     let mut frac = gamma;
-    let mut i = 0usize;
-    while i < features {
+    for i in 0..features {
         let weighted = (truly[i] - predicted[i]) * weight;
-        frac = frac + weighted * weighted * covariance[i];
-        i += 1;
+        frac += weighted * weighted * covariance[i];
     }
     frac
 }
@@ -55,16 +53,14 @@ pub fn narrow(
     ensures { Moved features (narrowed truly.now predicted.now weight gamma alpha) (record { weights = weights.old; beside = covariance.old }) (record { weights = weights.new; beside = covariance.new }) result }
 {
     let mut all = true;
-    let mut i = 0usize;
-    while i < features {
+    for i in 0..features {
         let sigma = covariance[i];
         let delta = (truly[i] - predicted[i]) * weight;
         let w = weights[i] + alpha * sigma * delta;
         let narrower = 1.0 / (1.0 / sigma + over(delta * delta, gamma));
         weights[i] = w;
         covariance[i] = narrower;
-        all = all & binary64::are_finite(w, narrower);
-        i += 1;
+        all &= binary64::are_finite(w, narrower);
     }
     all
 }

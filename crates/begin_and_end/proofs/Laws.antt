@@ -1,4 +1,5 @@
 -- The end of a training: what a run comes to, by the tests that the code makes. Assumes nothing.
+use Rattle.std.specs.Prelude.{Ok, Err}
 use mathlib.Core.Path.{◌≡◌, refl, sym, ap, ◌∙◌}
 use mathlib.Core.Bool.{Bool, true, false, true≢false}
 use mathlib.Core.List.{List, [], ◌∷◌}
@@ -14,12 +15,11 @@ use Rattle.refusals.specs.Refusals.{numbered}
 use Rattle.training.specs.declared.Progress.{Progress}
 use Rattle.training.specs.declared.Visit.{Visit}
 use Rattle.training.specs.declared.Visit.TheVariants.{Unchanged, Updated, Refused}
-use Rattle.training.specs.declared.Training.TheVariants.{Accepted, Refused as NotTrained}
 use Rattle.training.specs.contracts.Visit.{the_type}
 use Rattle.lines.specs.Data.{Data}
 use Rattle.fronts.specs.Finite.{all_finite_of}
 use Rattle.training.specs.Rules.{Rule, averaged_by}
-use Rattle.training.specs.Epochs.{Settings, Run, Result, is_refused, refused_with, averaged, finished}
+use Rattle.training.specs.Epochs.{Settings, Run, TrainingResult, is_refused, refused_with, averaged, finished}
 use Rattle.begin_and_end.specs.declared.Ran.{Ran}
 use Rattle.begin_and_end.specs.Ending.{Finished, AveragedAs}
 
@@ -42,7 +42,7 @@ module _ (rule : Rule) (set : Settings) (m : Model) (d : Data) where
     same_end h = ap (λ (s : Progress). is_refused s.visit) (sym f.progress) ∙ h
 
     -- a visit was refused
-    pub visit_refused : {why : Refusal} {z : List Float} → ran.progress.visit ≡ Refused why → z ≡ replicate features nought → ◌≡◌ {A = Result} (record { answer = NotTrained why; weights = z }) (finished rule set m d r.state.progress.visit r)
+    pub visit_refused : {why : Refusal} {z : List Float} → ran.progress.visit ≡ Refused why → z ≡ replicate features nought → ◌≡◌ {A = TrainingResult} (record { answer = Err why; weights = z }) (finished rule set m d r.state.progress.visit r)
     unfolding finished refused_with
     visit_refused {why} h q =
         let v : r.state.progress.visit ≡ Refused why = ap (λ (s : Progress). s.visit) (sym f.progress) ∙ h in
@@ -55,11 +55,11 @@ module _ (rule : Rule) (set : Settings) (m : Model) (d : Data) where
       finite_are : {b : Bool} → all ≡ b → all_finite_of (averaged_by rule m.features.count (whole (r.state.progress.visits + 1)) r.state.learned) m.features.count ≡ b
       finite_are t = rw (averaged_are, e) (sym a.finite ∙ t)
 
-      pub accepted : all ≡ true → ◌≡◌ {A = Result} (record { answer = Accepted (record { epochs = ran.epochs; visits = ran.progress.visits; updates = ran.progress.updates }); weights = w }) (finished rule set m d r.state.progress.visit r)
+      pub accepted : all ≡ true → ◌≡◌ {A = TrainingResult} (record { answer = Ok (record { epochs = ran.epochs; visits = ran.progress.visits; updates = ran.progress.updates }); weights = w }) (finished rule set m d r.state.progress.visit r)
       unfolding averaged
       accepted t = rw (averaged_end r.state.progress.visit r (same_end h), finite_are t, averaged_are, f.epochs (same_end h), f.progress)
 
       -- 9 for the averaging
-      pub averaging_refused : all ≡ false → {why : Refusal} {z : List Float} → why ≡ numbered 9 ran.progress.visits → z ≡ replicate features nought → ◌≡◌ {A = Result} (record { answer = NotTrained why; weights = z }) (finished rule set m d r.state.progress.visit r)
+      pub averaging_refused : all ≡ false → {why : Refusal} {z : List Float} → why ≡ numbered 9 ran.progress.visits → z ≡ replicate features nought → ◌≡◌ {A = TrainingResult} (record { answer = Err why; weights = z }) (finished rule set m d r.state.progress.visit r)
       unfolding averaged refused_with
       averaging_refused t p q = rw (p, averaged_end r.state.progress.visit r (same_end h), finite_are t, q, f.progress, e)

@@ -10,12 +10,13 @@ ghost use Rattle.lines.specs.Data.{Data};
 ghost use Rattle.refusals.specs.Bounds.{the_instances, most};
 ghost use Rattle.training.specs.Counter.{most_visits};
 ghost use Rattle.training.specs.Rules.{Learned, beside_at_first, averaged_at, averaged_by};
-ghost use Rattle.training.specs.Epochs.{Settings, Run, Result, finished};
+ghost use Rattle.training.specs.Epochs.{Settings, Run, TrainingResult, finished};
 ghost use Rattle.parameters.specs.Trainers.{rule_of};
 ghost use Rattle.begin_and_end.specs.Ending.{Begun, Swept, AveragedAs, Finished};
 
 use parameters::Trainer;
-use training::{Progress, Trained, Training, Visit};
+use refusals::Refusal;
+use training::{Progress, Trained, Visit};
 
 // What a run of epochs comes to: the last progress, and how many epochs were run.
 #[derive(Clone, Copy)]
@@ -100,9 +101,9 @@ pub fn conclude(
     ran: Ran,
     beside: &[f64],
     weights: &mut [f64],
-) -> Training
+) -> Result<Trained, Refusal>
     requires { (length weights.old ≡ features) × (length beside.now ≡ features) × (ran.progress.visits ≤ most_visits) }
-    ensures { let made : Result = record { answer = result; weights = weights.new } in
+    ensures { let made : TrainingResult = record { answer = result; weights = weights.new } in
         ((set : Settings) (m : Model) (d : Data) (meant : Run) →
         m.features.count ≡ features →
         Finished ran weights.old beside.now meant →
@@ -113,18 +114,18 @@ pub fn conclude(
     let visits = progress.visits;
     if let Visit::Refused(why) = visit {
         fronts::fill(weights, features, 0.0);
-        return Training::Refused(why);
+        return Err(why);
     }
     let counter = (visits + 1) as f64;
     if average(trainer, features, counter, beside, weights) {
-        return Training::Accepted(Trained {
+        return Ok(Trained {
             epochs: ran.epochs,
             visits: visits,
             updates: progress.updates,
         });
     }
     fronts::fill(weights, features, 0.0);
-    Training::Refused(refusals::numbered(9, visits))
+    Err(refusals::numbered(9, visits))
 }
 
 // The work tables are zero at the end.

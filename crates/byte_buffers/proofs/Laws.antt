@@ -1,11 +1,11 @@
 -- Laws of stored bytes and of parts that are written one after another. Assumes nothing.
 use mathlib.Core.Path.{◌≡◌, refl, ◌∙◌, ap}
-use mathlib.Core.List.{List, [], ◌∷◌, ◌++◌}
+use mathlib.Core.List.{List, [], ◌∷◌, ◌++◌, append_assoc}
 use Prim.Native.Nat.{ℕ, suc, ◌+◌, ◌≤◌}
 use native.Mathlib.Numerals.{add-one}
 use native.Mathlib.Nat.{add-zero}
 use native.Mathlib.Omega.{arith}
-use lib.ListN.{length, set, drop, length-set, length-append}
+use lib.ListN.{length, set, take, drop, length-set, length-append}
 use lib.Seq.{sets, sets-eq, set_comm}
 use Rattle.byte_buffers.specs.Stored.{stored, RoomFor, Put, Written}
 
@@ -40,6 +40,10 @@ stored_sets : (l : List ℕ) (at : ℕ) (s : List ℕ) → stored l at s ≡ set
 unfolding stored
 stored_sets l at [] = refl
 stored_sets l at (a ∷ s) = rw add-one (stored_sets (set l at a) (suc at) s)
+
+-- over the places of a part
+pub stored_over : (l : List ℕ) (at : ℕ) (s : List ℕ) → at + length s ≤ length l → stored l at s ≡ take at l ++ (s ++ drop (at + length s) l)
+stored_over l at s h = stored_sets l at s ∙ sets-eq s l at h ∙ append_assoc (take at l) s (drop (at + length s) l)
 
 pub stored_front : (l s : List ℕ) → length s ≤ length l → stored l 0 s ≡ s ++ drop (length s) l
 stored_front l s h = let e : 0 + length s ≡ length s = omega arith in stored_sets l 0 s ∙ sets-eq s l 0 (rw e h) ∙ rw e

@@ -20,12 +20,7 @@ pub fn put_bytes(buffer: &mut [u8], at: usize, bytes: &[u8], from: usize, to: us
     requires room_for { RoomFor (slice from to bytes.now) buffer.old at }
     ensures { Put (slice from to bytes.now) buffer.old at result buffer.new }
 {
-    let mut i = from;
-    let mut k = at;
-    while i < to {
-        buffer[k] = bytes[i];
-        i += 1;
-        k += 1;
-    }
-    k
+    let end = at + (to - from);
+    buffer[at..end].copy_from_slice(&bytes[from..to]);
+    end
 }

@@ -7,31 +7,20 @@ ghost use Rattle.layout.specs.Scan.{class_of, next_mode_of, ends_scale, acceptin
 use layout::{Class, Mode};
 
 // What a byte is to the layout.
+#[tactic(auto, unfolding(layout::specs::Scan::class_of))]
 pub fn class_of(b: u8) -> Class
     ensures { result ≡ class_of b }
 {
-    if b == 9 {
-        return Class::Tab;
+    match b {
+        b'\t' => Class::Tab,
+        b'\n' => Class::Feed,
+        b':' => Class::Colon,
+        b'\\' => Class::Slash,
+        b'-' => Class::Minus,
+        b'.' => Class::Point,
+        b'0'..=b'9' => Class::Digit,
+        _ => Class::Other,
     }
-    if b == 10 {
-        return Class::Feed;
-    }
-    if b == 58 {
-        return Class::Colon;
-    }
-    if b == 92 {
-        return Class::Slash;
-    }
-    if b == 45 {
-        return Class::Minus;
-    }
-    if b == 46 {
-        return Class::Point;
-    }
-    if (48 <= b) & (b <= 57) {
-        return Class::Digit;
-    }
-    Class::Other
 }
 
 // The first byte of a line.
@@ -39,14 +28,10 @@ fn at_begin(c: Class) -> Mode
     ensures { result ≡ next_mode_of Mode.Begin c }
 {
     match c {
-        Class::Tab => Mode::Bad,
+        Class::Tab | Class::Colon => Mode::Bad,
         Class::Feed => Mode::Begin,
-        Class::Colon => Mode::Bad,
         Class::Slash => Mode::Slashed(false),
-        Class::Minus => Mode::Inside(false),
-        Class::Point => Mode::Inside(false),
-        Class::Digit => Mode::Inside(false),
-        Class::Other => Mode::Inside(false),
+        Class::Minus | Class::Point | Class::Digit | Class::Other => Mode::Inside(false),
     }
 }
 
@@ -66,10 +51,7 @@ fn in_name(attribute: bool, c: Class) -> Mode
         Class::Feed => Mode::Begin,
         Class::Colon => at_colon(attribute),
         Class::Slash => Mode::Slashed(attribute),
-        Class::Minus => Mode::Inside(attribute),
-        Class::Point => Mode::Inside(attribute),
-        Class::Digit => Mode::Inside(attribute),
-        Class::Other => Mode::Inside(attribute),
+        Class::Minus | Class::Point | Class::Digit | Class::Other => Mode::Inside(attribute),
     }
 }
 
@@ -78,14 +60,8 @@ fn behind_slash(attribute: bool, c: Class) -> Mode
     ensures { result ≡ next_mode_of (Mode.Slashed attribute) c }
 {
     match c {
-        Class::Tab => Mode::Bad,
-        Class::Feed => Mode::Bad,
-        Class::Colon => Mode::Inside(attribute),
-        Class::Slash => Mode::Inside(attribute),
-        Class::Minus => Mode::Bad,
-        Class::Point => Mode::Bad,
-        Class::Digit => Mode::Bad,
-        Class::Other => Mode::Bad,
+        Class::Colon | Class::Slash => Mode::Inside(attribute),
+        _ => Mode::Bad,
     }
 }
 
@@ -94,14 +70,9 @@ fn at_field(c: Class) -> Mode
     ensures { result ≡ next_mode_of Mode.Field c }
 {
     match c {
-        Class::Tab => Mode::Bad,
-        Class::Feed => Mode::Bad,
-        Class::Colon => Mode::Bad,
+        Class::Tab | Class::Feed | Class::Colon => Mode::Bad,
         Class::Slash => Mode::Slashed(true),
-        Class::Minus => Mode::Inside(true),
-        Class::Point => Mode::Inside(true),
-        Class::Digit => Mode::Inside(true),
-        Class::Other => Mode::Inside(true),
+        Class::Minus | Class::Point | Class::Digit | Class::Other => Mode::Inside(true),
     }
 }
 
@@ -110,14 +81,10 @@ fn at_value(c: Class) -> Mode
     ensures { result ≡ next_mode_of Mode.Value c }
 {
     match c {
-        Class::Tab => Mode::Bad,
-        Class::Feed => Mode::Bad,
-        Class::Colon => Mode::Bad,
-        Class::Slash => Mode::Bad,
         Class::Minus => Mode::Digits(0, false),
         Class::Point => Mode::Digits(0, true),
         Class::Digit => Mode::Digits(1, false),
-        Class::Other => Mode::Bad,
+        _ => Mode::Bad,
     }
 }
 
@@ -145,18 +112,9 @@ fn in_digits(digits: u32, point: bool, c: Class) -> Mode
     match c {
         Class::Tab => ended(digits, Mode::Field),
         Class::Feed => ended(digits, Mode::Begin),
-        Class::Colon => Mode::Bad,
-        Class::Slash => Mode::Bad,
-        Class::Minus => Mode::Bad,
-        Class::Point => {
-            if point {
-                Mode::Bad
-            } else {
-                Mode::Digits(digits, true)
-            }
-        }
+        Class::Point if !point => Mode::Digits(digits, true),
         Class::Digit => one_more(digits, point),
-        Class::Other => Mode::Bad,
+        _ => Mode::Bad,
     }
 }
 
@@ -166,11 +124,11 @@ pub fn next_mode(mode: Mode, c: Class) -> Mode
 {
     match mode {
         Mode::Begin => at_begin(c),
-        Mode::Inside(k) => in_name(k, c),
-        Mode::Slashed(k) => behind_slash(k, c),
+        Mode::Inside(attribute) => in_name(attribute, c),
+        Mode::Slashed(attribute) => behind_slash(attribute, c),
         Mode::Field => at_field(c),
         Mode::Value => at_value(c),
-        Mode::Digits(d, p) => in_digits(d, p, c),
+        Mode::Digits(digits, point) => in_digits(digits, point, c),
         Mode::Bad => Mode::Bad,
     }
 }
@@ -180,13 +138,9 @@ pub fn may_end(mode: Mode) -> bool
     ensures { result ≡ accepting mode }
 {
     match mode {
-        Mode::Begin => true,
-        Mode::Inside(_) => true,
-        Mode::Slashed(_) => false,
-        Mode::Field => false,
-        Mode::Value => false,
-        Mode::Digits(d, _) => d != 0,
-        Mode::Bad => false,
+        Mode::Begin | Mode::Inside(_) => true,
+        Mode::Digits(digits, _) => digits != 0,
+        _ => false,
     }
 }
 
@@ -194,13 +148,5 @@ pub fn may_end(mode: Mode) -> bool
 pub fn is_alive(mode: Mode) -> bool
     ensures { result ≡ alive mode }
 {
-    match mode {
-        Mode::Begin => true,
-        Mode::Inside(_) => true,
-        Mode::Slashed(_) => true,
-        Mode::Field => true,
-        Mode::Value => true,
-        Mode::Digits(_, _) => true,
-        Mode::Bad => false,
-    }
+    !matches!(mode, Mode::Bad)
 }

@@ -1,8 +1,8 @@
 -- Inputs that agree where scoring looks get the same scores. Assumes nothing.
+use Rattle.std.specs.Prelude.{Ok}
 use mathlib.Core.Path.{◌≡◌, sym, ◌∙◌}
 use lib.ListN.{take}
 use lib.Seq.{take_at}
-use Rattle.refusals.specs.declared.Checked.TheVariants.{Accepted}
 use Rattle.refusals.proofs.Laws.{both}
 use Rattle.lines.proofs.Fronts.{length_states, length_transitions}
 use Rattle.refusals.specs.Said.{accepted, said_of}
@@ -13,7 +13,7 @@ use Rattle.compute_scores.specs.Independent.{scoring_input_of, SameScores}
 
 -- the fronts of a line that is scored hold its scores
 module _ (given : Given) (before : Buffers) (outcome : Outcome) (kept : Promised given before outcome) (scored : said_of outcome.answer ≡ accepted tt) where
-  passed : (checked_of given before ≡ Accepted) × (scores_finished_of given ≡ Accepted)
+  passed : (checked_of given before ≡ Ok tt) × (scores_finished_of given ≡ Ok tt)
   unfolding answer_to
   passed = both (checked_of given before) (scores_finished_of given) ((done_said _).0 (sym kept.answers ∙ scored))
 

@@ -1,13 +1,12 @@
 -- What an accepted line gives its scores' tables, and how the call keeps its promise. Assumes nothing.
+use Rattle.std.specs.Prelude.{Ok, Err}
 use mathlib.Core.Path.{◌≡◌, ◌∙◌}
 use mathlib.Core.List.{List, ◌++◌}
 use native.Mathlib.Nat.{mul-le-mul}
 use lib.ListN.{length, drop}
 use lib.Ieee.{Float}
 use Rattle.refusals.specs.declared.Refusal.{Refusal}
-use Rattle.refusals.specs.declared.Checked.{Checked}
-use Rattle.refusals.specs.declared.Checked.TheVariants.{Accepted, Refused}
-use Rattle.refusals.specs.Refusals.{or_next_of}
+use Rattle.refusals.specs.Refusals.{Checked, or_next_of}
 use Rattle.score_tables.specs.Sound.{ScoresSized}
 use Rattle.lines.proofs.Fronts.{length_states, length_transitions}
 use Rattle.line_check.specs.Sound.{SoundScoring}
@@ -39,8 +38,8 @@ finished_is given before p q =
 
 -- a refusal beforehand leaves the buffers
 pub refused_kept : (given : Given) (before : Buffers) {answer : Checked} {states transitions : List Float} (why : Refusal) →
-    checked_of given before ≡ Refused why →
-    answer ≡ Refused why →
+    checked_of given before ≡ Err why →
+    answer ≡ Err why →
     states ≡ before.states →
     transitions ≡ before.transitions →
     Promised given before (record { answer = answer; states = states; transitions = transitions })
@@ -48,7 +47,7 @@ unfolding answer_to states_after transitions_after or_next_of
 refused_kept given before why h e p q = record { answers = rw (h, e); states = rw h p; transitions = rw h q }
 
 -- the scores were made, and cleared where 8 is given
-module _ (given : Given) (before : Buffers) (accepted : checked_of given before ≡ Accepted) where
+module _ (given : Given) (before : Buffers) (accepted : checked_of given before ≡ Ok tt) where
   pub made_kept : {states transitions after after' : List Float} {r : Checked} →
       states ≡ states_of_line given ++ drop (state_entries given) before.states →
       transitions ≡ transitions_of_line given ++ drop (transition_entries given) before.transitions →

@@ -1,7 +1,6 @@
 -- What scoring a line answers means what `ScoringMeans` says. Assumes nothing.
 use mathlib.Core.Path.{sym, ◌∙◌}
-use Rattle.refusals.specs.declared.Checked.{Checked}
-use Rattle.refusals.specs.Refusals.{numbered, or_next_of}
+use Rattle.refusals.specs.Refusals.{Checked, numbered, or_next_of}
 use Rattle.line_check.proofs.Meant.{scoring_means}
 use Rattle.line_check.specs.Rows.{scoring_counts, scoring_rooms}
 use Rattle.refusals.proofs.Said.{refused_said, done_said}

@@ -1,7 +1,6 @@
 -- What scoring a line promises: document 01's answer to what the call is given, and what the lent buffers hold afterwards. Assumes nothing.
 use Rattle.std.specs.Prelude.{◌≡◌, List, ℕ, ◌*◌, length, Float}
-use Rattle.refusals.specs.declared.Checked.{Checked}
-use Rattle.refusals.specs.Refusals.{or_next_of}
+use Rattle.refusals.specs.Refusals.{Checked, or_next_of}
 use Rattle.binary64.specs.Numbers.{nought}
 use Rattle.lines.specs.Tables.{Model, Words}
 use Rattle.lines.specs.Scored.{states_of, transitions_of}

@@ -20,7 +20,7 @@ ghost use Rattle.compute_scores.specs.Promise.{states_of_line, transitions_of_li
 
 use feature_gen::Counts;
 use lines::{Attribute, Span};
-use refusals::Checked;
+use refusals::Refusal;
 
 // The entry at a place of the attribute lists: a State adds weight·value in the word's row, at its destination.
 fn state_entry(
@@ -46,7 +46,7 @@ fn state_entry(
     if kinds[i] == 0 {
         let p = word * labels + lines::at(destinations, i);
         let weight = weights[i];
-        states[p] = states[p] + weight * value;
+        states[p] += weight * value;
     }
 }
 
@@ -70,9 +70,7 @@ pub fn score_attribute(
         states.new ≡ through_span (state_entry_of m weights.now word attribute.value) span states.old }
 {
     let value = attribute.value;
-    let last = span.last;
-    let mut e = span.first;
-    while e < last {
+    for e in span.first..span.last {
         state_entry(
             labels,
             features,
@@ -85,7 +83,6 @@ pub fn score_attribute(
             e,
             states,
         );
-        e += 1;
     }
 }
 
@@ -117,10 +114,9 @@ fn score_word(
         states.new ≡ through (scored_at m weights.now d word) from (to - from) states.old }
 {
     if from < to {
-        let mut a = from;
-        let mut attribute = lines::attribute_before(ids, values, to, a);
+        let mut attribute = lines::attribute_before(ids, values, to, from);
         let mut span = lines::attribute_span(lists, starts, attribute);
-        while a < to {
+        for a in from..to {
             let next = lines::attribute_before(ids, values, to, a + 1);
             let ahead = lines::attribute_span(lists, starts, next);
             score_attribute(
@@ -137,7 +133,6 @@ fn score_word(
             );
             attribute = next;
             span = ahead;
-            a += 1;
         }
     }
 }
@@ -169,8 +164,7 @@ pub fn score_line(
         states.new ≡ states_of m weights.now d first words ++ drop (words * labels) states.old }
 {
     fronts::fill(states, words * labels, 0.0);
-    let mut word = 0;
-    while word < words {
+    for word in 0..words {
         let from = lines::at(begins, first + word);
         let to = lines::at(begins, first + word + 1);
         score_word(
@@ -189,7 +183,6 @@ pub fn score_line(
             word,
             states,
         );
-        word += 1;
     }
 }
 
@@ -217,7 +210,7 @@ fn transition_entry(
         let source = lines::at(sources, i);
         let destination = lines::at(destinations, i);
         let p = source * labels + destination;
-        transitions[p] = transitions[p] + weights[i];
+        transitions[p] += weights[i];
     }
 }
 
@@ -239,9 +232,7 @@ pub fn score_label(
     ensures { let m = transitions_was bare labels features kinds destinations sources 0 [] entries in
         transitions.new ≡ through_span (transition_entry_of m weights.now) span transitions.old }
 {
-    let last = span.last;
-    let mut e = span.first;
-    while e < last {
+    for e in span.first..span.last {
         transition_entry(
             labels,
             features,
@@ -253,7 +244,6 @@ pub fn score_label(
             e,
             transitions,
         );
-        e += 1;
     }
 }
 
@@ -278,9 +268,7 @@ pub fn score_transitions(
         transitions.new ≡ transitions_of m weights.now ++ drop (labels * labels) transitions.old }
 {
     fronts::fill(transitions, labels * labels, 0.0);
-    let shared = lines::smaller(labels, lists);
-    let mut label = 0;
-    while label < shared {
+    for label in 0..labels.min(lists) {
         let span = lines::list_span(lists, starts, label);
         score_label(
             labels,
@@ -293,7 +281,6 @@ pub fn score_transitions(
             span,
             transitions,
         );
-        label += 1;
     }
 }
 
@@ -378,13 +365,13 @@ pub fn compute_scores(
     values: &[f64],
     transitions: &mut [f64],
     states: &mut [f64],
-) -> Checked
+) -> Result<(), Refusal>
     ensures { let m = model_was labels counts kinds destinations sources attribute_starts attribute_entries label_starts label_entries in
         let g = given_was m weights words attributes begins ids values in
         let b = buffers_of transitions.old states.old in
         Promised g b (record { answer = result; transitions = transitions.new; states = states.new }) }
 {
-    let checked = line_check::check_scoring(
+    if let Err(why) = line_check::check_scoring(
         labels,
         counts,
         kinds,
@@ -402,8 +389,7 @@ pub fn compute_scores(
         values,
         transitions.len(),
         states.len(),
-    );
-    if let Checked::Refused(why) = checked {
+    ) {
         return finished::refuse_scores(why, states, transitions);
     }
     fill_scores(

@@ -33,7 +33,7 @@ pub extern "C" fn bodkinbloom_extract_features(
         Counted (record { model = m; words = words; line = line; path = path.now })
         feature_counts.old (record { answer = result; counts = feature_counts.new }) }
 {
-    let answer = extract_features::extract_features(
+    Refused::from(extract_features::extract_features(
         labels,
         words,
         counts,
@@ -50,6 +50,5 @@ pub extern "C" fn bodkinbloom_extract_features(
         values,
         path,
         feature_counts,
-    );
-    answers::checks::numbers_of_check(answer)
+    ))
 }

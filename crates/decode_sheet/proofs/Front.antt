@@ -1,4 +1,5 @@
 -- One byte past the longest sheet decides the line of a file: the head is in front of it, and a longer file has the wrong length. Assumes nothing.
+use Rattle.std.specs.Prelude.{Ok, Err}
 use mathlib.Core.Path.{◌≡◌, refl, sym}
 use mathlib.Core.Bool.{Bool, true, false}
 use mathlib.Core.List.{List}
@@ -10,9 +11,7 @@ use borrow.Author.Tests.{le-ltb, ltb-true, ltb-false}
 use lib.Dec.{ltb}
 use lib.ListN.{length, take}
 use lib.Seq.{take_all, length-take-le, get_or-take}
-use Rattle.refusals.specs.declared.Checked.{Checked}
-use Rattle.refusals.specs.declared.Checked.TheVariants.{Accepted, Refused}
-use Rattle.refusals.specs.Refusals.{refused_at, or_next_of}
+use Rattle.refusals.specs.Refusals.{Checked, refused_at, or_next_of}
 use Rattle.refusals.proofs.Laws.{all_accepted}
 use Rattle.sheet.specs.Rows.{head_rows}
 use Rattle.sheet.specs.RowsMeaning.{InBounds, RightLength}
@@ -57,16 +56,16 @@ unfolding head_checked or_next_of
 long_file file room l h = go (head_checked file) refl
   where
     go : (c : Checked) → head_checked file ≡ c → buffer_checked file room ≡ or_next_of (head_checked file) (refused_at 10 0)
-    go Accepted e =
-        let b = (in_bounds file).0 (all_accepted Accepted (head_rows file) e).1 in
+    go (Ok _) e =
+        let b = (in_bounds file).0 (all_accepted (Ok tt) (head_rows file) e).1 in
         rw e ((file_means file (line_means room)).ten.1 (inr ((b, l), too_long file h b)))
-    go (Refused why) e = rw e (sym (sizes_refused file (line_short room) why (sym (head_refused file (line_short room) why e))))
+    go (Err why) e = rw e (sym (sizes_refused file (line_short room) why (sym (head_refused file (line_short room) why e))))
 
 -- a file that the head or 10 refuses has no path's line
 said_refused : (c : Checked) (a b : List ℕ) → line_said (or_next_of c (refused_at 10 0)) a ≡ line_said (or_next_of c (refused_at 10 0)) b
 unfolding or_next_of
-said_refused Accepted a b = refl
-said_refused (Refused why) a b = refl
+said_refused (Ok _) a b = refl
+said_refused (Err why) a b = refl
 
 pub front_decides : FrontDecides
 unfolding printed_line

@@ -1,4 +1,5 @@
 -- From what the reader promises of the bytes to what is promised of the line. Assumes nothing.
+use Rattle.std.specs.Prelude.{Ok, Err}
 use mathlib.Core.Path.{◌≡◌, sym, ◌∙◌, ap}
 use mathlib.Core.List.{List, [], ◌++◌, append_assoc, append-nil}
 use Prim.Native.Nat.{ℕ, ◌*◌, ◌<◌, ◌≤◌}
@@ -7,11 +8,9 @@ use lib.ListN.{length, take, drop, length-append}
 use lib.Seq.{take_at, length-take-le}
 use lib.Ieee.{Float}
 use Rattle.refusals.specs.declared.Refusal.{Refusal}
-use Rattle.refusals.specs.declared.Checked.TheVariants.{Accepted, Refused}
 use Rattle.best_path.specs.Scores.{tabled}
 use Rattle.best_path.specs.Decoded.{decoded_path, decoded_sum}
 use Rattle.score_tables.specs.Sound.{SoundScores}
-use Rattle.sheet.specs.declared.Reading.{Reading}
 use Rattle.sheet.specs.Fields.{labels_in_of, words_in, transitions_in_of, states_in_of}
 use Rattle.sheet.specs.Rows.{Lent, sheet_checked}
 use Rattle.sheet.specs.Promise as reader
@@ -21,7 +20,6 @@ use Rattle.sheet.proofs.RowsMeant.{file_means}
 use Rattle.byte_buffers.specs.Stored as buffer
 use Rattle.answer_line.specs.Line as line
 use Rattle.answer_line.specs.Line.{path_room}
-use Rattle.decode_sheet.specs.declared.Written.{Written}
 use Rattle.decode_sheet.specs.Answer.{path_line_for, buffer_checked}
 use Rattle.decode_sheet.specs.Promise.{answer_to, line_after, Promised}
 use Rattle.decode_sheet.proofs.Rows.{Lends, rows, line_means, read_by, transitions_size, states_size, sound_in}
@@ -39,21 +37,21 @@ lent transitions states room = record { transitions = take room transitions; sta
 
 -- the promise, by the two answers
 module _ (bytes before : List ℕ) where
-  pub promised_refused : (why : Refusal) → buffer_checked bytes (length before) ≡ Refused why → Promised (record { bytes = bytes }) before (record { answer = Written.Refused why; line = before })
+  pub promised_refused : (why : Refusal) → buffer_checked bytes (length before) ≡ Err why → Promised (record { bytes = bytes }) before (record { answer = Err why; line = before })
   unfolding answer_to line_after
   promised_refused why h = record { answers = rw h; fills_line = rw h }
 
-  pub promised_path : (size : ℕ) (after : List ℕ) → buffer_checked bytes (length before) ≡ Accepted → buffer.Written (path_line_for bytes) before size after → Promised (record { bytes = bytes }) before (record { answer = Written.Path size; line = after })
+  pub promised_path : (size : ℕ) (after : List ℕ) → buffer_checked bytes (length before) ≡ Ok tt → buffer.Written (path_line_for bytes) before size after → Promised (record { bytes = bytes }) before (record { answer = Ok size; line = after })
   unfolding answer_to line_after
   promised_path size after h w = record { answers = rw (h, w.counted); fills_line = rw h w.written }
 
   -- a line that is accepted has its room
-  roomy : buffer_checked bytes (length before) ≡ Accepted → path_room ≤ length before
+  roomy : buffer_checked bytes (length before) ≡ Ok tt → path_room ≤ length before
   roomy h = ((file_means bytes (line_means (length before))).accepted.0 h).1
 
 -- what a file that is read gives to the decoder
 pub record Tables (bytes before : List ℕ) (transitions states : List Float) (room labels words : ℕ) (o : reader.Outcome) : Type 0 where
-  pub accepted : buffer_checked bytes (length before) ≡ Accepted
+  pub accepted : buffer_checked bytes (length before) ≡ Ok tt
   pub line_long : path_room ≤ length before
   pub labels_are : labels ≡ labels_in_of bytes
   pub words_are : words ≡ words_in bytes
@@ -85,11 +83,11 @@ module _ (bytes before : List ℕ) (transitions states : List Float) (room : ℕ
   checked : sheet_checked (record { bytes = bytes }) (lent transitions states room) ≡ buffer_checked bytes (length before)
   checked = rows bytes (length before) (lent transitions states room) lends
 
-  pub read_refused : (o : reader.Outcome) → reader.Promised (record { bytes = bytes }) (lent transitions states room) o → (why : Refusal) → o.answer ≡ Reading.Refused why → Promised (record { bytes = bytes }) before (record { answer = Written.Refused why; line = before })
+  pub read_refused : (o : reader.Outcome) → reader.Promised (record { bytes = bytes }) (lent transitions states room) o → (why : Refusal) → o.answer ≡ Err why → Promised (record { bytes = bytes }) before (record { answer = Err why; line = before })
   unfolding reader.answer_to
   read_refused o p why h = promised_refused bytes before why (sym checked ∙ (refused_by bytes _ _ p.answers why.number why.place).0 (ap reader.said h))
 
-  pub read_tables : (o : reader.Outcome) → reader.Promised (record { bytes = bytes }) (lent transitions states room) o → (labels words : ℕ) → o.answer ≡ Reading.Read labels words → Tables bytes before transitions states room labels words o
+  pub read_tables : (o : reader.Outcome) → reader.Promised (record { bytes = bytes }) (lent transitions states room) o → (labels words : ℕ) → o.answer ≡ Ok (record { labels = labels; words = words }) → Tables bytes before transitions states room labels words o
   unfolding reader.answer_to reader.transitions_after reader.states_after
   read_tables o p labels words h =
       let r = read_by bytes (sheet_checked (record { bytes = bytes }) (lent transitions states room)) labels words (rw h at p.answers) in
@@ -119,7 +117,7 @@ module _ {bytes before : List ℕ} {transitions states : List Float} {room label
 
   pub promised_line : {n : ℕ} {after : List ℕ} →
       (let s = tabled labels (take size (o.transitions ++ drop room transitions)) (take count o.states) in buffer.Written (line.path_line_of (decoded_sum s words) (decoded_path s words)) before n after) →
-      Promised (record { bytes = bytes }) before (record { answer = Written.Path n; line = after })
+      Promised (record { bytes = bytes }) before (record { answer = Ok n; line = after })
   unfolding path_line_for
   promised_line w =
       promised_path bytes before _ _ t.accepted (rw (size_is, count_is, t.transitions_front, t.states_front, t.labels_are, t.words_are) at w)

@@ -1,4 +1,5 @@
 -- The bytes of the longest sheet do not decide the line of a file that begins with them: with one byte more it is refused. Assumes nothing.
+use Rattle.std.specs.Prelude.{Ok, Err}
 use mathlib.Core.Path.{◌≡◌, sym, ◌∙◌, ap}
 use mathlib.Core.List.{List, [], ◌∷◌, ◌++◌}
 use Prim.Native.Nat.{ℕ, ◌<◌}
@@ -6,9 +7,7 @@ use native.Mathlib.Omega.{arith}
 use lib.ListN.{length, replicate, length-replicate, get_or-replicate, length-append}
 use lib.Seq.{take_at}
 use lib.Ieee.{Float, nan, fits}
-use Rattle.refusals.specs.declared.Checked.{Checked}
-use Rattle.refusals.specs.declared.Checked.TheVariants.{Accepted, Refused}
-use Rattle.refusals.specs.Refusals.{refused_at, or_next_of}
+use Rattle.refusals.specs.Refusals.{Checked, refused_at, or_next_of}
 use Rattle.sheet.specs.File.{Sheet, encoded, Finite64, SoundSheet}
 use Rattle.sheet.proofs.Files.{long}
 use Rattle.answer_line.specs.Line.{path_line_of, path_room}
@@ -49,8 +48,8 @@ largest_long = long largest largest_sound
 -- what the head or 10 refuses is no path's line
 refused_apart : (c : Checked) (sum : Float) (labels text : List ℕ) → path_line_of sum labels ≡ line_said (or_next_of c (refused_at 10 0)) text → ⊥
 unfolding or_next_of
-refused_apart Accepted sum labels text e = one_saying.either sum labels 10 0 e
-refused_apart (Refused why) sum labels text e = one_saying.either sum labels why.number why.place e
+refused_apart (Ok _) sum labels text e = one_saying.either sum labels 10 0 e
+refused_apart (Err why) sum labels text e = one_saying.either sum labels why.number why.place e
 
 -- a longer file is refused, and its front is not
 longer_apart : (s : Sheet) → SoundSheet s → (file : List ℕ) → longest_sheet < length file → printed_line (encoded s) ≡ printed_line file → ⊥

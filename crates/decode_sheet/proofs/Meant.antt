@@ -1,4 +1,5 @@
 -- What `decode_sheet` answers and what is printed mean what the rows of the file mean. Assumes nothing.
+use Rattle.std.specs.Prelude.{Ok, Err}
 use mathlib.Core.Path.{◌≡◌, refl, sym, ◌∙◌, ap}
 use mathlib.Core.List.{List, [], ◌∷◌}
 use mathlib.Core.Logic.{◌↔◌, inl, inr}
@@ -11,9 +12,7 @@ use lib.Seq.{take_at}
 use lib.Ieee.{Float, nan, binary64, fits}
 use lib.Ieee.Bits.{of_bits-fits}
 use lib.Ieee.Fits.{nan-fits, add-fits}
-use Rattle.refusals.specs.declared.Checked.{Checked}
-use Rattle.refusals.specs.declared.Checked.TheVariants.{Accepted, Refused}
-use Rattle.refusals.specs.Refusals.{numbered, refused_at}
+use Rattle.refusals.specs.Refusals.{Checked, numbered, refused_at}
 use Rattle.best_path.specs.Scores.{Scores, extended}
 use Rattle.best_path.specs.Decoded.{best, last_label, decoded_path, decoded_sum}
 use Rattle.best_path.proofs.Laws.{decoded_length, decoded_allowed}
@@ -44,7 +43,7 @@ module _ (text : List ℕ) (said : Said ℕ) (c : Checked) (e : said ≡ answer_
     λ h. e ∙ ap (λ (c : Checked). answer_by c text) h,
   )
 
-  pub path_said : ((size : ℕ) × (said ≡ accepted size)) ↔ c ≡ Accepted
+  pub path_said : ((size : ℕ) × (said ≡ accepted size)) ↔ c ≡ Ok tt
   path_said = (λ h. (path_by text c h.0 (sym h.1 ∙ e)).0, λ h. (length text, e ∙ ap (λ (c : Checked). answer_by c text) h))
 
 pub answering_means : AnsweringMeans
@@ -89,7 +88,7 @@ sayable bytes b =
 pub always : Row (line_short path_room) 2 (Unit {0})
 always = row 2 _ (λ h. tt) (λ u. refl)
 
-abbrev pub rows_mean : (bytes : List ℕ) → Meaning (λ number place. buffer_checked bytes path_room ≡ refused_at number place) (buffer_checked bytes path_room ≡ Accepted) bytes (Unit {0})
+abbrev pub rows_mean : (bytes : List ℕ) → Meaning (λ number place. buffer_checked bytes path_room ≡ refused_at number place) (buffer_checked bytes path_room ≡ Ok tt) bytes (Unit {0})
 rows_mean bytes = file_means bytes always
 
 -- a refusal's number and place are of 64 bits
@@ -123,24 +122,24 @@ module _ (bytes line : List ℕ) (printed : line ≡ printed_line bytes) where
   refused_printed number place = (λ h. to h (buffer_checked bytes path_room) refl, from)
     where
       to : SaysRefused line number place → (c : Checked) → buffer_checked bytes path_room ≡ c → buffer_checked bytes path_room ≡ refused_at number place
-      to h Accepted e = absurd (one_saying.either _ _ number place (sym (by_rows _ e) ∙ h.says))
-      to h (Refused why) e =
+      to h (Ok _) e = absurd (one_saying.either _ _ number place (sym (by_rows _ e) ∙ h.says))
+      to h (Err why) e =
           let k = known bytes why.number why.place e in
           let s = one_saying.refused why.number why.place number place k.0 k.1 h.number_in h.place_in (sym (by_rows _ e) ∙ h.says) in
-          e ∙ ap Refused (same_parts why (numbered number place) s.0 s.1)
+          e ∙ ap Err (same_parts why (numbered number place) s.0 s.1)
 
       from : buffer_checked bytes path_room ≡ refused_at number place → SaysRefused line number place
       from h = let k = known bytes number place h in record { number_in = k.0; place_in = k.1; says = by_rows _ h }
 
-  path_printed : ((sum : Float) × (labels : List ℕ) × SaysPath line sum labels) ↔ buffer_checked bytes path_room ≡ Accepted
+  path_printed : ((sum : Float) × (labels : List ℕ) × SaysPath line sum labels) ↔ buffer_checked bytes path_room ≡ Ok tt
   unfolding path_line_for
   path_printed = (λ w. to w.2 (buffer_checked bytes path_room) refl, from)
     where
-      to : {sum : Float} {labels : List ℕ} → SaysPath line sum labels → (c : Checked) → buffer_checked bytes path_room ≡ c → buffer_checked bytes path_room ≡ Accepted
-      to h Accepted e = e
-      to h (Refused why) e = absurd (one_saying.either _ _ why.number why.place (sym h.says ∙ by_rows _ e))
+      to : {sum : Float} {labels : List ℕ} → SaysPath line sum labels → (c : Checked) → buffer_checked bytes path_room ≡ c → buffer_checked bytes path_room ≡ Ok tt
+      to h (Ok _) e = e
+      to h (Err why) e = absurd (one_saying.either _ _ why.number why.place (sym h.says ∙ by_rows _ e))
 
-      from : buffer_checked bytes path_room ≡ Accepted → (sum : Float) × (labels : List ℕ) × SaysPath line sum labels
+      from : buffer_checked bytes path_room ≡ Ok tt → (sum : Float) × (labels : List ℕ) × SaysPath line sum labels
       from h = (_, _, record { sayable = sayable bytes ((rows_mean bytes).accepted.0 h).0.in_bounds; says = by_rows _ h })
 
 -- what was written of the line

@@ -1,19 +1,19 @@
 -- No two different outcomes satisfy the promises of `decode_sheet` and `print_sheet`. Assumes nothing.
+use Rattle.std.specs.Prelude.{Ok, Err, Result}
+use Rattle.refusals.specs.declared.Refusal.{Refusal}
 use mathlib.Core.Path.{◌≡◌, sym, ◌∙◌, ap}
 use Prim.Native.Nat.{ℕ}
 use native.Mathlib.Omega.{arith}
 use Rattle.refusals.proofs.Said.{same_refusal}
-use Rattle.decode_sheet.specs.declared.Written.{Written}
-use Rattle.decode_sheet.specs.declared.Written.TheVariants.{Path, Refused}
 use Rattle.decode_sheet.specs.Promise.{Outcome, said, OnlyOne}
 use Rattle.decode_sheet.specs.Program.{OnlyOnePrinted}
 
 -- what is said tells the answer
-said_tells : (a b : Written) → said a ≡ said b → a ≡ b
-said_tells (Path m) (Path n) h = cc
-said_tells (Path m) (Refused why) h = let z : ◌≡◌ {A = ℕ} 0 1 = cc in absurd (omega arith)
-said_tells (Refused why) (Path n) h = let z : ◌≡◌ {A = ℕ} 0 1 = cc in absurd (omega arith)
-said_tells (Refused why) (Refused other) h = ap Refused (same_refusal h)
+said_tells : (a b : Result ℕ Refusal) → said a ≡ said b → a ≡ b
+said_tells (Ok m) (Ok n) h = cc
+said_tells (Ok m) (Err why) h = let z : ◌≡◌ {A = ℕ} 0 1 = cc in absurd (omega arith)
+said_tells (Err why) (Ok n) h = let z : ◌≡◌ {A = ℕ} 0 1 = cc in absurd (omega arith)
+said_tells (Err why) (Err other) h = ap Err (same_refusal h)
 
 pub only_one : OnlyOne
 only_one given before o p h k = rebuilt (said_tells o.answer p.answer (h.answers ∙ sym k.answers)) (h.fills_line ∙ sym k.fills_line)

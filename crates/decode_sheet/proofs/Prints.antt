@@ -1,6 +1,6 @@
 -- The file of every sound sheet is answered by the line of its decoded path and sum. Assumes nothing.
+use Rattle.std.specs.Prelude.{Ok}
 use mathlib.Core.Path.{◌≡◌}
-use Rattle.refusals.specs.declared.Checked.TheVariants.{Accepted}
 use Rattle.best_path.specs.Scores.{tabled}
 use Rattle.best_path.specs.Decoded.{decoded_path, decoded_sum}
 use Rattle.sheet.specs.File.{Sheet, encoded, SoundSheet}
@@ -19,5 +19,5 @@ path_line_back s sound = rw (labels_back s sound, words_back s sound, transition
 pub prints_the_path : PrintsThePath
 unfolding printed_line
 prints_the_path s sound =
-    let accepted : buffer_checked (encoded s) path_room ≡ Accepted = (rows_mean (encoded s)).accepted.1 (right_file s sound, tt) in
+    let accepted : buffer_checked (encoded s) path_room ≡ Ok tt = (rows_mean (encoded s)).accepted.1 (right_file s sound, tt) in
     rw accepted (path_line_back s sound)

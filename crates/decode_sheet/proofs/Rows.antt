@@ -1,4 +1,5 @@
 -- The rows of a sheet that is decoded into a line, by way of the reader's rows over tables with room for every sheet. Assumes nothing.
+use Rattle.std.specs.Prelude.{Ok, Err}
 use mathlib.Core.Path.{◌≡◌, refl, ap}
 use mathlib.Core.Bool.{Bool, true, false}
 use mathlib.Core.List.{List}
@@ -8,9 +9,7 @@ use native.Mathlib.Omega.{arith}
 use borrow.Author.Tests.{lt-ltb, le-ltb, ltb-true, ltb-false}
 use lib.Dec.{ltb}
 use lib.ListN.{length}
-use Rattle.refusals.specs.declared.Checked.{Checked}
-use Rattle.refusals.specs.declared.Checked.TheVariants.{Accepted, Refused}
-use Rattle.refusals.specs.Refusals.{refuse}
+use Rattle.refusals.specs.Refusals.{Checked, refuse}
 use Rattle.refusals.specs.Tables.{short}
 use Rattle.refusals.proofs.Laws.{passes}
 use Rattle.score_tables.specs.Rows.{scores_short}
@@ -58,15 +57,15 @@ line_means room = row 2 _ (λ h. ltb-false room path_room (passes 2 0 _ h)) (λ 
 -- ---- what the reader answers
 
 pub record ReadBy (bytes : List ℕ) (c : Checked) (labels words : ℕ) : Type 0 where
-  pub accepted : c ≡ Accepted
+  pub accepted : c ≡ Ok tt
   pub labels_are : labels ≡ labels_in_of bytes
   pub words_are : words ≡ words_in bytes
 
 pub read_by : (bytes : List ℕ) (c : Checked) (labels words : ℕ) → read labels words ≡ answer_by c bytes → ReadBy bytes c labels words
-read_by bytes Accepted labels words h =
+read_by bytes (Ok _) labels words h =
     let e = same_given h in
     record { accepted = refl; labels_are = ap (λ (z : LabelsAndWords). z.labels) e; words_are = ap (λ (z : LabelsAndWords). z.words) e }
-read_by bytes (Refused why) labels words h = let z : ◌≡◌ {A = ℕ} 0 1 = cc in absurd (omega arith)
+read_by bytes (Err why) labels words h = let z : ◌≡◌ {A = ℕ} 0 1 = cc in absurd (omega arith)
 
 -- how many numbers a file's tables have
 pub transitions_size : (bytes : List ℕ) → length (transitions_in_of bytes) ≡ labels_in_of bytes * labels_in_of bytes

@@ -1,7 +1,6 @@
 -- What document 01 says of a sheet's bytes: the line of its path, and the rows of refusals. Assumes nothing.
 use Rattle.std.specs.Prelude.{List, ℕ}
-use Rattle.refusals.specs.declared.Checked.{Checked}
-use Rattle.refusals.specs.Refusals.{refuse}
+use Rattle.refusals.specs.Refusals.{Checked, refuse}
 use Rattle.refusals.specs.Tables.{short}
 use Rattle.best_path.specs.Scores.{Scores, tabled}
 use Rattle.best_path.specs.Decoded.{decoded_path, decoded_sum}

@@ -1,7 +1,6 @@
 -- What the program `decode` prints of the bytes that it read. Assumes nothing.
-use Rattle.std.specs.Prelude.{◌≡◌, List, ◌++◌, ℕ, length, drop}
-use Rattle.refusals.specs.declared.Checked.{Checked}
-use Rattle.refusals.specs.declared.Checked.TheVariants.{Accepted, Refused}
+use Rattle.std.specs.Prelude.{◌≡◌, List, ◌++◌, ℕ, length, drop, Ok, Err}
+use Rattle.refusals.specs.Refusals.{Checked}
 use Rattle.best_path.specs.Scores.{tabled}
 use Rattle.best_path.specs.Decoded.{decoded_path, decoded_sum}
 use Rattle.sheet.specs.File.{Sheet, encoded, SoundSheet}
@@ -10,8 +9,8 @@ use Rattle.decode_sheet.specs.Answer.{path_line_for, buffer_checked}
 
 -- "prints one line: `PATH` ..; or `REFUSED` .."
 abbrev pub line_said : Checked → List ℕ → List ℕ
-line_said Accepted line = line
-line_said (Refused why) line = refused_line_of why.number why.place
+line_said (Ok _) line = line
+line_said (Err why) line = refused_line_of why.number why.place
 
 -- the program lends room for the longest line
 unfoldable pub printed_line : List ℕ → List ℕ

@@ -1,10 +1,8 @@
 -- What `decode_sheet` promises: the answer, and what the lent line holds afterwards. Assumes nothing.
-use Rattle.std.specs.Prelude.{◌≡◌, List, ◌++◌, ℕ, length, drop}
-use Rattle.refusals.specs.declared.Checked.{Checked}
-use Rattle.refusals.specs.declared.Checked.TheVariants.{Accepted, Refused}
+use Rattle.refusals.specs.declared.Refusal.{Refusal}
+use Rattle.std.specs.Prelude.{◌≡◌, List, ◌++◌, ℕ, length, drop, Ok, Err, Result}
+use Rattle.refusals.specs.Refusals.{Checked}
 use Rattle.refusals.specs.Said.{Said, accepted, refused, or_refused}
-use Rattle.decode_sheet.specs.declared.Written.{Written}
-use Rattle.decode_sheet.specs.declared.Written.TheVariants.{Path, Refused as WrittenRefused}
 use Rattle.decode_sheet.specs.Answer.{path_line_for, buffer_checked}
 
 -- what the call is given: the file's bytes
@@ -13,13 +11,13 @@ pub record Given : Type 0 where
 
 -- the answer, and what the lent line holds afterwards
 pub record Outcome : Type 0 where
-  pub answer : Written
+  pub answer : Result ℕ Refusal
   pub line : List ℕ
 
 -- document 01's number and values for each case of the answer; a path's line has a length
-abbrev pub said : Written → Said ℕ
-said (Path size) = accepted size
-said (WrittenRefused why) = refused why
+abbrev pub said : Result ℕ Refusal → Said ℕ
+said (Ok size) = accepted size
+said (Err why) = refused why
 
 -- the refusal of the first row that refuses, or else the length of the path's line
 abbrev pub answer_by : Checked → List ℕ → Said ℕ
@@ -27,8 +25,8 @@ answer_by checked line = or_refused checked (accepted (length line))
 
 -- "After 1 to 7 and 10 every lent buffer holds its entry contents"; else the line stands in front, and the tail is unchanged
 abbrev pub line_by : Checked → List ℕ → List ℕ → List ℕ
-line_by Accepted line before = line ++ drop (length line) before
-line_by (Refused why) line before = before
+line_by (Ok _) line before = line ++ drop (length line) before
+line_by (Err why) line before = before
 
 unfoldable pub answer_to : Given → List ℕ → Said ℕ
 answer_to given before = answer_by (buffer_checked given.bytes (length before)) (path_line_for given.bytes)

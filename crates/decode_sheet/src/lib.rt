@@ -13,13 +13,7 @@ ghost use Rattle.decode_sheet.specs.Program.{Printed};
 use answer_line::PATH_ROOM;
 use refusals::Refusal;
 use score_tables::entries;
-use sheet::Reading;
-
-#[derive(Clone, Copy)]
-pub enum Written {
-    Path(usize),
-    Refused(Refusal),
-}
+use sheet::Size;
 
 // Room for the labels of a line: "Words T: 1 to 128 a line."
 const MOST_LABELLED: usize = 128;
@@ -48,7 +42,7 @@ fn decode_with(
     transitions: &mut [f64],
     states: &mut [f64],
     line: &mut [u8],
-) -> Written
+) -> Result<usize, Refusal>
     requires { (1024 ≤ length transitions.old) × (4096 ≤ length states.old) }
     ensures { Promised (record { bytes = bytes.now }) line.old (record { answer = result; line = line.new }) }
 {
@@ -58,19 +52,14 @@ fn decode_with(
     } else {
         transitions.len()
     };
-    match sheet::read_sheet(bytes, &mut transitions[..room], states) {
-        Reading::Refused(why) => Written::Refused(why),
-        Reading::Read { labels, words } => {
-            let size = entries(labels, labels);
-            let count = entries(words, labels);
-            let n = write_path(labels, words, &transitions[..size], &states[..count], line);
-            Written::Path(n)
-        }
-    }
+    let Size { labels, words } = sheet::read_sheet(bytes, &mut transitions[..room], states)?;
+    let size = entries(labels, labels);
+    let count = entries(words, labels);
+    Ok(write_path(labels, words, &transitions[..size], &states[..count], line))
 }
 
 // The line of the path, or a refusal that leaves the lent line as it was.
-pub fn decode_sheet(bytes: &[u8], line: &mut [u8]) -> Written
+pub fn decode_sheet(bytes: &[u8], line: &mut [u8]) -> Result<usize, Refusal>
     ensures { Promised (record { bytes = bytes.now }) line.old (record { answer = result; line = line.new }) }
 {
     let mut transitions = [0.0f64; 1024];
@@ -83,7 +72,7 @@ pub fn print_sheet(bytes: &[u8], line: &mut [u8; PATH_ROOM]) -> usize
     ensures { Printed bytes.now line.old result line.new }
 {
     match decode_sheet(bytes, line) {
-        Written::Path(n) => n,
-        Written::Refused(why) => answer_line::refused_line(why.number, why.place, line),
+        Ok(n) => n,
+        Err(why) => answer_line::refused_line(why.number, why.place, line),
     }
 }

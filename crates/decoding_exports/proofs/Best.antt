@@ -1,8 +1,8 @@
 -- Demand 3 of every line that C hands over. Assumes nothing.
+use Rattle.std.specs.Prelude.{Ok}
 use mathlib.Core.Path.{◌≡◌, ap, ◌∙◌}
 use lib.ListN.{take, drop}
 use lib.Seq.{take_at}
-use Rattle.refusals.specs.declared.Checked.TheVariants.{Accepted}
 use Rattle.best_path.specs.Decoded.{decoded_path, decoded_sum}
 use Rattle.best_path.specs.Lead.{lead}
 use Rattle.best_path.proofs.Laws.{decoded_length}
@@ -17,7 +17,7 @@ unfolding answer_to path_after
 every_line_is_best given before outcome kept sound long =
     let s = scores_of given in
     let words = given.words in
-    let accepted : checked_of given before ≡ Accepted = (decoding_means _ _ _ _ _).accepted.1 (sound, long) in
+    let accepted : checked_of given before ≡ Ok tt = (decoding_means _ _ _ _ _).accepted.1 (sound, long) in
     let answer = rw accepted at kept.answers in
     let low = sound.sized.words_in_lem.low in
     let best = demand_3 s words sound.sized.labels_in.low low sound.finite in

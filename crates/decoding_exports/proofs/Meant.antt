@@ -1,9 +1,9 @@
 -- What C is told of a decoded line and of a scored path means what `Meaning` says. Assumes nothing.
+use Rattle.std.specs.Prelude.{Ok}
 use mathlib.Core.Path.{◌≡◌, refl, ap}
 use mathlib.Core.List.{[], ◌∷◌}
 use Prim.Native.Nat.{ℕ}
 use lib.Ieee.{Float}
-use Rattle.refusals.specs.declared.Checked.TheVariants.{Accepted}
 use Rattle.refusals.specs.Said.{Said}
 use Rattle.best_path.specs.Scores.{tabled}
 use Rattle.best_path.specs.Decoded.{decoded_sum}
@@ -52,6 +52,6 @@ scores_mean given answer kept =
 pub every_path_is_scored : EveryPathIsScored
 unfolding path.answer_to
 every_path_is_scored given answer kept sound =
-    let accepted : path.checked_of given ≡ Accepted = (scoring.paths_mean given).accepted.1 sound in
+    let accepted : path.checked_of given ≡ Ok tt = (scoring.paths_mean given).accepted.1 sound in
     let e = rw accepted at kept.answers in
     (ap (λ a. a.number) e, ap (λ a. a.score) e)

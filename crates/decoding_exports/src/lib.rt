@@ -17,8 +17,7 @@ pub extern "C" fn bodkinbloom_viterbi_decode(
 ) -> Decoded
     ensures { Decodes (record { labels = labels; words = words; transitions = transitions.now; states = states.now }) path.old (record { answer = result; path = path.new }) }
 {
-    let answer = viterbi::viterbi_decode(labels, words, transitions, states, path);
-    answers::decoding::numbers_of_decoding(answer)
+    Decoded::from(viterbi::viterbi_decode(labels, words, transitions, states, path))
 }
 
 // The score of the first `count` labels of a path over the score tables of a line.
@@ -33,6 +32,5 @@ pub extern "C" fn bodkinbloom_sequence_score(
 ) -> Scored
     ensures { ScoresPath (record { labels = labels; words = words; transitions = transitions.now; states = states.now; path = path.now; count = count }) result }
 {
-    let answer = sequence_score::sequence_score(labels, words, transitions, states, path, count);
-    answers::decoding::numbers_of_score(answer)
+    Scored::from(sequence_score::sequence_score(labels, words, transitions, states, path, count))
 }

@@ -1,5 +1,7 @@
 -- The definitions answer every desk case as document 01 does: one statement, which the checker computes. Assumes nothing.
-use Rattle.std.specs.Prelude.{◌≡◌, refl, List, [], ◌∷◌, map, ℕ, length, Float}
+use Rattle.refusals.specs.declared.Refusal.{Refusal}
+use Rattle.training.specs.declared.Trained.{Trained}
+use Rattle.std.specs.Prelude.{◌≡◌, refl, List, [], ◌∷◌, map, ℕ, length, Float, Ok, Err, Result}
 use Rattle.std.specs.Float.{binary64}
 use Rattle.std.specs.Float.Ieee.{of_bits, to_bits, add, sub, mul, div, lt, le, eq, is_nan, of_int, round}
 use Rattle.best_path.specs.Scores.{tabled, extended}
@@ -13,14 +15,12 @@ use Rattle.lines.specs.Scored.{state_entry_of, scored_attribute, scored_at, scor
 use Rattle.lines.specs.Counted.{state_count, counted_attribute, counted_at, counted_word, transition_count_of, counted_transition, counts_of}
 use Rattle.shuffle.specs.Shuffle.{chosen, swapped, swapped_at, shuffled_from, shuffled}
 use Rattle.roots.specs.Root.{whole_root, nearest_root}
-use Rattle.training.specs.declared.Training.{Training}
-use Rattle.training.specs.declared.Training.TheVariants.{Accepted, Refused}
 use Rattle.lines.specs.Data.{Data}
 use Rattle.training.specs.Wrong.{wrong_at, wrong_of}
 use Rattle.fronts.specs.Finite.{all_finite_of}
 use Rattle.training.specs.Rules.{pushed, squared, pulled, spread, narrowed, step_of, by_perceptron, by_passive, by_arow, updated_by, beside_at_first, stops, averaged_at, averaged_by}
 use Rattle.training.specs.Visits.{refused_as, unchanged, changed_to, finite_state, held_to, corrected, compared, visited}
-use Rattle.training.specs.Epochs.{Settings, Result, counted_from, opened, visited_at, epoch_over, epoch, epoch_unless_over, begun, ran, refused_with, averaged, finished}
+use Rattle.training.specs.Epochs.{Settings, TrainingResult, counted_from, opened, visited_at, epoch_over, epoch, epoch_unless_over, begun, ran, refused_with, averaged, finished}
 use Rattle.training.specs.Epochs as E
 use Rattle.desk_cases.specs.Cases.{Question, decode, score, train, Answer, decoded, scored, trained, refused, CaseLead, no_lead, by, Case, cases}
 
@@ -53,10 +53,10 @@ single reference = record {
   weights = floats (0x3FF0000000000000 ∷ []);
 }
 
-result : Training → List Float → Answer
+result : Result Trained Refusal → List Float → Answer
 unfolding to_bits
-result (Accepted t) weights = trained t.epochs t.visits t.updates (map (to_bits binary64) weights)
-result (Refused why) weights = refused why.number why.place
+result (Ok t) weights = trained t.epochs t.visits t.updates (map (to_bits binary64) weights)
+result (Err why) weights = refused why.number why.place
 
 -- what the definitions answer
 pub answer : Question → Answer

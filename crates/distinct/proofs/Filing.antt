@@ -3,7 +3,7 @@ use mathlib.Core.Path.{◌≡◌, refl, sym, ap, subst, ◌∙◌}
 use mathlib.Core.Bool.{Bool, true, false, ◌||◌, true≢false, false≢true}
 use mathlib.Core.List.{List, [], ◌∷◌, ◌++◌}
 use Prim.Native.Nat.{ℕ, zero, suc, ◌+◌, ◌-◌, ◌*◌, ◌/◌, ◌%◌, ◌≤◌, ◌<◌}
-use native.Mathlib.Nat.{mod-lt, mod-eq_of_lt, add-mod_right, suc-ne-zero, le_refl, mul_comm, mul-lt-mul_of_pos_right, mul-le-mul, div-lt_iff_lt-mul}
+use native.Mathlib.Nat.{mod-lt, mod-eq_of_lt, add-mod_right, suc-ne-zero, le_refl, mul_comm, mul-lt-mul_of_pos_right, div-lt_iff_lt-mul}
 use native.Mathlib.Omega.{arith}
 use lib.Dec.{ltb, eqb, lit<}
 use lib.ListN.{length, get_or, set, length-set, get_or-append}
@@ -51,9 +51,6 @@ on_the_way size h i a b = go (ltb i h) refl
 -- a product with a number of 32 bits, its upper 32 bits taken, is below the other factor
 pub share_low : (size x : ℕ) → 0 < size → x < 4294967296 → x * size / 4294967296 < size
 share_low size x some h = (div-lt_iff_lt-mul (lit< tt)).1 (subst (λ (y : ℕ). x * size < y) (mul_comm 4294967296 size) (mul-lt-mul_of_pos_right h some))
-
-pub share_fits : (size x : ℕ) → x < 4294967296 → size ≤ 4294967295 → x * size ≤ 18446744065119617025
-share_fits size x h few = mul-le-mul {n₂ = 4294967295} {m₂ = 4294967295} (omega (arith, h)) few
 
 pub home_low : (size : ℕ) (n : Bytes) → 0 < size → home size n < size
 unfolding home

@@ -3,54 +3,44 @@ use mathlib.Core.Path.{◌≡◌, refl, sym, ap, subst, ◌∙◌}
 use mathlib.Core.Bool.{Bool, true, false, cond}
 use mathlib.Core.List.{List, [], ◌∷◌, map}
 use Prim.Native.Nat.{ℕ, zero, suc, ◌+◌, ◌-◌, ◌*◌, ◌/◌, ◌%◌, ◌≤◌, ◌<◌}
-use native.Mathlib.Nat.{mod-lt, mod-eq_of_lt, mod_self, mod-add-mod, add-zero}
+use native.Mathlib.Nat.{mod-lt, mod-eq_of_lt, mod-add-mod, add-zero}
 use native.Mathlib.Numerals.{add-one}
 use native.Mathlib.Omega.{arith}
 use lib.Dec.{lit<}
 use lib.ListN.{length, get_or, take, drop, length-map, drop_of_length-le}
-use lib.Seq.{slice, slice_empty, slice-cons, length-take-le, get_or-take, drop-cons}
+use lib.Seq.{slice, length-take-le, get_or-take, drop-cons}
 use borrow.Author.Tests.{ne_eqb}
 use Rattle.layout.specs.Layout.{Bytes}
 use Rattle.text_tables.specs.Distinct.{same, id_in}
 use Rattle.pieces.specs.Standing.{ends_name_of, name_ends}
-use Rattle.distinct.specs.Names.{ends_at, name_at, names_at, NameStands, Listed}
+use Rattle.distinct.specs.Names.{ends_at, name_at, names_at, NameStands}
 use Rattle.distinct.specs.Slots.{hashed, home, slot_at, ends_search, first_step, slot_for, Searchable}
 use Rattle.distinct.proofs.First.{step_on, step_here, step_none}
 use Rattle.distinct.proofs.Filing.{home_low, ends_free}
 use Rattle.distinct.proofs.Raw.{stands_bytes}
 
 -- ---- the number of a name, byte by byte
-pub record Hashing (text : Bytes) (from to h i : ℕ) : Type 0 where
-  pub upto : i ≤ to
+pub record Hashing (name : Bytes) (h i : ℕ) : Type 0 where
   pub small : h < 4294967296
-  pub rest : hashed h (slice i to text) ≡ hashed 0 (slice from to text)
-
-pub hash_begins : (text : Bytes) (from to : ℕ) → from ≤ to → Hashing text from to 0 from
-hash_begins text from to h = record { upto = h; small = lit< tt; rest = refl }
+  pub rest : hashed h (drop i name) ≡ hashed 0 name
 
 hash_cons : (h b : ℕ) (rest : Bytes) → hashed h (b ∷ rest) ≡ hashed ((h * 16777619 + b) % 4294967296) rest
 unfolding hashed
 hash_cons h b rest = refl
 
-pub hash_on : (text : Bytes) (from to h i r : ℕ) → to ≤ length text → Hashing text from to h i → i < to → r ≡ (h * 16777619 + get_or text i 0) % 4294967296 → Hashing text from to r (i + 1)
-hash_on text from to h i r l g s e = record {
-  upto = omega (arith, s);
-  small = subst (λ (x : ℕ). x < 4294967296) (sym e) (mod-lt (h * 16777619 + get_or text i 0) (lit< tt));
+pub hash_on : (name : Bytes) (h i r : ℕ) → Hashing name h i → i < length name → r ≡ (h * 16777619 + get_or name i 0) % 4294967296 → Hashing name r (i + 1)
+hash_on name h i r g s e = record {
+  small = subst (λ (x : ℕ). x < 4294967296) (sym e) (mod-lt (h * 16777619 + get_or name i 0) (lit< tt));
   rest =
-      ap (λ (x : ℕ). hashed x (slice (i + 1) to text)) e
-      ∙ sym (hash_cons h (get_or text i 0) (slice (i + 1) to text))
-      ∙ ap (hashed h) (ap (λ (x : ℕ). get_or text i 0 ∷ slice x to text) (add-one i) ∙ sym (slice-cons i to text 0 s l))
+      ap (λ (x : ℕ). hashed x (drop (i + 1) name)) e
+      ∙ sym (hash_cons h (get_or name i 0) (drop (i + 1) name))
+      ∙ ap (hashed h) (ap (λ (x : ℕ). get_or name i 0 ∷ drop x name) (add-one i) ∙ sym (drop-cons name i 0 s))
       ∙ g.rest;
 }
 
-pub hash_ends : (text : Bytes) (from to h i size : ℕ) → Hashing text from to h i → to ≤ i → h * 2654435769 % 4294967296 * size / 4294967296 ≡ home size (slice from to text)
+pub hash_ends : (name : Bytes) (h i size : ℕ) → Hashing name h i → length name ≤ i → h * 2654435769 % 4294967296 * size / 4294967296 ≡ home size name
 unfolding home hashed
-hash_ends text from to h i size g s =
-    let u = g.upto in
-    ap (λ (x : ℕ). x * 2654435769 % 4294967296 * size / 4294967296) (sym (nothing (omega (arith, u, s))) ∙ g.rest)
-  where
-    nothing : i ≡ to → hashed h (slice i to text) ≡ h
-    nothing e = ap (λ (x : ℕ). hashed h (slice x to text)) e ∙ ap (hashed h) (slice_empty to text)
+hash_ends name h i size g s = ap (λ (x : ℕ). x * 2654435769 % 4294967296 * size / 4294967296) (sym (ap (hashed h) (drop_of_length-le name {i = i} s)) ∙ g.rest)
 
 -- ---- where a name may end
 pub ends_inside : (text : Bytes) (at : ℕ) → at < length text → ends_name_of (get_or text at 0) ≡ ends_at text at
@@ -60,16 +50,6 @@ ends_inside text at h = ap name_ends (sym (drop-cons text at 0 h))
 pub ends_behind : (text : Bytes) (at : ℕ) → length text ≤ at → true ≡ ends_at text at
 unfolding ends_at
 ends_behind text at h = ap name_ends (sym (drop_of_length-le text {i = at} h))
-
--- ---- the slot behind a slot
-pub next_slot : (i size : ℕ) → i + 1 < size → i + 1 ≡ (i + 1) % size
-next_slot i size h = sym (mod-eq_of_lt h)
-
-pub first_slot : (i size : ℕ) → i < size → size ≤ i + 1 → 0 ≡ (i + 1) % size
-first_slot i size a b = sym (ap (λ (x : ℕ). x % size) (last i size a b) ∙ mod_self size)
-  where
-    last : (i size : ℕ) → i < size → size ≤ i + 1 → i + 1 ≡ size
-    last i size a b = omega (arith, a, b)
 
 -- ---- the names at places
 mapped : {A B : Type 0} (f : A → B) (xs : List A) (n : ℕ) (d : B) (e : A) → n < length xs → get_or (map f xs) n d ≡ f (get_or xs n e)
@@ -132,19 +112,10 @@ slot_says text slots positions count name size i k v p r g s e full q f =
     rw (here, ne_eqb v 0 full)
     (ap (λ (x : Bytes). same x name) (name_is text positions count (v - 1) s.listed.room (omega (arith, low, e, full)) ∙ ap (name_at text) (sym q)) ∙ sym f)
 
-pub id_inside : (text : Bytes) (slots positions : List ℕ) (count i v : ℕ) → Searchable text slots positions count → v ≡ get_or slots i 0 → (v ≡ 0 → ⊥) → v - 1 < count
-id_inside text slots positions count i v s e full = let low = s.low i in omega (arith, low, e, full)
-
-pub position_inside : (text : Bytes) (positions : List ℕ) (count v p : ℕ) → Listed text positions count → v < count → p ≡ get_or positions v 0 → p ≤ length text
-position_inside text positions count v p l h e = subst (λ (x : ℕ). x ≤ length text) (sym e) (l.inside v h)
-
 -- ---- labels, one by one
 pub record Comparing (known : List Bytes) (name : Bytes) (i : ℕ) : Type 0 where
   pub upto : i ≤ length known
   pub rest : i + id_in (drop i known) name ≡ id_in known name
-
-pub compare_begins : (known : List Bytes) (name : Bytes) → Comparing known name 0
-compare_begins known name = record { upto = omega arith; rest = omega arith }
 
 id_cons : (m : Bytes) (known : List Bytes) (name : Bytes) → id_in (m ∷ known) name ≡ cond (same m name) 0 (suc (id_in known name))
 unfolding id_in

@@ -1,5 +1,5 @@
 -- The name that a text begins with: a front of the text, behind which a name may end; and `escaped` makes it. Assumes nothing.
-use mathlib.Core.Path.{◌≡◌, refl, sym, ap, subst, ◌∙◌}
+use mathlib.Core.Path.{◌≡◌, refl, sym, ap, ◌∙◌}
 use mathlib.Core.Bool.{Bool, true, false, cond, ◌||◌, true≢false}
 use mathlib.Core.List.{[], ◌∷◌, ◌++◌}
 use Prim.Native.Nat.{ℕ, ◌+◌, ◌-◌, ◌≤◌, ◌<◌}
@@ -7,7 +7,7 @@ use native.Mathlib.Omega.{arith}
 use lib.Dec.{eqb}
 use lib.ListN.{length, get_or, take, drop, length-append, length-drop, take-append-drop, get_or-append}
 use lib.Seq.{slice, length-slice, length-take-le, drop-append-le, get_or-drop, get_or-take, drop-drop, ext_get_or}
-use borrow.Author.Tests.{eqb-true, eqb-false, ne_eqb}
+use borrow.Author.Tests.{ne_eqb}
 use Rattle.layout.specs.Layout.{Bytes, escaped, Clean}
 use Rattle.text_tables.specs.Distinct.{same}
 use Rattle.pieces.specs.Standing.{ends_name_of, name_ends, Named}
@@ -104,16 +104,6 @@ slice_byte text f n j h = get_or-drop f (take (f + n) text) j 0 ∙ get_or-take 
 pub record Alike (text : Bytes) (p from n k : ℕ) : Type 0 where
   pub upto : k ≤ n
   pub bytes : (j : ℕ) → j < k → get_or text (p + j) 0 ≡ get_or text (from + j) 0
-
-pub alike_begins : (text : Bytes) (p from n : ℕ) → Alike text p from n 0
-alike_begins text p from n = record { upto = omega arith; bytes = λ j h. absurd (omega (arith, h)) }
-
-pub alike_on : (text : Bytes) (p from n k : ℕ) → Alike text p from n k → k < n → get_or text (p + k) 0 ≡ get_or text (from + k) 0 → Alike text p from n (k + 1)
-alike_on text p from n k g h e = record { upto = omega (arith, h); bytes = λ j l. each j l (eqb j k) refl }
-  where
-    each : (j : ℕ) → j < k + 1 → (x : Bool) → eqb j k ≡ x → get_or text (p + j) 0 ≡ get_or text (from + j) 0
-    each j l true q = subst (λ (x : ℕ). get_or text (p + x) 0 ≡ get_or text (from + x) 0) (sym (eqb-true j k q)) e
-    each j l false q = let d = eqb-false j k q in g.bytes j (omega (arith, l, d))
 
 module _ (text : Bytes) (p from to n : ℕ) (h : NameStands text from to) (e : n ≡ to - from) where
   pub too_short : length text - p < n → same (name_at text p) (name_at text from) ≡ false

@@ -10,18 +10,12 @@ ghost use Rattle.text_tables.specs.Distinct.{same, id_in};
 ghost use Rattle.distinct.specs.Names.{ends_at, name_at, names_at, NameStands, Listed, Known, LearntLabel};
 ghost use Rattle.distinct.specs.Slots.{home, slot_for, Searchable, Tabled, LearntName};
 
-fn wide(b: u8) -> u64
-    ensures { result ≡ b }
-{
-    b as u64
-}
-
 // One byte more in the number of a name.
 fn hash_byte(h: u64, b: u8) -> u64
     requires { h < 4294967296 }
     ensures { result ≡ (h * 16777619 + b) % 4294967296 }
 {
-    (h * 16777619 + wide(b)) % 4294967296
+    (h * 16777619 + u64::from(b)) % 4294967296
 }
 
 // Where the search for the bytes from one place up to another begins, among so many slots. No division: the upper bits of a product.
@@ -30,10 +24,8 @@ fn home_of(text: &[u8], from: usize, to: usize, size: usize) -> usize
     ensures { result ≡ home size (slice from to text.now) }
 {
     let mut h = 0u64;
-    let mut i = from;
-    while i < to {
-        h = hash_byte(h, text[i]);
-        i += 1;
+    for b in &text[from..to] {
+        h = hash_byte(h, *b);
     }
     (h * 2654435769 % 4294967296 * (size as u64) / 4294967296) as usize
 }
@@ -44,7 +36,7 @@ fn ends_at(text: &[u8], at: usize) -> bool
 {
     if at < text.len() {
         let b = text[at];
-        return (b == 9) | (b == 10) | (b == 58);
+        return (b == b'\t') | (b == b'\n') | (b == b':');
     }
     true
 }
@@ -58,12 +50,10 @@ fn same_name(text: &[u8], p: usize, from: usize, to: usize) -> bool
     if text.len() - p < n {
         return false;
     }
-    let mut k = 0usize;
-    while k < n {
+    for k in 0..n {
         if text[p + k] != text[from + k] {
             return false;
         }
-        k += 1;
     }
     ends_at(text, p + n)
 }
@@ -92,8 +82,7 @@ fn seek(
 {
     let size = slots.len();
     let mut i = home_of(text, from, to, size);
-    let mut k = 0usize;
-    while k < size {
+    for _ in 0..size {
         let v = lines::at(slots, i);
         if v == 0 {
             return i;
@@ -103,7 +92,6 @@ fn seek(
             return i;
         }
         i = slot_after(i, size);
-        k += 1;
     }
     i
 }
@@ -165,13 +153,11 @@ pub fn label_id(text: &[u8], positions: &[u32], count: usize, from: usize, to: u
     ensures { let t = text.now in
         ((known : List Bytes) → Known t positions.now count known → result ≡ id_in known (name_at t from)) }
 {
-    let mut i = 0usize;
-    while i < count {
+    for i in 0..count {
         let p = lines::at(positions, i);
         if same_name(text, p, from, to) {
             return i;
         }
-        i += 1;
     }
     count
 }

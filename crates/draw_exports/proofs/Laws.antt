@@ -1,11 +1,11 @@
 -- The bound of a shuffle, by the test that the code makes. Assumes nothing.
+use Rattle.std.specs.Prelude.{Ok}
 use mathlib.Core.Path.{◌≡◌}
 use mathlib.Core.Bool.{true, false}
 use Prim.Native.Nat.{ℕ, ◌<◌, ◌≤◌}
 use native.Mathlib.Omega.{arith}
 use borrow.Author.Tests.{ltb-false}
 use lib.Dec.{ltb}
-use Rattle.refusals.specs.declared.Checked.TheVariants.{Accepted}
 use Rattle.refusals.specs.Refusals.{refuse, refused_at}
 use Rattle.refusals.specs.Bounds.{the_instances, most, outside_its}
 use Rattle.refusals.proofs.Laws.{neither}
@@ -15,7 +15,7 @@ pub refused_outside : (n : ℕ) → outside_its the_instances n ≡ true → che
 unfolding refuse
 refused_outside n h = rw h
 
-pub accepted_within : (n : ℕ) → outside_its the_instances n ≡ false → check n ≡ Accepted
+pub accepted_within : (n : ℕ) → outside_its the_instances n ≡ false → check n ≡ Ok tt
 unfolding refuse
 accepted_within n h = rw h
 

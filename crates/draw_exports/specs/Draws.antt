@@ -1,8 +1,6 @@
 -- What a draw and a shuffle from C give. Assumes nothing.
-use Rattle.std.specs.Prelude.{◌≡◌, List, ℕ, length}
-use Rattle.refusals.specs.declared.Checked.{Checked}
-use Rattle.refusals.specs.declared.Checked.TheVariants.{Accepted, Refused as refused_by}
-use Rattle.refusals.specs.Refusals.{refuse}
+use Rattle.std.specs.Prelude.{◌≡◌, List, ℕ, length, Ok, Err}
+use Rattle.refusals.specs.Refusals.{Checked, refuse}
 use Rattle.refusals.specs.Bounds.{the_instances, outside_its}
 use Rattle.refusals.specs.Said.{said_of}
 use Rattle.generator.specs.Draw.{number, next}
@@ -27,8 +25,8 @@ check n = refuse 2 0 (outside_its the_instances n)
 
 -- where nothing is refused the deal is shuffled, else it is as at entry
 abbrev pub dealt : Checked → ℕ → Deal → Deal
-dealt Accepted n d = shuffled n d
-dealt (refused_by why) n d = d
+dealt (Ok _) n d = shuffled n d
+dealt (Err why) n d = d
 
 -- the promise: of the state and the order at entry, and the outcome
 pub record Shuffling (state : ℕ) (order : List ℕ) (o : Shuffled) : Type 0 where

@@ -6,7 +6,7 @@ ghost use Rattle.draw_exports.specs.Draws.{Drew, Shuffled, Shuffling};
 
 use answers::checks::Refused;
 
-// The bound of `theInstances`.
+// The bound of `the_instances`.
 pub const MOST_INSTANCES: usize = 16384;
 
 // One draw of SplitMix64: the number is the answer, and the state is advanced.

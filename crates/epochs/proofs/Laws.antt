@@ -2,6 +2,7 @@
 use mathlib.Core.Path.{◌≡◌, refl, sym, ap, ◌∙◌, subst}
 use mathlib.Core.Bool.{Bool, true, false, ◌||◌, true≢false}
 use Prim.Native.Nat.{ℕ, ◌+◌, ◌≤◌, ◌<◌}
+use native.Mathlib.Nat.{le_antisymm}
 use native.Mathlib.Omega.{arith}
 use lib.Ieee.{Float}
 use Rattle.shuffle.specs.Shuffle.{Deal, shuffled}
@@ -29,12 +30,12 @@ first_false false b e = refl
 
 module _ (visit : ℕ → TrainingState → TrainingState) (stop : Float → Bool) (n : ℕ) (r₀ : Run) where
   -- none of the epochs allowed ended training
-  pub all_run : (e allowed : ℕ) (s : TrainingState) (k : Deal) → e ≤ allowed → allowed ≤ e → s.progress.visits ≤ most_visits → ◌≡◌ {A = Run} (record { state = s; deal = k; epochs = e; over = false }) (through (epoch_unless_over visit stop n) 0 e r₀) → Finished (record { progress = s.progress; epochs = e }) s.learned.weights s.learned.beside (through (epoch_unless_over visit stop n) 0 allowed r₀)
+  pub all_run : (e allowed : ℕ) (s : TrainingState) (k : Deal) → e ≤ allowed → allowed ≤ e → s.progress.visits ≤ most_visits → ◌≡◌ {A = Run} (record { state = s; deal = k; epochs = e; over = false }) (through (epoch_unless_over visit stop n) 0 e r₀) → Finished (record { progress = s.progress; epochs = allowed }) s.learned.weights s.learned.beside (through (epoch_unless_over visit stop n) 0 allowed r₀)
   all_run e allowed s k h l v p =
       let q = p ∙ through_end (epoch_unless_over visit stop n) e allowed r₀ h l in
       record {
         progress = ap (λ (r : Run). r.state.progress) q;
-        epochs = λ _. ap (λ (r : Run). r.epochs) q;
+        epochs = λ _. le_antisymm l h ∙ ap (λ (r : Run). r.epochs) q;
         learned = λ _. ap (λ (r : Run). r.state.learned) q;
         visits = v;
       }

@@ -61,8 +61,7 @@ pub fn run(
         loss: 0.0,
     };
     let mut g = seed;
-    let mut e = 0u64;
-    while e < allowed {
+    for e in 0..allowed {
         g = begin_and_end::deal(g, n, order);
         progress = one_epoch::epoch(
             trainer,
@@ -87,16 +86,15 @@ pub fn run(
             truly,
             predicted,
         );
-        e += 1;
         if updates::ends(trainer, epsilon, n, progress) {
             return Ran {
-                progress: progress,
-                epochs: e,
+                progress,
+                epochs: e + 1,
             };
         }
     }
     Ran {
-        progress: progress,
-        epochs: e,
+        progress,
+        epochs: allowed,
     }
 }

@@ -1,12 +1,11 @@
 -- How counting the features of a line keeps its promise. Assumes nothing.
+use Rattle.std.specs.Prelude.{Ok, Err}
 use mathlib.Core.Path.{◌≡◌, ◌∙◌}
 use mathlib.Core.List.{List, ◌++◌}
 use lib.ListN.{drop}
 use lib.Ieee.{Float}
 use Rattle.refusals.specs.declared.Refusal.{Refusal}
-use Rattle.refusals.specs.declared.Checked.{Checked}
-use Rattle.refusals.specs.declared.Checked.TheVariants.{Accepted, Refused}
-use Rattle.refusals.specs.Refusals.{or_next_of}
+use Rattle.refusals.specs.Refusals.{Checked, or_next_of}
 use Rattle.lines.proofs.Fronts.{length_counts}
 use Rattle.finished.specs.Rows.{finished_checked}
 use Rattle.finished.specs.After.{cleared_where}
@@ -15,15 +14,15 @@ use Rattle.extract_features.specs.Promise.{Given, needed, counts_of_line, checke
 
 -- a refusal beforehand leaves the buffer
 pub refused_kept : (given : Given) (before : List Float) {answer : Checked} {amounts : List Float} (why : Refusal) →
-    checked_of given before ≡ Refused why →
-    answer ≡ Refused why →
+    checked_of given before ≡ Err why →
+    answer ≡ Err why →
     amounts ≡ before →
     Promised given before (record { answer = answer; amounts = amounts })
 unfolding answer_to amounts_after or_next_of
 refused_kept given before why h e p = record { answers = rw (h, e); amounts = rw h p }
 
 -- the counts were made, and cleared where 8 is given
-module _ (given : Given) (before : List Float) (accepted : checked_of given before ≡ Accepted) where
+module _ (given : Given) (before : List Float) (accepted : checked_of given before ≡ Ok tt) where
   pub made_kept : {amounts after : List Float} {r : Checked} →
       amounts ≡ counts_of_line given ++ drop (needed given) before →
       r ≡ finished_checked amounts (needed given) →

@@ -1,8 +1,7 @@
 -- What counting the features of a line answers means what `CountingMeans` says. Assumes nothing.
 use mathlib.Core.Path.{sym, ◌∙◌}
 use mathlib.Core.List.{◌++◌}
-use Rattle.refusals.specs.declared.Checked.{Checked}
-use Rattle.refusals.specs.Refusals.{numbered, or_next_of}
+use Rattle.refusals.specs.Refusals.{Checked, numbered, or_next_of}
 use Rattle.refusals.specs.Meaning.{FirstBad}
 use Rattle.fronts.specs.Finite.{FiniteTo, NotFinite}
 use Rattle.refusals.proofs.Said.{refused_said, done_said}

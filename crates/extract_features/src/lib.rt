@@ -12,7 +12,7 @@ ghost use Rattle.extract_features.specs.Entry.{counts_was, given_was};
 ghost use Rattle.extract_features.specs.Promise.{Promised};
 
 use feature_gen::Counts;
-use refusals::Checked;
+use refusals::Refusal;
 
 // The feature counts, in the front of the buffer, of the line of so many words that begins at the word `first` of the words'
 // table, under its labels.
@@ -95,13 +95,13 @@ pub fn extract_features(
     values: &[f64],
     path: &[u32],
     amounts: &mut [f64],
-) -> Checked
+) -> Result<(), Refusal>
     ensures { let m = model_was labels counts kinds destinations sources attribute_starts attribute_entries label_starts label_entries in
         let g = given_was m words attributes begins ids values path in
         Promised g amounts.old (record { answer = result; amounts = amounts.new }) }
 {
     let features = counts.features as usize;
-    let checked = line_check::check_counting(
+    if let Err(why) = line_check::check_counting(
         labels,
         counts,
         kinds,
@@ -118,8 +118,7 @@ pub fn extract_features(
         values,
         path,
         amounts.len(),
-    );
-    if let Checked::Refused(why) = checked {
+    ) {
         return finished::refuse_counts(why, amounts);
     }
     count_line(

@@ -1,4 +1,5 @@
 -- What the rows of a model give a call that accepts them, and the parts that they are checked in. Assumes nothing.
+use Rattle.std.specs.Prelude.{Ok}
 use mathlib.Core.Path.{◌≡◌, refl, sym, ◌∙◌, ap}
 use mathlib.Core.Bool.{Bool, ◌||◌}
 use mathlib.Core.List.{List, [], ◌∷◌, ◌++◌}
@@ -6,19 +7,16 @@ use Prim.Native.Nat.{ℕ, ◌≤◌}
 use native.Mathlib.Omega.{arith}
 use lib.ListN.{length}
 use lib.Ieee.{Float}
-use Rattle.refusals.specs.declared.Refusal.{Refusal}
-use Rattle.refusals.specs.declared.Checked.{Checked}
-use Rattle.refusals.specs.declared.Checked.TheVariants.{Accepted, Refused}
-use Rattle.refusals.specs.Refusals.{refuse, or_next_of, sooner, first_from}
+use Rattle.refusals.specs.Refusals.{Checked, refuse, or_next_of, sooner}
 use Rattle.refusals.specs.Tables.{short}
 use Rattle.score_tables.specs.Rows.{one}
 use Rattle.refusal_rows.specs.Limits.{Limit, room, any_broken, AllWithin}
 use Rattle.refusals.specs.Bounds.{Table, weight_table}
-use Rattle.refusal_rows.specs.Tests.{numbers_finite, checks}
+use Rattle.refusal_rows.specs.Tests.{numbers_finite}
 use Rattle.refusal_rows.proofs.Means.{broken_parts, within_parts}
-use Rattle.refusal_rows.proofs.Parts.{joined, same_limits, as_rows, two_parts, part_stopped, part_within, part_answered}
+use Rattle.refusal_rows.proofs.Parts.{joined, same_limits, as_rows, two_parts, part_within}
 use Rattle.lines.specs.Tables.{Model}
-use Rattle.feature_gen.specs.Rows.{feature_rooms, weight_rooms, list_rooms, model_counts, model_rooms, weighted_rooms, start_tests, feature_tests, entry_tests, weight_tests, model_checked}
+use Rattle.feature_gen.specs.Rows.{feature_rooms, weight_rooms, list_rooms, model_counts, model_rooms, weighted_rooms, weight_tests, model_checked}
 use Rattle.feature_gen.specs.Parts.{table_limits, table_tests, weighted_limits, weighted_tests, tables_sized_of, tables_checked, weights_checked, weighted_checked}
 use Rattle.feature_gen.specs.Sound.{ModelSized}
 
@@ -56,23 +54,12 @@ module _ (m : Model) where
       ap (λ (b : Bool). refuse 2 0 (any_broken (model_counts m) || b)) (sym (broken_parts (feature_rooms m.features) (list_rooms m.attribute_lists_of m.label_lists_of)))
       ∙ two_parts (model_counts m) (model_rooms m)
 
-  -- a refusal by size is the check's
-  pub tables_stopped : {sizes : Checked} (why : Refusal) → sizes ≡ tables_sized_of m → sizes ≡ Refused why → Refused why ≡ tables_checked m
-  unfolding tables_sized_of tables_checked
-  tables_stopped why e h = part_stopped (table_limits m) (table_tests m) why e h
-
   -- an answer that accepts the sizes: every table has room
-  pub tables_sized : {sizes : Checked} → sizes ≡ tables_sized_of m → sizes ≡ Accepted → ModelSized m
+  pub tables_sized : {sizes : Checked} → sizes ≡ tables_sized_of m → sizes ≡ Ok tt → ModelSized m
   unfolding tables_sized_of
   tables_sized e h =
       let w = within_parts (model_counts m) (model_rooms m) (part_within (table_limits m) (table_tests m) e h) in
       sized m w.0 w.1
-
-  -- the tests one after the other are the check's
-  pub tables_answered : {sizes three features r : Checked} → sizes ≡ tables_sized_of m → three ≡ first_from sizes (checks (start_tests m)) →
-      features ≡ first_from three (checks (feature_tests m.labels m.features)) → r ≡ first_from features (checks (entry_tests m)) → r ≡ tables_checked m
-  unfolding tables_sized_of tables_checked
-  tables_answered a b c d = part_answered (table_limits m) (table_tests m) a (rw (d, c, b))
 
 -- ---- the weights
 
@@ -80,16 +67,8 @@ module _ (which : Table) (n : ℕ) (weights : List Float) where
   abbrev weight_room : List Limit
   weight_room = room (length weights) n ∷ []
 
-  pub weights_stopped : {sizes : Checked} (why : Refusal) → sizes ≡ refuse 2 0 (short (length weights) n) → sizes ≡ Refused why → Refused why ≡ weights_checked which n weights
-  unfolding weights_checked
-  weights_stopped why e h = part_stopped weight_room (numbers_finite which weights n ∷ []) why e h
-
-  pub weights_sized : {sizes : Checked} → sizes ≡ refuse 2 0 (short (length weights) n) → sizes ≡ Accepted → n ≤ length weights
+  pub weights_sized : {sizes : Checked} → sizes ≡ refuse 2 0 (short (length weights) n) → sizes ≡ Ok tt → n ≤ length weights
   weights_sized e h = (part_within weight_room (numbers_finite which weights n ∷ []) e h).0
-
-  pub weights_answered : {sizes r : Checked} → sizes ≡ refuse 2 0 (short (length weights) n) → r ≡ first_from sizes (checks (numbers_finite which weights n ∷ [])) → r ≡ weights_checked which n weights
-  unfolding weights_checked
-  weights_answered e f = part_answered weight_room (numbers_finite which weights n ∷ []) e f
 
 -- ---- both
 

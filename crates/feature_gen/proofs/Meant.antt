@@ -1,11 +1,11 @@
 -- What the check of a model answers means what `Meaning` says. Assumes nothing.
+use Rattle.std.specs.Prelude.{Ok}
 use mathlib.Core.Path.{◌≡◌, refl}
 use mathlib.Core.List.{List, [], ◌∷◌}
 use mathlib.Core.Logic.{◌↔◌}
 use Prim.Native.Nat.{ℕ, ◌<◌}
 use native.Mathlib.Omega.{arith}
 use lib.Ieee.{Float}
-use Rattle.refusals.specs.declared.Checked.TheVariants.{Accepted}
 use Rattle.refusals.specs.Refusals.{numbered, refused_at}
 use Rattle.refusals.proofs.Said.{said_once}
 use Rattle.score_tables.proofs.Meant.{one_means}
@@ -35,7 +35,7 @@ module _ (m : Model) (weights : List Float) where
   abbrev sixes : Group
   sixes = tested 6 (weight_tests m weights) (refl, tt)
 
-  meant : Meaning (λ number place. model_checked m weights ≡ refused_at number place) (model_checked m weights ≡ Accepted) m weights
+  meant : Meaning (λ number place. model_checked m weights ≡ refused_at number place) (model_checked m weights ≡ Ok tt) m weights
   unfolding model_checked
   meant = record {
     one = λ place. given_first place ones (twos ∷ threes ∷ fives ∷ sixes ∷ []) tt;

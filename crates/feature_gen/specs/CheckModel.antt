@@ -1,6 +1,6 @@
 -- What the check of a model promises: document 01's answer to what it is given. It is lent nothing to change, so the outcome is the answer. Assumes nothing.
 use Rattle.std.specs.Prelude.{◌≡◌, List, Float}
-use Rattle.refusals.specs.declared.Checked.{Checked}
+use Rattle.refusals.specs.Refusals.{Checked}
 use Rattle.refusals.specs.Said.{Said, said_of}
 use Rattle.lines.specs.Tables.{Model}
 use Rattle.feature_gen.specs.Rows.{model_checked}

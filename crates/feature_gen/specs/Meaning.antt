@@ -1,8 +1,6 @@
 -- What the check of a model refuses, in plain terms: each number exactly when document 01 gives it, and with which place; of the check, and of whatever satisfies the promise. The proofs are in proofs/Meant; for C in model_exports.
-use Rattle.std.specs.Prelude.{◌≡◌, List, [], ◌∷◌, ◌↔◌, ℕ, Float}
-use Rattle.refusals.specs.declared.Checked.{Checked}
-use Rattle.refusals.specs.declared.Checked.TheVariants.{Accepted}
-use Rattle.refusals.specs.Refusals.{refused_at}
+use Rattle.std.specs.Prelude.{◌≡◌, List, [], ◌∷◌, ◌↔◌, ℕ, Float, Ok}
+use Rattle.refusals.specs.Refusals.{Checked, refused_at}
 use Rattle.score_tables.specs.Sound.{LabelsIn}
 use Rattle.refusal_rows.specs.Limits.{Fitting}
 use Rattle.refusal_rows.specs.Tests.{AllGood, FirstBadOf}
@@ -28,9 +26,9 @@ pub record Meaning (Refuses : ℕ → ℕ → Type 0) (Accepts : Type 0) (m : Mo
   pub sound : Accepts → Weighted m weights
 
 abbrev pub ModelsMean : Type 0
-ModelsMean = (m : Model) (weights : List Float) → Meaning (λ number place. model_checked m weights ≡ refused_at number place) (model_checked m weights ≡ Accepted) m weights
+ModelsMean = (m : Model) (weights : List Float) → Meaning (λ number place. model_checked m weights ≡ refused_at number place) (model_checked m weights ≡ Ok tt) m weights
 
 -- of whatever satisfies the promise of `check_model`
 abbrev pub AnswersMean : Type 0
 AnswersMean = (given : Given) (outcome : Checked) → ModelChecked given outcome →
-    Meaning (λ number place. outcome ≡ refused_at number place) (outcome ≡ Accepted) given.model given.weights
+    Meaning (λ number place. outcome ≡ refused_at number place) (outcome ≡ Ok tt) given.model given.weights

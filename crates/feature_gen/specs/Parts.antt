@@ -1,6 +1,6 @@
 -- The rows of a model in the parts that are checked apart, since not every call is lent weights: what the narrow checks promise. Assumes nothing.
 use Rattle.std.specs.Prelude.{List, [], ◌∷◌, ◌++◌, ℕ, length, Float}
-use Rattle.refusals.specs.declared.Checked.{Checked}
+use Rattle.refusals.specs.Refusals.{Checked}
 use Rattle.refusals.specs.Bounds.{Table}
 use Rattle.refusal_rows.specs.Limits.{Limit, room, two}
 use Rattle.refusal_rows.specs.Tests.{Test, numbers_finite}

@@ -1,7 +1,6 @@
 -- Document 01, "Numbered refusals", the rows that concern a model and its weights, and their order. Assumes nothing.
 use Rattle.std.specs.Prelude.{List, [], ◌∷◌, ◌++◌, ℕ, ◌+◌, length, Float}
-use Rattle.refusals.specs.declared.Checked.{Checked}
-use Rattle.refusals.specs.Refusals.{first}
+use Rattle.refusals.specs.Refusals.{Checked, first}
 use Rattle.refusals.specs.Bounds.{the_features, the_attribute_lists, the_label_lists, the_attribute_entries, the_label_entries, kind_table, destination_table, source_table, weight_table, attribute_list_table, label_list_table}
 use Rattle.score_tables.specs.Rows.{one}
 use Rattle.refusal_rows.specs.Limits.{Limit, count, room, two}

@@ -3,7 +3,7 @@
 #![tactic(auto)]
 
 ghost use Rattle.std.specs.Prelude.{◌≡◌, [], ◌∷◌, ◌<◌, ◌≤◌, length};
-ghost use Rattle.refusals.specs.Refusals.{first_from};
+ghost use Rattle.refusals.specs.Refusals.{first};
 ghost use Rattle.refusal_rows.specs.Limits.{any_broken};
 ghost use Rattle.refusals.specs.Bounds.{Table, attribute_list_table, label_list_table};
 ghost use Rattle.refusal_rows.specs.Tests.{starts_rise, ids_below, checks};
@@ -12,7 +12,7 @@ ghost use Rattle.feature_gen.specs.Parts.{tables_sized_of, tables_checked, weigh
 ghost use Rattle.feature_gen.specs.Lent.{features_of, attribute_lists_for, label_lists_for, model_was};
 ghost use Rattle.feature_gen.specs.CheckModel.{ModelChecked};
 
-use refusals::Checked;
+use refusals::Refusal;
 
 pub const STATE: u8 = 0;
 
@@ -73,62 +73,57 @@ fn lacks_lists(
 }
 
 // 3 for the lists: attribute lists, then label lists.
+#[tactic(auto, using(refusals::proofs::Laws::handed), unfolding(refusals::specs::Refusals::or_next_of))]
 fn check_starts(
-    answer: Checked,
     counts: Counts,
     attribute_starts: &[u32],
     label_starts: &[u32],
-) -> Checked
+) -> Result<(), Refusal>
     requires attribute_lists_in_bounds { counts.attribute_lists < length attribute_starts.now }
     requires label_lists_in_bounds { counts.label_lists < length label_starts.now }
-    ensures { result ≡ first_from answer (checks (starts_rise attribute_list_table attribute_starts.now counts.attribute_lists counts.attribute_entries ∷ starts_rise label_list_table label_starts.now counts.label_lists counts.label_entries ∷ [])) }
+    ensures { result ≡ first (checks (starts_rise attribute_list_table attribute_starts.now counts.attribute_lists counts.attribute_entries ∷ starts_rise label_list_table label_starts.now counts.label_lists counts.label_entries ∷ [])) }
 {
     let attributes = counts.attribute_lists as usize;
     let labels = counts.label_lists as usize;
-    let a = table_checks::check_starts(
-        answer,
-        attribute_starts,
-        attributes,
-        counts.attribute_entries,
-    );
-    table_checks::check_starts(a, label_starts, labels, counts.label_entries)
+    table_checks::check_starts(attribute_starts, attributes, counts.attribute_entries)?;
+    table_checks::check_starts(label_starts, labels, counts.label_entries)
 }
 
 // 5 for the features: kinds, then destinations, then sources.
+#[tactic(auto, using(refusals::proofs::Laws::handed), unfolding(refusals::specs::Refusals::or_next_of))]
 fn check_features(
-    answer: Checked,
     labels: u32,
     counts: Counts,
     kinds: &[u8],
     destinations: &[u32],
     sources: &[u32],
-) -> Checked
+) -> Result<(), Refusal>
     requires features_in_bounds { counts.features ≤ length kinds.now }
     requires features_in_bounds_2 { counts.features ≤ length destinations.now }
     requires features_in_bounds_3 { counts.features ≤ length sources.now }
-    ensures { result ≡ first_from answer (checks (feature_tests labels (features_of counts kinds.now destinations.now sources.now))) }
+    ensures { result ≡ first (checks (feature_tests labels (features_of counts kinds.now destinations.now sources.now))) }
 {
     let n = counts.features as usize;
-    let a = table_checks::check_kinds(answer, kinds, n);
-    let b = table_checks::check_ids(a, destinations, n, labels);
-    table_checks::check_sources(b, kinds, sources, n, labels)
+    table_checks::check_kinds(kinds, n)?;
+    table_checks::check_ids(destinations, n, labels)?;
+    table_checks::check_sources(kinds, sources, n, labels)
 }
 
 // 5 for the lists: entries of attribute lists, then of label lists.
+#[tactic(auto, using(refusals::proofs::Laws::handed), unfolding(refusals::specs::Refusals::or_next_of))]
 fn check_entries(
-    answer: Checked,
     counts: Counts,
     attribute_entries: &[u32],
     label_entries: &[u32],
-) -> Checked
+) -> Result<(), Refusal>
     requires attribute_entries_in_bounds { counts.attribute_entries ≤ length attribute_entries.now }
     requires label_entries_in_bounds { counts.label_entries ≤ length label_entries.now }
-    ensures { result ≡ first_from answer (checks (ids_below attribute_list_table attribute_entries.now counts.attribute_entries counts.features ∷ ids_below label_list_table label_entries.now counts.label_entries counts.features ∷ [])) }
+    ensures { result ≡ first (checks (ids_below attribute_list_table attribute_entries.now counts.attribute_entries counts.features ∷ ids_below label_list_table label_entries.now counts.label_entries counts.features ∷ [])) }
 {
     let attributes = counts.attribute_entries as usize;
     let labels = counts.label_entries as usize;
-    let a = table_checks::check_ids(answer, attribute_entries, attributes, counts.features);
-    table_checks::check_ids(a, label_entries, labels, counts.features)
+    table_checks::check_ids(attribute_entries, attributes, counts.features)?;
+    table_checks::check_ids(label_entries, labels, counts.features)
 }
 
 // 2 of a model's tables: what can be said of them before any is read.
@@ -142,7 +137,7 @@ fn check_sizes(
     attribute_entries: &[u32],
     label_starts: &[u32],
     label_entries: &[u32],
-) -> Checked
+) -> Result<(), Refusal>
     ensures { let m = model_was labels counts kinds destinations sources attribute_starts attribute_entries label_starts label_entries in
         result ≡ tables_sized_of m }
 {
@@ -155,10 +150,11 @@ fn check_sizes(
         label_starts,
         label_entries,
     );
-    refusals::refuse_if(Checked::Accepted, 2, 0, outside | (features | lists))
+    refusals::refuse_if(2, 0, outside | (features | lists))
 }
 
 // 2, 3 and 5 of a model's tables, its weights apart.
+#[tactic(auto, using(refusals::proofs::Laws::handed), unfolding(refusals::specs::Refusals::or_next_of, refusal_rows::specs::Parts::part_checked, crate::specs::Parts::tables_sized_of, crate::specs::Parts::tables_checked))]
 pub fn check_tables(
     labels: u32,
     counts: Counts,
@@ -169,11 +165,11 @@ pub fn check_tables(
     attribute_entries: &[u32],
     label_starts: &[u32],
     label_entries: &[u32],
-) -> Checked
+) -> Result<(), Refusal>
     ensures { let m = model_was labels counts kinds destinations sources attribute_starts attribute_entries label_starts label_entries in
         result ≡ tables_checked m }
 {
-    let sizes = check_sizes(
+    check_sizes(
         labels,
         counts,
         kinds,
@@ -183,26 +179,20 @@ pub fn check_tables(
         attribute_entries,
         label_starts,
         label_entries,
-    );
-    if let Checked::Refused(why) = sizes {
-        return Checked::Refused(why);
-    }
-    let three = check_starts(sizes, counts, attribute_starts, label_starts);
-    let features = check_features(three, labels, counts, kinds, destinations, sources);
-    check_entries(features, counts, attribute_entries, label_entries)
+    )?;
+    check_starts(counts, attribute_starts, label_starts)?;
+    check_features(labels, counts, kinds, destinations, sources)?;
+    check_entries(counts, attribute_entries, label_entries)
 }
 
 // 2 and 6 of so many weights: those of the features, or those of a trainer's instances.
-pub fn check_weights(weights: &[f64], count: u32) -> Checked
+#[tactic(auto, using(refusals::proofs::Laws::handed), unfolding(refusals::specs::Refusals::or_next_of, refusal_rows::specs::Parts::part_checked, crate::specs::Parts::weights_checked))]
+pub fn check_weights(weights: &[f64], count: u32) -> Result<(), Refusal>
     ensures { (which : Table) → result ≡ weights_checked which count weights.now }
 {
     let n = count as usize;
-    let short = refusals::is_short(weights.len(), n);
-    let sizes = refusals::refuse_if(Checked::Accepted, 2, 0, short);
-    if let Checked::Refused(why) = sizes {
-        return Checked::Refused(why);
-    }
-    table_checks::check_numbers(sizes, weights, n)
+    refusals::refuse_if(2, 0, refusals::is_short(weights.len(), n))?;
+    table_checks::check_numbers(weights, n)
 }
 
 // 2, 3, 5 and 6 of a model with its weights.
@@ -217,7 +207,7 @@ pub fn check_weighted(
     attribute_entries: &[u32],
     label_starts: &[u32],
     label_entries: &[u32],
-) -> Checked
+) -> Result<(), Refusal>
     ensures { let m = model_was labels counts kinds destinations sources attribute_starts attribute_entries label_starts label_entries in
         result ≡ weighted_checked m weights.now }
 {
@@ -247,12 +237,12 @@ pub fn check_model(
     attribute_entries: &[u32],
     label_starts: &[u32],
     label_entries: &[u32],
-) -> Checked
+) -> Result<(), Refusal>
     ensures { let m = model_was labels counts kinds destinations sources attribute_starts attribute_entries label_starts label_entries in
         ModelChecked (record { model = m; weights = weights.now }) result }
 {
-    let one = score_tables::check_labels(labels);
-    let model = check_weighted(
+    score_tables::check_labels(labels)?;
+    check_weighted(
         labels,
         counts,
         kinds,
@@ -263,6 +253,5 @@ pub fn check_model(
         attribute_entries,
         label_starts,
         label_entries,
-    );
-    refusals::or_next(one, model)
+    )
 }

@@ -3,18 +3,17 @@ use mathlib.Core.Path.{◌≡◌, refl, sym, ap, ◌∙◌}
 use mathlib.Core.Bool.{Bool, true, false}
 use mathlib.Core.List.{List, [], ◌∷◌, ◌++◌, append-nil, append_assoc}
 use Prim.Native.Nat.{ℕ, ◌+◌, ◌-◌, ◌≤◌, ◌<◌}
-use native.Mathlib.Numerals.{add-one}
 use native.Mathlib.Omega.{arith}
 use lib.Dec.{eqb}
-use lib.ListN.{length, get_or, set, take, drop, length-append, length-drop, length-set, drop_of_length-le}
-use lib.Seq.{slice, slice-cons, length-take-le}
+use lib.ListN.{length, take, drop, length-append, length-drop, drop_of_length-le}
+use lib.Seq.{slice, length-take-le}
 use borrow.Author.Tests.{eqb-true, eqb-false}
 use Rattle.layout.specs.Layout.{Bytes}
 use Rattle.text_tables.specs.Laid.{laid}
 use Rattle.text_tables.specs.Pieces.{Piece}
 use Rattle.text_tables.proofs.Ends.{laid_more}
 use Rattle.text_tables.proofs.Tallied.{more_length}
-use Rattle.byte_buffers.specs.Stored.{stored, RoomFor, Put}
+use Rattle.byte_buffers.specs.Stored.{stored}
 use Rattle.pieces.specs.declared.Span.{Span}
 use Rattle.pieces.specs.PieceText.{kept_in}
 use Rattle.pieces.specs.Standing.{Stands}
@@ -43,53 +42,9 @@ unfolding stored
 laid_put_in built before [] at e p h = e ∙ ap (λ (x : List ℕ). laid x before) (sym (append-nil built))
 laid_put_in built before (b ∷ run) at e p h = let l = laid_long built before e in laid_put built before (b ∷ run) at e p (omega (arith, l, p, h))
 
--- ---- bytes copied one by one
-past : (text : Bytes) (i to : ℕ) → to ≤ length text → to ≤ i → slice i to text ≡ []
+-- ---- a kept text
+pub past : (text : Bytes) (i to : ℕ) → to ≤ length text → to ≤ i → slice i to text ≡ []
 past text i to h k = drop_of_length-le (take to text) {i = i} (let l = length-take-le to text h in omega (arith, l, k))
-
-pub record Keeping (text : Bytes) (from to i k at : ℕ) (scales before : List ℕ) : Type 0 where
-  pub long : length scales ≡ length before
-  pub room : at + length (slice from to text) ≤ length before
-  pub place : k + length (slice i to text) ≡ at + length (slice from to text)
-  pub same : stored scales k (slice i to text) ≡ stored before at (slice from to text)
-
-pub keep_starts : {text : Bytes} {from to at : ℕ} {scales : List ℕ} → RoomFor (slice from to text) scales at → Keeping text from to from at at scales scales
-keep_starts r = record { long = refl; room = r.room; place = refl; same = refl }
-
-module _ {text : Bytes} {from to i k at : ℕ} {scales before : List ℕ} (g : Keeping text from to i k at scales before) (inside : to ≤ length text) where
-  next : i < to → slice i to text ≡ get_or text i 0 ∷ slice (i + 1) to text
-  next h = slice-cons i to text 0 h inside ∙ ap (λ (x : ℕ). get_or text i 0 ∷ slice x to text) (sym (add-one i))
-
-  pub keep_room : i < to → k < length scales
-  keep_room h =
-      let e = ap length (next h) in
-      let p = g.place in
-      let r = g.room in
-      let l = g.long in
-      omega (arith, e, p, r, l)
-
-  pub keep_on : i < to → Keeping text from to (i + 1) (k + 1) at (set scales k (get_or text i 0)) before
-  keep_on h =
-      let e = ap length (next h) in
-      let p = g.place in
-      record {
-        long = length-set scales k (get_or text i 0) ∙ g.long;
-        room = g.room;
-        place = omega (arith, e, p);
-        same = more scales k (get_or text i 0) (slice (i + 1) to text) ∙ ap (stored scales k) (sym (next h)) ∙ g.same;
-      }
-    where
-      more : (l : List ℕ) (j b : ℕ) (rest : Bytes) → stored (set l j b) (j + 1) rest ≡ stored l j (b ∷ rest)
-      more l j b rest = unfold stored in refl
-
-  pub keep_over : to ≤ i → Put (slice from to text) before at k scales
-  keep_over h =
-      let e = ap length (past text i to inside h) in
-      let p = g.place in
-      record { next = omega (arith, e, p); line = none scales k ∙ ap (stored scales k) (sym (past text i to inside h)) ∙ g.same }
-    where
-      none : (l : List ℕ) (j : ℕ) → l ≡ stored l j []
-      none l j = unfold stored in refl
 
 -- the kept text stands behind the colon; without a scale there is nothing
 pub kept_slice : {text : Bytes} {s : Span} {p : Piece} → Stands text s p → slice (s.split + 1) s.to text ≡ kept_in p

@@ -44,14 +44,12 @@ pub fn fill_names(
     ensures { (known : List Bytes) → Placed text.now positions.now count known
         → StringsLaid (flat known) starts.old bytes.old starts.new bytes.new }
 {
-    let mut i = 0usize;
     let mut at = 0usize;
-    while i < count {
+    for i in 0..count {
         let from = lines::at(positions, i);
         let to = pieces::name_end(text, from);
         starts[i] = at as u32;
         at = pieces::unescape(text, from, to, bytes, at);
-        i += 1;
     }
     starts[count] = at as u32;
 }
@@ -65,8 +63,7 @@ fn begin_line(line_starts: &mut [u32], sequences: usize, words: usize, within: b
     if within {
         return sequences;
     }
-    let start = words as u32;
-    line_starts[sequences] = start;
+    line_starts[sequences] = words as u32;
     sequences + 1
 }
 
@@ -94,9 +91,9 @@ fn begin_word(
     word_starts[words] = attributes as u32;
     references[words] = id as u32;
     WordsSoFar {
-        sequences: sequences,
+        sequences,
         words: words + 1,
-        attributes: attributes,
+        attributes,
         within: true,
     }
 }
@@ -117,13 +114,10 @@ fn word_piece(
         line_starts.old word_starts.old references.old
         result line_starts.new word_starts.new references.new }
 {
-    let kind = span.kind;
-    match kind {
+    match span.kind {
         Kind::Blank => WordsSoFar {
-            sequences: so_far.sequences,
-            words: so_far.words,
-            attributes: so_far.attributes,
             within: false,
+            ..so_far
         },
         Kind::Label => begin_word(
             text,
@@ -137,10 +131,8 @@ fn word_piece(
             references,
         ),
         Kind::Attribute => WordsSoFar {
-            sequences: so_far.sequences,
-            words: so_far.words,
             attributes: so_far.attributes + 1,
-            within: so_far.within,
+            ..so_far
         },
     }
 }
@@ -167,6 +159,7 @@ pub fn fill_words(
         attributes: 0,
         within: false,
     };
+    // From piece to piece: how far the cursor goes is told by the piece.
     while cursor.at <= text.len() {
         let span = pieces::piece_at(text, cursor);
         so_far = word_piece(
@@ -197,25 +190,20 @@ fn value_in(text: &[u8], span: Span) -> f64
     let split = span.split;
     let to = span.to;
     if split < to {
-        let from = split + 1;
-        return scales::value_of(&text[from..to]);
+        return scales::value_of(&text[split + 1..to]);
     }
     1.0
 }
 
-// The bytes between two places, written from `at` on; the place after them.
+// The bytes between two places, written from `at` on; the place after them. Without a scale the first place is behind the second.
 fn keep(text: &[u8], from: usize, to: usize, scales: &mut [u8], at: usize) -> usize
     requires { (to ≤ length text.now) × RoomFor (slice from to text.now) scales.old at }
     ensures { Put (slice from to text.now) scales.old at result scales.new }
 {
-    let mut i = from;
-    let mut k = at;
-    while i < to {
-        scales[k] = text[i];
-        i += 1;
-        k += 1;
+    if to < from {
+        return at;
     }
-    k
+    byte_buffers::put_bytes(scales, at, text, from, to)
 }
 
 // An attribute: its id, its value, where its kept text begins, and that text; the place after it.
@@ -263,19 +251,14 @@ fn kept_piece(
         ids.old values.old starts.old scales.old
         result ids.new values.new starts.new scales.new }
 {
-    let kind = span.kind;
-    match kind {
-        Kind::Blank => so_far,
-        Kind::Label => so_far,
-        Kind::Attribute => {
-            let end = put_attribute(
+    match span.kind {
+        Kind::Blank | Kind::Label => so_far,
+        Kind::Attribute => KeptSoFar {
+            attributes: so_far.attributes + 1,
+            bytes: put_attribute(
                 text, slots, positions, count, span, so_far, ids, values, starts, scales,
-            );
-            KeptSoFar {
-                attributes: so_far.attributes + 1,
-                bytes: end,
-            }
-        }
+            ),
+        },
     }
 }
 
@@ -300,6 +283,7 @@ pub fn fill_attributes(
         attributes: 0,
         bytes: 0,
     };
+    // From piece to piece: how far the cursor goes is told by the piece.
     while cursor.at <= text.len() {
         let span = pieces::piece_at(text, cursor);
         so_far = kept_piece(

@@ -1,12 +1,11 @@
 -- Every call on a single line whose checks mean what `line_check` says, and whose 8 means what `Eight` says, answers as `Answers` says. Assumes nothing.
+use Rattle.std.specs.Prelude.{Ok}
 use mathlib.Core.Path.{◌≡◌}
 use mathlib.Core.List.{List, [], ◌∷◌}
 use mathlib.Core.Logic.{◌↔◌, inl, inr, ⊎_elim}
 use Prim.Native.Nat.{ℕ, ◌<◌}
 use native.Mathlib.Omega.{arith}
-use Rattle.refusals.specs.declared.Checked.{Checked}
-use Rattle.refusals.specs.declared.Checked.TheVariants.{Accepted}
-use Rattle.refusals.specs.Refusals.{refused_at, or_next_of}
+use Rattle.refusals.specs.Refusals.{Checked, refused_at, or_next_of}
 use Rattle.refusals.proofs.Laws.{either}
 use Rattle.refusal_rows.specs.Limits.{Limit}
 use Rattle.refusal_rows.specs.Tests.{Test}
@@ -23,7 +22,7 @@ module _
     (Refuses : ℕ → ℕ → Type 0) (Accepts : Type 0)
     (to : (number place : ℕ) → Refuses number place → or_next_of checked finished ≡ refused_at number place)
     (from : (number place : ℕ) → 0 < number → or_next_of checked finished ≡ refused_at number place → Refuses number place)
-    (accepts : Accepts ↔ or_next_of checked finished ≡ Accepted) where
+    (accepts : Accepts ↔ or_next_of checked finished ≡ Ok tt) where
   abbrev last : Last checked finished AllFinite EightAt
   last = eight_is_last checked finished AllFinite EightAt (λ why h. not_eight why.number (m.only why h)) e
 

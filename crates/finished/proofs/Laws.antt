@@ -1,22 +1,21 @@
 -- Laws of 8: what the finite test of a front tells of it, a search whose places are counted on, and what the front of a longer buffer is found to be. Assumes nothing.
-use mathlib.Core.Path.{◌≡◌, refl, ap, ◌∙◌}
+use Rattle.std.specs.Prelude.{Ok, Err}
+use mathlib.Core.Path.{◌≡◌, refl, ap, sym, ◌∙◌}
 use mathlib.Core.Bool.{Bool, true, false, not, true≢false}
 use mathlib.Core.List.{List, ◌++◌}
-use mathlib.Core.Logic.{◌⊎◌, inl, inr, ⊎_elim}
-use Prim.Native.Nat.{ℕ, zero, suc, ◌+◌, ◌*◌, ◌<◌, ◌≤◌}
+use Prim.Native.Nat.{ℕ, zero, suc, ◌+◌, ◌*◌, ◌<◌}
 use native.Mathlib.Nat.{zero-add}
 use native.Mathlib.Omega.{arith}
-use lib.Dec.{T, ltb}
+use lib.Dec.{T}
 use lib.ListN.{length, get_or, drop, replicate, get_or-append}
 use lib.Seq.{drop_at}
 use lib.Ieee.{Float, nan}
 use lib.Ieee.Bits.{is_true}
 use lib.Ieee.Scale.{finite}
-use Rattle.refusals.specs.declared.Checked.{Checked}
-use Rattle.refusals.specs.declared.Checked.TheVariants.{Accepted, Refused}
-use Rattle.refusals.specs.Refusals.{refuse, or_next_of, lowest}
+use Rattle.refusals.specs.Refusals.{Checked, refuse, lowest}
 use Rattle.refusals.specs.Tables.{not_finite}
-use Rattle.refusals.proofs.Laws.{Passed, found}
+use Rattle.refusals.proofs.Laws.{Passed, step, hit, passes, holds}
+use Rattle.refusals.specs.declared.Refusal.{Refusal}
 use Rattle.refusals.proofs.Meant.{accepted_means, accepted_if}
 use Rattle.fronts.proofs.Finite.{all_finite_at, all_finite_if}
 use Rattle.binary64.specs.Numbers.{nought}
@@ -37,27 +36,23 @@ test_accepts numbers n = (
     not_bad true e = tt
     not_bad false e = absurd (true≢false e)
 
-placed_refuse : (others i : ℕ) (b : Bool) → refuse 8 (others + i) b ≡ placed_after others (refuse 8 i b)
-unfolding refuse
-placed_refuse others i true = refl
-placed_refuse others i false = refl
+-- a search whose places are counted on: it goes on, it stops, it has found nothing
+module _ (others : ℕ) {n i : ℕ} {test : ℕ → Bool} {r : Checked} where
+  pub placed_goes_on : Passed 8 test n i → i < n → r ≡ refuse 8 (others + i) (test i) → r ≡ Ok tt → Passed 8 test n (i + 1)
+  placed_goes_on p l e h = step p l (passes 8 (others + i) (test i) (sym e ∙ h))
 
--- the answer of a search that left its loop at i: A and B are the two ways out
-pub placed : {A B : Type 0} {i n : ℕ} {test : ℕ → Bool} {r : Checked} (others : ℕ) →
-    r ≡ or_next_of Accepted (refuse 8 (others + i) (ltb i n)) →
-    Passed 8 test n i →
-    (A → n ≤ i) →
-    (B → (i < n) × (test i ≡ true)) →
-    A ⊎ B →
-    r ≡ placed_after others (lowest 8 test n)
-unfolding or_next_of
-placed {i = i} {n = n} others e p f g w =
-    e ∙ placed_refuse others i (ltb i n) ∙ ap (placed_after others) (found p (⊎_elim (λ a. inl (f a)) (λ b. inr (g b)) w))
+  pub placed_stops : {why : Refusal} → Passed 8 test n i → i < n → r ≡ refuse 8 (others + i) (test i) → r ≡ Err why → Err why ≡ placed_after others (lowest 8 test n)
+  placed_stops {why = why} p l e h =
+      let t = holds 8 (others + i) (test i) why (sym e ∙ h) in
+      t.1 ∙ sym (ap (placed_after others) (hit 8 test n i l p.accepted t.0))
+
+pub placed_accepted : (others : ℕ) {check : Checked} → check ≡ Ok tt → Ok tt ≡ placed_after others check
+placed_accepted others h = rw h
 
 -- after no others, places are as they are
 pub placed_first : (check : Checked) → placed_after 0 check ≡ check
-placed_first Accepted = refl
-placed_first (Refused why) = let e : 0 + why.place ≡ why.place = zero-add why.place in rw e
+placed_first (Ok _) = refl
+placed_first (Err why) = let e : 0 + why.place ≡ why.place = zero-add why.place in rw e
 
 -- ---- the front of a longer buffer
 
@@ -77,9 +72,9 @@ unfolding scores_finished
 scores_front labels words states transitions a b e d = rw (front_checked states a (words * labels) e, front_checked transitions b (labels * labels) d)
 
 -- a buffer that was made, and cleared where 8 is given, holds what the call promises
-pub contents_kept : (finished : Checked) (needed : ℕ) (before made : List Float) {table after : List Float} → length made ≡ needed → table ≡ made ++ drop needed before → after ≡ cleared_where finished needed table → after ≡ contents Accepted finished nought needed before made
-contents_kept Accepted needed before made long t e = e ∙ t
-contents_kept (Refused why) needed before made long t e =
+pub contents_kept : (finished : Checked) (needed : ℕ) (before made : List Float) {table after : List Float} → length made ≡ needed → table ≡ made ++ drop needed before → after ≡ cleared_where finished needed table → after ≡ contents (Ok tt) finished nought needed before made
+contents_kept (Ok _) needed before made long t e = e ∙ t
+contents_kept (Err why) needed before made long t e =
     e
     ∙ ap (λ (l : List Float). replicate needed nought ++ drop needed l) t
     ∙ ap (λ (l : List Float). replicate needed nought ++ l) (drop_at made (drop needed before) needed long)
@@ -89,11 +84,6 @@ pub from_first : (words : ℕ) (starts ids : List ℕ) (values : List Float) →
 from_first words starts ids values s = rw (zero-add words) s
 
 -- ---- as the code goes
-
--- states, then transitions
-pub in_order : (labels words : ℕ) (states transitions : List Float) {these those r : Checked} → these ≡ placed_after 0 (finished_checked states (words * labels)) → those ≡ placed_after (words * labels) (finished_checked transitions (labels * labels)) → r ≡ or_next_of these those → r ≡ scores_finished labels words states transitions
-unfolding scores_finished or_next_of
-in_order labels words states transitions e f g = g ∙ rw (e, f, placed_first (finished_checked states (words * labels)))
 
 -- a front whose length was computed
 pub cleared_to : {n : ℕ} (needed : ℕ) (before : List Float) {after : List Float} → n ≡ needed → after ≡ cleared nought n before → after ≡ cleared nought needed before

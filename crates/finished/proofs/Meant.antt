@@ -1,4 +1,5 @@
 -- 8 means what `Meaning` says. Assumes nothing.
+use Rattle.std.specs.Prelude.{Ok, Err}
 use mathlib.Core.Path.{◌≡◌, refl, sym, ◌∙◌}
 use mathlib.Core.Bool.{Bool, true, false, not, ◌&&◌, false≢true}
 use mathlib.Core.List.{[], ◌∷◌}
@@ -11,9 +12,7 @@ use lib.ListN.{get_or}
 use lib.Ieee.{nan}
 use lib.Ieee.Scale.{finite}
 use Rattle.refusals.specs.declared.Refusal.{Refusal}
-use Rattle.refusals.specs.declared.Checked.{Checked}
-use Rattle.refusals.specs.declared.Checked.TheVariants.{Accepted, Refused}
-use Rattle.refusals.specs.Refusals.{refused_at, or_next_of}
+use Rattle.refusals.specs.Refusals.{Checked, refused_at, or_next_of}
 use Rattle.refusals.specs.Tables.{not_finite}
 use Rattle.refusals.proofs.Laws.{never, both, either, number_of_lem, place_of_lem}
 use Rattle.refusals.proofs.Meant.{accepted_means, accepted_if, exactly}
@@ -42,20 +41,20 @@ counts_mean counts features =
 -- ---- places that are counted on
 
 abbrev place_in : Checked → ℕ
-place_in Accepted = 0
-place_in (Refused why) = why.place
+place_in (Ok _) = 0
+place_in (Err why) = why.place
 
-not_placed : (others : ℕ) (check : Checked) → placed_after others check ≡ Accepted → check ≡ Accepted
-not_placed others Accepted h = refl
-not_placed others (Refused why) h = never h refl
+not_placed : (others : ℕ) (check : Checked) → placed_after others check ≡ Ok tt → check ≡ Ok tt
+not_placed others (Ok _) h = refl
+not_placed others (Err why) h = never h refl
 
 placed_at : (others place : ℕ) (check : Checked) → placed_after others check ≡ refused_at 8 place → (place ≡ others + place_in check) × (check ≡ refused_at 8 (place_in check))
-placed_at others place Accepted h = never refl h
-placed_at others place (Refused why) h = let n : why.number ≡ 8 = number_of_lem h in (sym (place_of_lem h), rw n)
+placed_at others place (Ok _) h = never refl h
+placed_at others place (Err why) h = let n : why.number ≡ 8 = number_of_lem h in (sym (place_of_lem h), rw n)
 
-placed_only : (others : ℕ) (check : Checked) (why : Refusal) → ((w : Refusal) → check ≡ Refused w → w.number ≡ 8) → placed_after others check ≡ Refused why → why.number ≡ 8
-placed_only others Accepted why only h = never refl h
-placed_only others (Refused w) why only h = number_of_lem (sym h) ∙ only w refl
+placed_only : (others : ℕ) (check : Checked) (why : Refusal) → ((w : Refusal) → check ≡ Err w → w.number ≡ 8) → placed_after others check ≡ Err why → why.number ≡ 8
+placed_only others (Ok _) why only h = never refl h
+placed_only others (Err w) why only h = number_of_lem (sym h) ∙ only w refl
 
 pub scores_mean : ScoresFinishedMean
 unfolding scores_finished or_next_of

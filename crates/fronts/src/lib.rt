@@ -13,10 +13,8 @@ fn halves_finite(table: &[f64], half: usize) -> bool
     ensures { result ≡ all_finite_of table.now (half + half) }
 {
     let mut all = true;
-    let mut i = 0usize;
-    while i < half {
-        all = all & binary64::are_finite(table[i], table[half + i]);
-        i += 1;
+    for i in 0..half {
+        all &= binary64::are_finite(table[i], table[half + i]);
     }
     all
 }
@@ -36,14 +34,12 @@ pub fn all_finite(table: &[f64], n: usize) -> bool
 }
 
 // The first n become the value: scores, counts, weights and running sums start at 0, the covariance at the variance.
-pub fn fill(table: &mut [f64], n: usize, value: f64)
+pub fn fill<T: Copy>(table: &mut [T], n: usize, value: T)
     requires { n ≤ length table.old }
     ensures { table.new ≡ cleared value n table.old }
 {
-    let mut i = 0usize;
-    while i < n {
-        table[i] = value;
-        i += 1;
+    for entry in &mut table[..n] {
+        *entry = value;
     }
 }
 
@@ -52,9 +48,5 @@ pub fn clear(order: &mut [u32], n: usize)
     requires { n ≤ length order.old }
     ensures { order.new ≡ cleared 0 n order.old }
 {
-    let mut i = 0usize;
-    while i < n {
-        order[i] = 0;
-        i += 1;
-    }
+    fill(order, n, 0);
 }

@@ -5,7 +5,7 @@ ghost use Rattle.std.specs.Prelude.{◌≡◌};
 ghost use Rattle.generator.specs.SplitMix64.{folded, wrapped, advanced, mixed};
 ghost use Rattle.generator.specs.Draw.{next, number};
 
-// a · b, wrapped at 64 bits: the language has no wrapping product, so it is made of halves of 32 bits.
+// a · b, wrapped at 64 bits: a product of our own, made of halves of 32 bits.
 pub fn wrapping_mul(a: u64, b: u64) -> u64
     ensures { result ≡ wrapped a b }
 {
@@ -13,15 +13,15 @@ pub fn wrapping_mul(a: u64, b: u64) -> u64
     let a1 = a / 4294967296;
     let b0 = b % 4294967296;
     let b1 = b / 4294967296;
-    let mid = std::num::wrapping_add_u64(a1 * b0, a0 * b1);
-    std::num::wrapping_add_u64(a0 * b0, mid << 32)
+    let mid = (a1 * b0).wrapping_add(a0 * b1);
+    (a0 * b0).wrapping_add(mid << 32)
 }
 
 // The state after a draw.
 pub fn advance(state: u64) -> u64
     ensures { result ≡ advanced state }
 {
-    std::num::wrapping_add_u64(state, 0x9E3779B97F4A7C15)
+    state.wrapping_add(0x9E3779B97F4A7C15)
 }
 
 // The number that is drawn at a state that was advanced.
@@ -60,11 +60,11 @@ pub fn draw(generator: &mut Generator) -> u64
 pub fn draw_from(state: u64) -> Drawn
     ensures { (result.number ≡ number state) × (result.state ≡ next state) }
 {
-    let mut generator = Generator { state: state };
+    let mut generator = Generator { state };
     let number = draw(&mut generator);
     let after = generator.state;
     Drawn {
-        number: number,
+        number,
         state: after,
     }
 }

@@ -1,4 +1,7 @@
 -- Laws of counting wrong labels, and what judging one instance relies on. Assumes nothing.
+use Rattle.refusals.specs.declared.Refusal.{Refusal}
+use Rattle.viterbi_end.specs.declared.Found.{Found}
+use Rattle.std.specs.Prelude.{Ok, Err, Result}
 use mathlib.Core.Path.{◌≡◌, refl, sym, ap, ◌∙◌}
 use mathlib.Core.Bool.{Bool, true, false, cond, ◌&&◌, false≢true}
 use mathlib.Core.List.{List}
@@ -8,7 +11,6 @@ use borrow.Author.Tests.{eq-eqb, ne_eqb}
 use lib.Dec.{eqb}
 use lib.ListN.{get_or, length}
 use lib.Ieee.{Float}
-use Rattle.refusals.specs.declared.Checked.TheVariants.{Accepted}
 use Rattle.refusals.proofs.Laws.{never}
 use Rattle.refusals.proofs.Said.{refused_said, accepted_said}
 use Rattle.lines.specs.Passes.{through}
@@ -18,7 +20,6 @@ use Rattle.best_path.specs.Decoded.{decoded_path}
 use Rattle.best_path.specs.PathScore.{path_score}
 use Rattle.best_path.proofs.Laws.{decoded_allowed}
 use Rattle.sequence_score.specs.Sound.{Met}
-use Rattle.viterbi.specs.declared.Decoding.{Decoding}
 use Rattle.finished.specs.Rows.{scores_finished}
 use Rattle.finished.proofs.Meant.{tests_accept}
 use Rattle.fronts.proofs.Filled.{all_of}
@@ -51,19 +52,19 @@ unless true h = absurd (h refl)
 
 module _ {labels words : ℕ} {references : List ℕ} {transitions states : List Float} {path : List ℕ} where
   -- what 8 says of the scores is what the finite tests say
-  pub decoded_finite : (answer : Decoding) → Judgeable labels words references transitions states path answer → is_decoded_of answer ≡ finite_scores labels words transitions states
-  decoded_finite (Decoding.Decoded found) s = sym ((tests_accept labels words states transitions).0 (accepted_said _ _ _ (sym s.labelled.answers)))
-  decoded_finite (Decoding.Refused why) s =
+  pub decoded_finite : (answer : Result Found Refusal) → Judgeable labels words references transitions states path answer → is_decoded_of answer ≡ finite_scores labels words transitions states
+  decoded_finite (Ok found) s = sym ((tests_accept labels words states transitions).0 (accepted_said _ _ _ (sym s.labelled.answers)))
+  decoded_finite (Err why) s =
       unless _ (λ t. never ((tests_accept labels words states transitions).1 t) ((refused_said _ _ why).0 (sym s.labelled.answers)))
 
   -- the path is the decoded one
-  pub path_is : (answer : Decoding) → is_decoded_of answer ≡ true → Judgeable labels words references transitions states path answer → path ≡ decoded_path (tabled labels transitions states) words
-  path_is (Decoding.Refused why) t s = absurd (false≢true t)
-  path_is (Decoding.Decoded found) t s =
-      let e : scores_finished labels words states transitions ≡ Accepted = accepted_said _ _ _ (sym s.labelled.answers) in
+  pub path_is : (answer : Result Found Refusal) → is_decoded_of answer ≡ true → Judgeable labels words references transitions states path answer → path ≡ decoded_path (tabled labels transitions states) words
+  path_is (Err why) t s = absurd (false≢true t)
+  path_is (Ok found) t s =
+      let e : scores_finished labels words states transitions ≡ Ok tt = accepted_said _ _ _ (sym s.labelled.answers) in
       rw e at s.labelled.path ∙ all_of _ _ _ s.long_before
 
-module _ {labels words : ℕ} {references : List ℕ} {transitions states : List Float} {path : List ℕ} {answer : Decoding} (s : Judgeable labels words references transitions states path answer) where
+module _ {labels words : ℕ} {references : List ℕ} {transitions states : List Float} {path : List ℕ} {answer : Result Found Refusal} (s : Judgeable labels words references transitions states path answer) where
   -- the reference labels meet entries of the tables, and so do those of the predicted path
   pub true_met : Met labels transitions states references words
   true_met = record {

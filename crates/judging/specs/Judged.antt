@@ -1,12 +1,13 @@
 -- What a prediction says of an instance: 8 for its scores, the wrong labels, and where there are any the two path scores. Assumes nothing.
-use Rattle.std.specs.Prelude.{◌≡◌, Bool, true, false, ◌&&◌, List, ℕ, ◌*◌, ◌≤◌, ◌<◌, length, get_or, Float}
+use Rattle.refusals.specs.declared.Refusal.{Refusal}
+use Rattle.viterbi_end.specs.declared.Found.{Found}
+use Rattle.std.specs.Prelude.{◌≡◌, Bool, true, false, ◌&&◌, List, ℕ, ◌*◌, ◌≤◌, ◌<◌, length, get_or, Float, Ok, Err, Result}
 use Rattle.best_path.specs.Scores.{tabled}
 use Rattle.best_path.specs.Decoded.{decoded_path}
 use Rattle.best_path.specs.PathScore.{path_score}
 use Rattle.score_tables.specs.Sound.{LabelsIn, WordsIn}
 use Rattle.training.specs.Wrong.{wrong_of}
 use Rattle.fronts.specs.Finite.{all_finite_of}
-use Rattle.viterbi.specs.declared.Decoding.{Decoding}
 use Rattle.labelling.specs.Labelled.{Labelled}
 use Rattle.judging.specs.declared.Prediction.{Prediction}
 
@@ -24,12 +25,12 @@ pub record Judged (labels words : ℕ) (transitions states : List Float) (refere
   pub wanted : p.finite ≡ true → (p.wrong ≡ 0 → ⊥) → p.wanted ≡ path_score (tabled labels transitions states) references words
 
 -- no 8 was given
-abbrev pub is_decoded_of : Decoding → Bool
-is_decoded_of (Decoding.Decoded found) = true
-is_decoded_of (Decoding.Refused why) = false
+abbrev pub is_decoded_of : Result Found Refusal → Bool
+is_decoded_of (Ok found) = true
+is_decoded_of (Err why) = false
 
 -- what judging relies on: an instance that was labelled by these scores, in a path no longer than its words
-pub record Judgeable (labels words : ℕ) (references : List ℕ) (transitions states : List Float) (path : List ℕ) (answer : Decoding) : Type 0 where
+pub record Judgeable (labels words : ℕ) (references : List ℕ) (transitions states : List Float) (path : List ℕ) (answer : Result Found Refusal) : Type 0 where
   pub labels_in : LabelsIn labels
   pub words_in_lem : WordsIn words
   pub referenced : length references ≡ words

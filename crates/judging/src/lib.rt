@@ -6,7 +6,8 @@ ghost use Rattle.std.specs.Prelude.{◌≡◌, ◌≤◌, length};
 ghost use Rattle.training.specs.Wrong.{wrong_of};
 ghost use Rattle.judging.specs.Judged.{is_decoded_of, Judged, Judgeable};
 
-use viterbi::Decoding;
+use refusals::Refusal;
+use viterbi_end::Found;
 
 // Whether the scores are finite, how many labels are wrong, and where some are, the scores of the predicted and the true path.
 #[derive(Clone, Copy)]
@@ -23,24 +24,19 @@ fn count_wrong(path: &[u32], references: &[u32], words: usize) -> u32
     ensures { (result ≡ wrong_of path.now references.now words) × (result ≤ words) }
 {
     let mut wrong = 0u32;
-    let mut word = 0usize;
-    while word < words {
+    for word in 0..words {
         if path[word] != references[word] {
             wrong += 1;
         }
-        word += 1;
     }
     wrong
 }
 
 // No 8 was given for the scores.
-fn is_decoded(answer: Decoding) -> bool
+fn is_decoded(answer: Result<Found, Refusal>) -> bool
     ensures { result ≡ is_decoded_of answer }
 {
-    match answer {
-        Decoding::Decoded(_) => true,
-        Decoding::Refused(_) => false,
-    }
+    answer.is_ok()
 }
 
 // A labelled instance beside its reference: 8 of its scores, then the number of wrong labels, then the two path scores.
@@ -51,7 +47,7 @@ pub fn judge(
     transitions: &[f64],
     states: &[f64],
     path: &[u32],
-    answer: Decoding,
+    answer: Result<Found, Refusal>,
 ) -> Prediction
     requires { Judgeable labels words references.now transitions.now states.now path.now answer }
     ensures { Judged labels words transitions.now states.now references.now path.now result }

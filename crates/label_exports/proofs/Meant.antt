@@ -1,13 +1,12 @@
 -- What C is told of a labelled line means what `Meaning` says. Assumes nothing.
+use Rattle.std.specs.Prelude.{Ok}
 use mathlib.Core.Path.{◌≡◌, refl, ap, ◌∙◌}
 use mathlib.Core.List.{[], ◌∷◌}
 use mathlib.Core.Logic.{inl, ⊎_elim}
 use Prim.Native.Nat.{ℕ}
 use lib.ListN.{length, take, drop}
 use lib.Seq.{take_at}
-use Rattle.refusals.specs.declared.Checked.{Checked}
-use Rattle.refusals.specs.declared.Checked.TheVariants.{Accepted}
-use Rattle.refusals.specs.Refusals.{or_next_of}
+use Rattle.refusals.specs.Refusals.{Checked, or_next_of}
 use Rattle.refusals.specs.Said.{Said}
 use Rattle.refusals.proofs.Laws.{either}
 use Rattle.best_path.specs.Decoded.{decoded_path, decoded_sum}
@@ -49,8 +48,8 @@ unfolding answer_to labels_after or_next_of
 every_line_is_best given before outcome kept fine finite =
     let s = scores_of_line given in
     let words = given.words in
-    let checked : checked_of given before ≡ Accepted = (checks_mean given (length before)).accepted.1 fine in
-    let finished : scores_finished_of given ≡ Accepted = (scores_mean given.model.labels words (states_of_line given) (transitions_of_line given)).accepted.1 finite in
+    let checked : checked_of given before ≡ Ok tt = (checks_mean given (length before)).accepted.1 fine in
+    let finished : scores_finished_of given ≡ Ok tt = (scores_mean given.model.labels words (states_of_line given) (transitions_of_line given)).accepted.1 finite in
     let answer = rw (checked, finished) at kept.answers in
     let low = fine.1.0.low in
     let best = demand_3 s words fine.0.low low (all_finite given finished) in

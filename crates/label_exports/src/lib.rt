@@ -33,7 +33,7 @@ pub extern "C" fn bodkinbloom_label_line(
         let line = line_was attributes word_starts ids values in
         Labels (record { model = m; weights = weights.now; words = words; line = line }) path.old (record { answer = result; path = path.new }) }
 {
-    let answer = label_line::label_line(
+    Decoded::from(label_line::label_line(
         labels,
         counts,
         kinds,
@@ -50,6 +50,5 @@ pub extern "C" fn bodkinbloom_label_line(
         ids,
         values,
         path,
-    );
-    answers::decoding::numbers_of_decoding(answer)
+    ))
 }

@@ -1,8 +1,8 @@
 -- What labelling a line answers is best, as demand 3 says. Assumes nothing.
+use Rattle.std.specs.Prelude.{Ok}
 use mathlib.Core.Path.{◌≡◌, sym, ap, ◌∙◌}
 use lib.ListN.{length, take, drop}
 use lib.Seq.{take_at}
-use Rattle.refusals.specs.declared.Checked.TheVariants.{Accepted}
 use Rattle.refusals.specs.Refusals.{or_next_of}
 use Rattle.refusals.proofs.Laws.{both}
 use Rattle.refusals.proofs.Said.{same_given, accepted_said}
@@ -19,7 +19,7 @@ use Rattle.label_line.specs.Demand3.{AnswersAreBest}
 use Rattle.label_line.proofs.Meant.{checks_mean}
 
 -- 8 was not given: every score is finite
-pub all_finite : (given : Given) → scores_finished_of given ≡ Accepted → AllFinite (scores_of_line given) given.words
+pub all_finite : (given : Given) → scores_finished_of given ≡ Ok tt → AllFinite (scores_of_line given) given.words
 all_finite given h =
     let labels = given.model.labels in
     let f = (scores_mean labels given.words (states_of_line given) (transitions_of_line given)).accepted.0 h in
@@ -34,7 +34,7 @@ answers_are_best given before outcome kept sum l answer =
     let s = scores_of_line given in
     let words = given.words in
     let said_so = sym kept.answers ∙ answer in
-    let all : or_next_of (checked_of given before) (scores_finished_of given) ≡ Accepted = accepted_said _ (record { sum = sum; lead = l }) _ said_so in
+    let all : or_next_of (checked_of given before) (scores_finished_of given) ≡ Ok tt = accepted_said _ (record { sum = sum; lead = l }) _ said_so in
     let accepted = both (checked_of given before) (scores_finished_of given) all in
     let fine = (checks_mean given (length before)).accepted.0 accepted.0 in
     let best = demand_3 s words fine.0.low fine.1.0.low (all_finite given accepted.1) in

@@ -1,10 +1,10 @@
 -- Inputs that agree where scoring looks get the same path, sum and lead. Assumes nothing.
+use Rattle.std.specs.Prelude.{Ok}
 use mathlib.Core.Path.{◌≡◌, sym, ap₂, ◌∙◌}
 use mathlib.Core.List.{List}
 use Prim.Native.Nat.{ℕ}
 use lib.ListN.{length, take, drop}
 use lib.Seq.{take_at}
-use Rattle.refusals.specs.declared.Checked.TheVariants.{Accepted}
 use Rattle.refusals.specs.Refusals.{or_next_of}
 use Rattle.refusals.proofs.Laws.{both}
 use Rattle.refusals.proofs.Said.{accepted_said}
@@ -20,11 +20,11 @@ use Rattle.label_line.proofs.Meant.{checks_mean}
 
 -- a line that is labelled has the definition's path, sum and lead
 module _ (given : Given) (before : List ℕ) (outcome : Outcome) (kept : Promised given before outcome) (labelled : IsLabelled outcome) where
-  all : or_next_of (checked_of given before) (scores_finished_of given) ≡ Accepted
+  all : or_next_of (checked_of given before) (scores_finished_of given) ≡ Ok tt
   unfolding answer_to
   all = accepted_said _ (record { sum = labelled.0; lead = labelled.1 }) _ (sym kept.answers ∙ labelled.2)
 
-  accepted : (checked_of given before ≡ Accepted) × (scores_finished_of given ≡ Accepted)
+  accepted : (checked_of given before ≡ Ok tt) × (scores_finished_of given ≡ Ok tt)
   accepted = both (checked_of given before) (scores_finished_of given) all
 
   answer_is : said outcome.answer ≡ decoded_of given

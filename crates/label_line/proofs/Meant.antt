@@ -1,12 +1,11 @@
 -- What labelling a line answers means what `LabellingMeans` says. Assumes nothing.
+use Rattle.std.specs.Prelude.{Ok}
 use mathlib.Core.Path.{◌≡◌, refl, sym, ap, ◌∙◌}
 use mathlib.Core.List.{List}
 use mathlib.Core.Logic.{◌↔◌}
 use Prim.Native.Nat.{ℕ, ◌<◌}
 use lib.ListN.{length}
-use Rattle.refusals.specs.declared.Checked.{Checked}
-use Rattle.refusals.specs.declared.Checked.TheVariants.{Accepted}
-use Rattle.refusals.specs.Refusals.{numbered, refused_at, or_next_of}
+use Rattle.refusals.specs.Refusals.{Checked, numbered, refused_at, or_next_of}
 use Rattle.refusals.specs.Said.{or_refused}
 use Rattle.refusals.proofs.Said.{refused_said, accepted_said}
 use Rattle.best_path.specs.Decoded.{decoded_sum}
@@ -36,7 +35,7 @@ pub labelled_so :
     (given : Given) (before : List ℕ) (Refuses : ℕ → ℕ → Type 0) (Accepts : Type 0) →
     ((number place : ℕ) → Refuses number place → or_next_of (checked_of given before) (scores_finished_of given) ≡ refused_at number place) →
     ((number place : ℕ) → 0 < number → or_next_of (checked_of given before) (scores_finished_of given) ≡ refused_at number place → Refuses number place) →
-    Accepts ↔ or_next_of (checked_of given before) (scores_finished_of given) ≡ Accepted →
+    Accepts ↔ or_next_of (checked_of given before) (scores_finished_of given) ≡ Ok tt →
     Meaning Refuses Accepts given before
 labelled_so given before Refuses Accepts to from accepted =
     answered (checked_of given before) (scores_finished_of given)

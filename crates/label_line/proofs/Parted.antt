@@ -1,11 +1,10 @@
 -- The rows of labelling a line are its bounds, then the sooner of three parts; and an accepted line can be scored into buffers that have room for every line. Assumes nothing.
+use Rattle.std.specs.Prelude.{Ok}
 use mathlib.Core.Path.{◌≡◌}
 use mathlib.Core.List.{List, [], ◌∷◌, ◌++◌}
 use Prim.Native.Nat.{ℕ, ◌≤◌}
 use native.Mathlib.Nat.{mul-le-mul}
-use Rattle.refusals.specs.declared.Checked.{Checked}
-use Rattle.refusals.specs.declared.Checked.TheVariants.{Accepted}
-use Rattle.refusals.specs.Refusals.{refuse, or_next_of, sooner}
+use Rattle.refusals.specs.Refusals.{Checked, refuse, or_next_of, sooner}
 use Rattle.refusals.specs.Tables.{short}
 use Rattle.score_tables.specs.Rows.{bounds_checked}
 use Rattle.refusal_rows.specs.Limits.{Limit, room, AllWithin}
@@ -29,8 +28,8 @@ module _ (given : Given) (path : ℕ) where
   -- as the code goes
   pub in_order : {bounds model line tables lent rest answer : Checked} → bounds ≡ bounds_checked given.model.labels given.words →
       model ≡ weighted_checked given.model given.weights → line ≡ line_checked given.words given.line → tables ≡ sooner model line →
-      lent ≡ or_next_of Accepted (refuse 2 0 (short path given.words)) → rest ≡ sooner tables lent → answer ≡ or_next_of bounds rest → answer ≡ label_checked given path
-  unfolding part_checked label_checked
+      lent ≡ refuse 2 0 (short path given.words) → rest ≡ sooner tables lent → answer ≡ or_next_of bounds rest → answer ≡ label_checked given path
+  unfolding part_checked label_checked or_next_of
   in_order a b c d e f g = weighted_line given.model given.weights given.words given.line own_room a b c d e f g
 
   -- scoring into the call's own arrays
@@ -51,7 +50,7 @@ module _ (given : Given) (path : ℕ) where
   scores = score_rooms given.model.labels given.words 1024 4096
 
   -- an accepted line can be scored, since within the bounds the arrays have room, and the path has room
-  pub accepts : label_checked given path ≡ Accepted → (scoring_checked own ≡ Accepted) × (given.words ≤ path)
+  pub accepts : label_checked given path ≡ Ok tt → (scoring_checked own ≡ Ok tt) × (given.words ≤ path)
   accepts h =
       let a = (checks_mean given path).accepted.0 h in
       let l = a.0 in

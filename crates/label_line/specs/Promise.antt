@@ -1,12 +1,12 @@
 -- What labelling a line promises: document 01's answer to what the call is given, and what the lent buffer holds afterwards. Assumes nothing.
-use Rattle.std.specs.Prelude.{◌≡◌, List, ℕ, ◌≤◌, length, Float}
-use Rattle.refusals.specs.declared.Checked.{Checked}
-use Rattle.refusals.specs.Refusals.{or_next_of}
+use Rattle.refusals.specs.declared.Refusal.{Refusal}
+use Rattle.viterbi_end.specs.declared.Found.{Found}
+use Rattle.std.specs.Prelude.{◌≡◌, List, ℕ, ◌≤◌, length, Float, Result}
+use Rattle.refusals.specs.Refusals.{Checked, or_next_of}
 use Rattle.refusals.specs.Said.{Said, or_refused}
 use Rattle.best_path.specs.Scores.{Scores, tabled}
 use Rattle.best_path.specs.Decoded.{decoded_path, decoded_sum}
 use Rattle.best_path.specs.Lead.{Lead, lead}
-use Rattle.viterbi.specs.declared.Decoding.{Decoding}
 use Rattle.viterbi.specs.Promise.{SumAndLead, decoded, said}
 use Rattle.feature_gen.specs.Sound.{Weighted}
 use Rattle.line_check.specs.Sound.{SoundLine}
@@ -16,7 +16,7 @@ use Rattle.label_line.specs.Rows.{label_checked}
 
 -- the answer, and what the lent buffer holds afterwards
 pub record Outcome : Type 0 where
-  pub answer : Decoding
+  pub answer : Result Found Refusal
   pub path : List ℕ
 
 -- the answer is no refusal

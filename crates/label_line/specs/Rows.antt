@@ -1,7 +1,6 @@
 -- Document 01, "Numbered refusals", row by row for labelling a line, and their order: 1, 4, 2, 3, 5, 6. Row 8 is that of its scores. Assumes nothing.
 use Rattle.std.specs.Prelude.{List, [], ◌∷◌, ◌++◌, ℕ}
-use Rattle.refusals.specs.declared.Checked.{Checked}
-use Rattle.refusals.specs.Refusals.{first}
+use Rattle.refusals.specs.Refusals.{Checked, first}
 use Rattle.score_tables.specs.Rows.{one, four}
 use Rattle.refusal_rows.specs.Limits.{Limit, room, two}
 use Rattle.refusal_rows.specs.Tests.{checks}

@@ -10,9 +10,9 @@ ghost use Rattle.label_line.specs.Rows.{label_checked};
 ghost use Rattle.label_line.specs.Promise.{SoundLabelling, Promised};
 
 use feature_gen::Counts;
-use labelling::{MOST_STATES, MOST_TRANSITIONS};
-use refusals::Checked;
-use viterbi::Decoding;
+use labelling::{FEW, MOST_STATES, MOST_TRANSITIONS};
+use refusals::Refusal;
+use viterbi_end::Found;
 
 // 1 and 4, then the sooner of the model's check, the line's, and 2 of the path's buffer: the scores have room.
 pub fn check_line(
@@ -32,12 +32,12 @@ pub fn check_line(
     ids: &[u32],
     values: &[f64],
     path: usize,
-) -> Checked
+) -> Result<(), Refusal>
     ensures { let m = model_was labels counts kinds destinations sources attribute_starts attribute_entries label_starts label_entries in
         let l = line_was attributes begins ids values in
         result ≡ label_checked (record { model = m; weights = weights.now; words = words; line = l }) path }
 {
-    let bounds = score_tables::check_bounds(labels, words);
+    score_tables::check_bounds(labels, words)?;
     let model = feature_gen::check_weighted(
         labels,
         counts,
@@ -52,10 +52,8 @@ pub fn check_line(
     );
     let line = line_check::check_line(words, attributes, begins, ids, values);
     let tables = refusals::sooner(model, line);
-    let short = refusals::is_short(path, words as usize);
-    let room = refusals::refuse_if(Checked::Accepted, 2, 0, short);
-    let rest = refusals::sooner(tables, room);
-    refusals::or_next(bounds, rest)
+    let room = refusals::refuse_if(2, 0, refusals::is_short(path, words as usize));
+    refusals::sooner(tables, room)
 }
 
 // The labels of a line that is accepted, its scores in two lent tables that are exactly as long as they have to be.
@@ -78,7 +76,7 @@ fn label_in(
     transitions: &mut [f64],
     states: &mut [f64],
     path: &mut [u32],
-) -> Decoding
+) -> Result<Found, Refusal>
     requires fact { let m = model_at labels counts kinds destinations sources attribute_starts attribute_entries label_starts label_entries in
         let line = line_at attributes begins ids values in
         SoundLabelling (record { model = m; weights = weights.now; words = words; line = line }) path.old }
@@ -122,8 +120,9 @@ fn label_in(
     )
 }
 
-// A short line has its scores in small arrays.
-fn label_short(
+// The scores of a line in arrays of these sizes: small ones for a short line, since clearing large ones would take longer than the
+// line; for any other the most words, with the most labels each.
+fn label_within<const TRANSITIONS: usize, const STATES: usize>(
     labels: u32,
     counts: Counts,
     kinds: &[u8],
@@ -140,71 +139,19 @@ fn label_short(
     ids: &[u32],
     values: &[f64],
     path: &mut [u32],
-) -> Decoding
+) -> Result<Found, Refusal>
     requires fact { let m = model_at labels counts kinds destinations sources attribute_starts attribute_entries label_starts label_entries in
         let line = line_at attributes begins ids values in
         SoundLabelling (record { model = m; weights = weights.now; words = words; line = line }) path.old }
-    requires labels_bound { (labels * labels ≤ 256) × (words * labels ≤ 256) }
+    requires labels_bound { (labels * labels ≤ TRANSITIONS) × (words * labels ≤ STATES) }
+    requires sizes_bound { (TRANSITIONS ≤ MOST_TRANSITIONS) × (STATES ≤ MOST_STATES) }
     ensures { let m = model_was labels counts kinds destinations sources attribute_starts attribute_entries label_starts label_entries in
         let line = line_was attributes begins ids values in
         let w = weights.now in
         Labelled labels words (transitions_of m w) (states_of m w line 0 words) path.old result path.new }
 {
-    let mut transitions = [0.0; labelling::FEW];
-    let mut states = [0.0; labelling::FEW];
-    let square = score_tables::entries(labels, labels);
-    let rows = score_tables::entries(words, labels);
-    label_in(
-        labels,
-        counts,
-        kinds,
-        destinations,
-        sources,
-        weights,
-        attribute_starts,
-        attribute_entries,
-        label_starts,
-        label_entries,
-        words,
-        attributes,
-        begins,
-        ids,
-        values,
-        &mut transitions[..square],
-        &mut states[..rows],
-        path,
-    )
-}
-
-// Any line: the most words, with the most labels each.
-fn label_long(
-    labels: u32,
-    counts: Counts,
-    kinds: &[u8],
-    destinations: &[u32],
-    sources: &[u32],
-    weights: &[f64],
-    attribute_starts: &[u32],
-    attribute_entries: &[u32],
-    label_starts: &[u32],
-    label_entries: &[u32],
-    words: u32,
-    attributes: u32,
-    begins: &[u32],
-    ids: &[u32],
-    values: &[f64],
-    path: &mut [u32],
-) -> Decoding
-    requires { let m = model_at labels counts kinds destinations sources attribute_starts attribute_entries label_starts label_entries in
-        let line = line_at attributes begins ids values in
-        SoundLabelling (record { model = m; weights = weights.now; words = words; line = line }) path.old }
-    ensures { let m = model_was labels counts kinds destinations sources attribute_starts attribute_entries label_starts label_entries in
-        let line = line_was attributes begins ids values in
-        let w = weights.now in
-        Labelled labels words (transitions_of m w) (states_of m w line 0 words) path.old result path.new }
-{
-    let mut transitions = [0.0; MOST_TRANSITIONS];
-    let mut states = [0.0; MOST_STATES];
+    let mut transitions = [0.0; TRANSITIONS];
+    let mut states = [0.0; STATES];
     let square = score_tables::entries(labels, labels);
     let rows = score_tables::entries(words, labels);
     label_in(
@@ -247,7 +194,7 @@ pub fn label_line(
     ids: &[u32],
     values: &[f64],
     path: &mut [u32],
-) -> Decoding
+) -> Result<Found, Refusal>
     ensures { let m = model_was labels counts kinds destinations sources attribute_starts attribute_entries label_starts label_entries in
         let line = line_was attributes begins ids values in
         Promised (record { model = m; weights = weights.now; words = words; line = line }) path.old (record { answer = result; path = path.new }) }
@@ -270,11 +217,9 @@ pub fn label_line(
         values,
         path.len(),
     );
-    if let Checked::Refused(why) = checked {
-        return Decoding::Refused(why);
-    }
+    checked?;
     if labelling::is_small(labels as usize, words as usize) {
-        label_short(
+        label_within::<FEW, FEW>(
             labels,
             counts,
             kinds,
@@ -293,7 +238,7 @@ pub fn label_line(
             path,
         )
     } else {
-        label_long(
+        label_within::<MOST_TRANSITIONS, MOST_STATES>(
             labels,
             counts,
             kinds,

@@ -11,8 +11,8 @@ ghost use Rattle.viterbi.specs.Answered.{Ready};
 ghost use Rattle.score_tables.specs.Sound.{LabelsIn, WordsIn};
 ghost use Rattle.labelling.specs.Labelled.{Labelled, LabelledAt, LentTables, small};
 
-use refusals::Checked;
-use viterbi::Decoding;
+use refusals::Refusal;
+use viterbi_end::Found;
 
 // The room for the scores of a short line, and of any line: the most transitions, and the most states.
 pub const FEW: usize = 256;
@@ -36,16 +36,15 @@ fn decode_scores(
     transitions: &[f64],
     states: &[f64],
     path: &mut [u32],
-) -> Decoding
+) -> Result<Found, Refusal>
     requires { Ready labels words transitions.now states.now path.old }
     ensures { Labelled labels words transitions.now states.now path.old result path.new }
 {
-    let finished = finished::check_scores(labels, words, transitions, states);
-    if let Checked::Refused(late) = finished {
+    if let Err(late) = finished::check_scores(labels, words, transitions, states) {
         fronts::clear(path, words);
-        return Decoding::Refused(late);
+        return Err(late);
     }
-    Decoding::Decoded(viterbi::decode_tables(labels, words, transitions, states, path))
+    Ok(viterbi::decode_tables(labels, words, transitions, states, path))
 }
 
 // The labels of the line of so many words that begins at the word `first`, by its states, which are left in their table.
@@ -66,7 +65,7 @@ pub fn label_at(
     transitions: &[f64],
     states: &mut [f64],
     path: &mut [u32],
-) -> Decoding
+) -> Result<Found, Refusal>
     requires sound_states { SoundStates labels features kinds.now destinations.now weights.now }
     requires sound_lists { SoundLists lists starts.now entries.now features }
     requires sound_words { SoundWords (first + words) begins.now ids.now values.now }

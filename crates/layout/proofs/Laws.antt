@@ -1,4 +1,5 @@
 -- What code that walks through a text cites of the look. Assumes nothing.
+use Rattle.std.specs.Prelude.{Ok, Err}
 use mathlib.Core.Path.{◌≡◌, refl, sym, ap, ◌∙◌}
 use mathlib.Core.Bool.{Bool, true, false, cond, not, ◌||◌, true≢false}
 use mathlib.Core.List.{[], ◌∷◌}
@@ -13,7 +14,6 @@ use Rattle.layout.specs.declared.Class.{Class}
 use Rattle.layout.specs.declared.Class.TheVariants.{Tab as tab, Feed as feed, Colon as colon, Slash as slash, Minus as minus, Point as point, Digit as digit, Other as other}
 use Rattle.layout.specs.declared.Mode.{Mode}
 use Rattle.layout.specs.declared.Mode.TheVariants.{Inside, Slashed, Digits}
-use Rattle.layout.specs.declared.Found.TheVariants.{Whole, At}
 use Rattle.layout.specs.Layout.{Bytes}
 use Rattle.layout.specs.Scan.{class_of, ends_scale, next_mode_of, accepting, alive, look_from}
 use Rattle.layout.proofs.Read.{View, view}
@@ -22,7 +22,7 @@ look_cons : (q : Mode) (b : ℕ) (t : Bytes) (i : ℕ) → alive (next_mode_of q
 unfolding look_from
 look_cons q b t i e = rw e refl
 
-look_stuck : (q : Mode) (b : ℕ) (t : Bytes) (i : ℕ) → alive (next_mode_of q (class_of b)) ≡ false → look_from q (b ∷ t) i ≡ At i
+look_stuck : (q : Mode) (b : ℕ) (t : Bytes) (i : ℕ) → alive (next_mode_of q (class_of b)) ≡ false → look_from q (b ∷ t) i ≡ Err i
 unfolding look_from
 look_stuck q b t i e = rw e refl
 
@@ -37,14 +37,14 @@ look_on q r text i h e a =
     ∙ ap (λ (m : Mode). look_from m (drop (i + 1) text) (i + 1)) (sym e)
 
 pub look_dead : (q r : Mode) (text : Bytes) (i : ℕ) → i < length text → r ≡ next_mode_of q (class_of (get_or text i 0)) → alive r ≡ false
-    → look_from q (drop i text) i ≡ At i
+    → look_from q (drop i text) i ≡ Err i
 look_dead q r text i h e a =
     ap (λ (t : Bytes). look_from q t i) (here text i h) ∙ look_stuck q (get_or text i 0) (drop (i + 1) text) i (ap alive (sym e) ∙ a)
 
-pub look_end : (q : Mode) (text : Bytes) (i : ℕ) → length text ≤ i → look_from q (drop i text) i ≡ cond (accepting q) Whole (At i)
+pub look_end : (q : Mode) (text : Bytes) (i : ℕ) → length text ≤ i → look_from q (drop i text) i ≡ cond (accepting q) (Ok tt) (Err i)
 look_end q text i h = ap (λ (t : Bytes). look_from q t i) (drop_of_length-le text {i = i} h) ∙ nil q i
   where
-    nil : (q : Mode) (i : ℕ) → look_from q [] i ≡ cond (accepting q) Whole (At i)
+    nil : (q : Mode) (i : ℕ) → look_from q [] i ≡ cond (accepting q) (Ok tt) (Err i)
     nil q i = unfold look_from in refl
 
 -- in a name
@@ -86,12 +86,3 @@ step_special k b e = go (eqb b 58) refl
     go : (x : Bool) → eqb b 58 ≡ x → Inside k ≡ next_mode_of (Slashed k) (class_of b)
     go true f = at58 b (eqb-true b 58 f)
     go false f = at92 b (eqb-true b 92 (rw f at e))
-
--- a scale's end, by its digits
-pub ended_law : (d : ℕ) (next : Mode) → (d ≡ 0 → ⊥) → next ≡ ends_scale d next
-ended_law zero next h = absurd (h refl)
-ended_law (suc d) next h = refl
-
-pub digits_law : (d : ℕ) (p : Bool) → not (eqb d 0) ≡ accepting (Digits d p)
-digits_law zero p = refl
-digits_law (suc d) p = rw (ne_eqb (suc d) 0 (suc-ne-zero d)) refl

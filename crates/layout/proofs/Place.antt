@@ -1,4 +1,5 @@
 -- The place of 11 means what the request says. Assumes nothing.
+use Rattle.std.specs.Prelude.{Ok, Err, Result}
 use mathlib.Core.Path.{◌≡◌, refl, sym, ap, subst, ◌∙◌}
 use mathlib.Core.Bool.{Bool, true, false, cond, true≢false, false≢true}
 use mathlib.Core.List.{[], ◌∷◌, ◌++◌}
@@ -11,8 +12,6 @@ use lib.ListN.{length, take}
 use borrow.Author.Tests.{ltb-true, ltb-false}
 use Rattle.layout.specs.declared.Mode.{Mode}
 use Rattle.layout.specs.declared.Mode.TheVariants.{Begin, Inside, Slashed, Field, Value, Digits, Bad}
-use Rattle.layout.specs.declared.Found.{Found}
-use Rattle.layout.specs.declared.Found.TheVariants.{Whole, At}
 use Rattle.layout.specs.Layout.{Bytes, WellFormed}
 use Rattle.layout.specs.Scan.{class_of, next_mode_of, mode_after, accepting, alive, look_from, look, Completable, PlaceOf, WholeMeant, PlaceMeant}
 use Rattle.layout.proofs.Read.{well_accepted, accepted_well}
@@ -64,9 +63,9 @@ record Stuck (q : Mode) (t : Bytes) (n : ℕ) : Type 0 where
   fronts : (m : ℕ) → m ≤ n → alive (mode_after q (take m t)) ≡ true
   refused : accepting (mode_after q t) ≡ false
 
-data Seen (q : Mode) (t : Bytes) (i : ℕ) (f : Found) : Type 0 where
-  whole : f ≡ Whole → accepting (mode_after q t) ≡ true → Seen q t i f
-  stuck : (n : ℕ) → f ≡ At (i + n) → Stuck q t n → Seen q t i f
+data Seen (q : Mode) (t : Bytes) (i : ℕ) (f : Result (Unit {0}) ℕ) : Type 0 where
+  whole : f ≡ Ok tt → accepting (mode_after q t) ≡ true → Seen q t i f
+  stuck : (n : ℕ) → f ≡ Err (i + n) → Stuck q t n → Seen q t i f
 
 refused_dead : (q : Mode) (t : Bytes) → alive q ≡ false → accepting (mode_after q t) ≡ false
 refused_dead q t e = ap (λ (z : Mode). accepting (mode_after z t)) (dead_bad q e) ∙ ap accepting (bad_stays t)
@@ -75,9 +74,9 @@ seen : (t : Bytes) (q : Mode) (i : ℕ) → alive q ≡ true → Seen q t i (loo
 unfolding look_from mode_after
 seen [] q i e = go (accepting q) refl
   where
-    go : (x : Bool) → accepting q ≡ x → Seen q [] i (cond x Whole (At i))
+    go : (x : Bool) → accepting q ≡ x → Seen q [] i (cond x (Ok tt) (Err i))
     go true a = whole refl a
-    go false a = stuck 0 (ap At (omega arith)) (record { inside = omega arith; dead = λ h. absurd (omega (arith, h)); fronts = λ m h. first m h; refused = a })
+    go false a = stuck 0 (ap Err (omega arith)) (record { inside = omega arith; dead = λ h. absurd (omega (arith, h)); fronts = λ m h. first m h; refused = a })
       where
         first : (m : ℕ) → m ≤ 0 → alive (mode_after q (take m [])) ≡ true
         first zero h = e
@@ -85,8 +84,8 @@ seen [] q i e = go (accepting q) refl
 seen (b ∷ t) q i e = go (alive (next_mode_of q (class_of b))) refl (seen t (next_mode_of q (class_of b)) (i + 1))
   where
     go : (x : Bool) → alive (next_mode_of q (class_of b)) ≡ x → (alive (next_mode_of q (class_of b)) ≡ true → Seen (next_mode_of q (class_of b)) t (i + 1) (look_from (next_mode_of q (class_of b)) t (i + 1)))
-        → Seen q (b ∷ t) i (cond x (look_from (next_mode_of q (class_of b)) t (i + 1)) (At i))
-    go false a rest = stuck 0 (ap At (omega arith)) (record { inside = omega arith; dead = λ h. a; fronts = λ m h. first m h; refused = refused_dead (next_mode_of q (class_of b)) t a })
+        → Seen q (b ∷ t) i (cond x (look_from (next_mode_of q (class_of b)) t (i + 1)) (Err i))
+    go false a rest = stuck 0 (ap Err (omega arith)) (record { inside = omega arith; dead = λ h. a; fronts = λ m h. first m h; refused = refused_dead (next_mode_of q (class_of b)) t a })
       where
         first : (m : ℕ) → m ≤ 0 → alive (mode_after q (take m (b ∷ t))) ≡ true
         first zero h = e
@@ -95,7 +94,7 @@ seen (b ∷ t) q i e = go (alive (next_mode_of q (class_of b))) refl (seen t (ne
       where
         onward : Seen (next_mode_of q (class_of b)) t (i + 1) (look_from (next_mode_of q (class_of b)) t (i + 1)) → Seen q (b ∷ t) i (look_from (next_mode_of q (class_of b)) t (i + 1))
         onward (whole f g) = whole f g
-        onward (stuck n f g) = stuck (suc n) (f ∙ ap At (omega arith)) (record {
+        onward (stuck n f g) = stuck (suc n) (f ∙ ap Err (omega arith)) (record {
           inside = omega (arith, g.inside);
           dead = λ h. g.dead (omega (arith, h));
           fronts = λ m h. later m h;
@@ -106,29 +105,21 @@ seen (b ∷ t) q i e = go (alive (next_mode_of q (class_of b))) refl (seen t (ne
             later zero h = e
             later (suc m) h = g.fronts m (omega (arith, h))
 
-at_inj : (n m : ℕ) → At n ≡ At m → n ≡ m
-at_inj n m e = ap placed e
-  where
-    placed : Found → ℕ
-    placed Whole = n
-    placed (At k) = k
+at_inj : (n m : ℕ) → ◌≡◌ {A = Result (Unit {0}) ℕ} (Err n) (Err m) → n ≡ m
+at_inj n m e = cc
 
-whole_not_at : (n : ℕ) → Whole ≡ At n → ⊥
-whole_not_at n e = subst code e tt
-  where
-    code : Found → Type 0
-    code Whole = Unit {0}
-    code (At k) = ⊥
+whole_not_at : (n : ℕ) → ◌≡◌ {A = Result (Unit {0}) ℕ} (Ok tt) (Err n) → ⊥
+whole_not_at n e = cc
 
-looked : (t : Bytes) → ((look t ≡ Whole) × WellFormed t) ⊎ ((p : ℕ) × (look t ≡ At p) × PlaceOf t p)
+looked : (t : Bytes) → ((look t ≡ Ok tt) × WellFormed t) ⊎ ((p : ℕ) × (look t ≡ Err p) × PlaceOf t p)
 unfolding look
 looked t = go (seen t Begin 0 refl)
   where
-    go : Seen Begin t 0 (look_from Begin t 0) → ((look t ≡ Whole) × WellFormed t) ⊎ ((p : ℕ) × (look t ≡ At p) × PlaceOf t p)
+    go : Seen Begin t 0 (look_from Begin t 0) → ((look t ≡ Ok tt) × WellFormed t) ⊎ ((p : ℕ) × (look t ≡ Err p) × PlaceOf t p)
     go (whole f g) = inl (f, accepted_well t g)
     go (stuck n f g) = inr (
       n,
-      f ∙ ap At (omega arith),
+      f ∙ ap Err (omega arith),
       record {
         malformed = λ w. false≢true (sym g.refused ∙ well_accepted t w);
         inside = g.inside;
@@ -157,5 +148,5 @@ whole_meant t = (
 pub place_meant : PlaceMeant
 place_meant t p = (
   λ e. ⊎_elim (λ w. absurd (whole_not_at p (sym w.0 ∙ e))) (λ w. subst (PlaceOf t) (at_inj w.0 p (sym w.1 ∙ e)) w.2) (looked t),
-  λ g. ⊎_elim (λ w. absurd (g.malformed w.1)) (λ w. w.1 ∙ ap At (same_place t w.0 p w.2 g)) (looked t),
+  λ g. ⊎_elim (λ w. absurd (g.malformed w.1)) (λ w. w.1 ∙ ap Err (same_place t w.0 p w.2 g)) (looked t),
 )

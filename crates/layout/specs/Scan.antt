@@ -1,11 +1,9 @@
 -- 11 and its place: an automaton over bytes, and what it has to do with the layout. Assumes nothing.
-use Rattle.std.specs.Prelude.{◌≡◌, Bool, true, false, cond, ◌&&◌, [], ◌∷◌, ◌++◌, ◌↔◌, ℕ, zero, suc, ◌+◌, ◌≤◌, ◌<◌, eqb, leb, ltb, length, take}
+use Rattle.std.specs.Prelude.{◌≡◌, Bool, true, false, cond, ◌&&◌, [], ◌∷◌, ◌++◌, ◌↔◌, ℕ, zero, suc, ◌+◌, ◌≤◌, ◌<◌, eqb, leb, ltb, length, take, Ok, Err, Result}
 use Rattle.layout.specs.declared.Mode.{Mode}
 use Rattle.layout.specs.declared.Mode.TheVariants.{Begin, Inside, Slashed, Field, Value, Digits, Bad}
 use Rattle.layout.specs.declared.Class.{Class}
 use Rattle.layout.specs.declared.Class.TheVariants.{Tab as tab, Feed as feed, Colon as colon, Slash as slash, Minus as minus, Point as point, Digit as digit, Other as other}
-use Rattle.layout.specs.declared.Found.{Found}
-use Rattle.layout.specs.declared.Found.TheVariants.{Whole, At}
 use Rattle.layout.specs.Layout.{Bytes, WellFormed}
 
 -- what a byte is to the layout
@@ -101,11 +99,11 @@ alive (Digits d p) = true
 alive Bad = false
 
 -- byte by byte from place i on: the first byte that nothing completes, or the place of the end where the text may not end there
-unfoldable pub look_from : Mode → Bytes → ℕ → Found
-look_from q [] i = cond (accepting q) Whole (At i)
-look_from q (b ∷ t) i = cond (alive (next_mode_of q (class_of b))) (look_from (next_mode_of q (class_of b)) t (i + 1)) (At i)
+unfoldable pub look_from : Mode → Bytes → ℕ → Result (Unit {0}) ℕ
+look_from q [] i = cond (accepting q) (Ok tt) (Err i)
+look_from q (b ∷ t) i = cond (alive (next_mode_of q (class_of b))) (look_from (next_mode_of q (class_of b)) t (i + 1)) (Err i)
 
-unfoldable pub look : Bytes → Found
+unfoldable pub look : Bytes → Result (Unit {0}) ℕ
 look t = look_from Begin t 0
 
 -- some rest makes a well-formed text of it
@@ -120,7 +118,7 @@ pub record PlaceOf (t : Bytes) (p : ℕ) : Type 0 where
   pub fronts : (n : ℕ) → n ≤ p → Completable (take n t)
 
 abbrev pub WholeMeant : Type 0
-WholeMeant = (t : Bytes) → (look t ≡ Whole) ↔ WellFormed t
+WholeMeant = (t : Bytes) → (look t ≡ Ok tt) ↔ WellFormed t
 
 abbrev pub PlaceMeant : Type 0
-PlaceMeant = (t : Bytes) (p : ℕ) → (look t ≡ At p) ↔ PlaceOf t p
+PlaceMeant = (t : Bytes) (p : ℕ) → (look t ≡ Err p) ↔ PlaceOf t p

@@ -2,7 +2,7 @@
 #![tactic(auto)]
 
 ghost use Rattle.std.specs.Prelude.{◌≡◌};
-ghost use Rattle.training.specs.Epochs.{Result, trained};
+ghost use Rattle.training.specs.Epochs.{TrainingResult, trained};
 ghost use Rattle.prediction.specs.Tables.{training_model_at, training_model_was, training_data_at, training_data_was};
 ghost use Rattle.parameters.specs.Trainers.{rule_of};
 ghost use Rattle.begin_and_end.specs.Ending.{Swept};
@@ -10,7 +10,8 @@ ghost use Rattle.learning.specs.Trainable.{Trainable};
 
 use parameters::Trainer;
 use prediction::Sizes;
-use training::Training;
+use refusals::Refusal;
+use training::Trained;
 
 // Training, from the tables as they are lent to the result.
 pub fn train(
@@ -37,13 +38,13 @@ pub fn train(
     beside: &mut [f64],
     truly: &mut [f64],
     predicted: &mut [f64],
-) -> Training
+) -> Result<Trained, Refusal>
     requires { let m = training_model_at sizes kinds destinations sources starts entries label_starts label_entries in
         let d = training_data_at sizes lines begins ids values references shares in
         Trainable sizes m d allowed order.old weights.old beside.old truly.old predicted.old }
     ensures made_after { let m = training_model_was sizes kinds destinations sources starts entries label_starts label_entries in
         let d = training_data_was sizes lines begins ids values references shares in
-        let made : Result = record { answer = result; weights = weights.new } in
+        let made : TrainingResult = record { answer = result; weights = weights.new } in
         made ≡ trained (rule_of trainer) (record { epochs = allowed; epsilon = epsilon; seed = seed }) m d }
     ensures swept { Swept sizes.features sizes.instances order.new beside.new truly.new predicted.new }
 {

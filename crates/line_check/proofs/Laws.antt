@@ -1,4 +1,5 @@
 -- What the sizes give a call on a line that accepts them, and the parts that a call is checked in. Assumes nothing.
+use Rattle.std.specs.Prelude.{Ok}
 use mathlib.Core.Path.{◌≡◌, refl, sym, ◌∙◌, ap}
 use mathlib.Core.Bool.{Bool, ◌||◌}
 use mathlib.Core.List.{List, [], ◌∷◌, ◌++◌}
@@ -6,18 +7,15 @@ use Prim.Native.Nat.{ℕ, ◌≤◌}
 use native.Mathlib.Omega.{arith}
 use lib.ListN.{length}
 use lib.Ieee.{Float}
-use Rattle.refusals.specs.declared.Refusal.{Refusal}
-use Rattle.refusals.specs.declared.Checked.{Checked}
-use Rattle.refusals.specs.declared.Checked.TheVariants.{Accepted, Refused}
-use Rattle.refusals.specs.Refusals.{or_next_of, sooner, first_from, refuse}
+use Rattle.refusals.specs.Refusals.{Checked, or_next_of, sooner, first_from, refuse}
 use Rattle.refusals.specs.Tables.{short}
-use Rattle.refusals.specs.Bounds.{the_attributes, most, attribute_table, reference_table}
+use Rattle.refusals.specs.Bounds.{the_attributes, most, reference_table}
 use Rattle.score_tables.specs.Rows.{bounds_checked}
 use Rattle.refusal_rows.specs.Limits.{Limit, count, room, any_broken, two, AllWithin, Fitting}
-use Rattle.refusal_rows.specs.Tests.{starts_rise, ids_below, checks}
+use Rattle.refusal_rows.specs.Tests.{ids_below, checks}
 use Rattle.refusal_rows.specs.Parts.{part_checked}
 use Rattle.refusal_rows.proofs.Means.{broken_parts, within_parts}
-use Rattle.refusal_rows.proofs.Parts.{ordered, joined, same_limits, as_rows, part_stopped, part_within, part_answered}
+use Rattle.refusal_rows.proofs.Parts.{ordered, joined, same_limits, as_rows, part_within}
 use Rattle.lines.specs.Tables.{Model, Words}
 use Rattle.feature_gen.specs.Rows.{model_counts, model_rooms, weighted_rooms, id_tests, weight_tests}
 use Rattle.feature_gen.specs.Parts.{table_limits, table_tests, weighted_limits, weighted_tests, tables_checked, weighted_checked}
@@ -37,20 +35,11 @@ line_sized_lem words line few w = record {
 -- ---- a line
 
 module _ (words : ℕ) (line : Words) where
-  pub line_stopped : {sizes : Checked} (why : Refusal) → sizes ≡ line_sized words line → sizes ≡ Refused why → Refused why ≡ line_checked words line
-  unfolding line_sized line_checked
-  line_stopped why e h = part_stopped (line_limits words line) (line_tests words line) why e h
-
-  pub line_room : {sizes : Checked} → sizes ≡ line_sized words line → sizes ≡ Accepted → LineSized words line
+  pub line_room : {sizes : Checked} → sizes ≡ line_sized words line → sizes ≡ Ok tt → LineSized words line
   unfolding line_sized
   line_room e h =
       let w = part_within (line_limits words line) (line_tests words line) e h in
       line_sized_lem words line w.0 w.1
-
-  pub line_answered : {sizes three r : Checked} → sizes ≡ line_sized words line → three ≡ first_from sizes (checks (starts_rise attribute_table line.starts words line.size ∷ [])) →
-      r ≡ first_from three (checks (value_tests line)) → r ≡ line_checked words line
-  unfolding line_sized line_checked
-  line_answered a b c = part_answered (line_limits words line) (line_tests words line) a (rw (c, b))
 
 -- ---- a label for each word
 
@@ -58,16 +47,8 @@ module _ (labels words : ℕ) (path : List ℕ) where
   abbrev path_room : List Limit
   path_room = room (length path) words ∷ []
 
-  pub labels_stopped : {sizes : Checked} (why : Refusal) → sizes ≡ refuse 2 0 (short (length path) words) → sizes ≡ Refused why → Refused why ≡ labels_checked labels words path
-  unfolding labels_checked
-  labels_stopped why e h = part_stopped path_room (ids_below reference_table path words labels ∷ []) why e h
-
-  pub labels_room : {sizes : Checked} → sizes ≡ refuse 2 0 (short (length path) words) → sizes ≡ Accepted → words ≤ length path
+  pub labels_room : {sizes : Checked} → sizes ≡ refuse 2 0 (short (length path) words) → sizes ≡ Ok tt → words ≤ length path
   labels_room e h = (part_within path_room (ids_below reference_table path words labels ∷ []) e h).0
-
-  pub labels_answered : {sizes r : Checked} → sizes ≡ refuse 2 0 (short (length path) words) → r ≡ first_from sizes (checks (ids_below reference_table path words labels ∷ [])) → r ≡ labels_checked labels words path
-  unfolding labels_checked
-  labels_answered e f = part_answered path_room (ids_below reference_table path words labels ∷ []) e f
 
 -- ---- a line under a model with weights, and buffers that a call tests behind them
 
@@ -118,8 +99,8 @@ module _ (s : Scoring) where
 
   pub scoring_answered : {bounds model own both lent rest r : Checked} → bounds ≡ bounds_checked s.model.labels s.words →
       model ≡ weighted_checked s.model s.weights → own ≡ line_checked s.words s.line → both ≡ sooner model own →
-      lent ≡ or_next_of Accepted (refuse 2 0 (any_broken scores)) → rest ≡ sooner both lent → r ≡ or_next_of bounds rest → r ≡ scoring_checked s
-  unfolding part_checked scoring_checked
+      lent ≡ refuse 2 0 (any_broken scores) → rest ≡ sooner both lent → r ≡ or_next_of bounds rest → r ≡ scoring_checked s
+  unfolding part_checked scoring_checked or_next_of
   scoring_answered a b c d e f g = weighted_line s.model s.weights s.words s.line scores a b c d e f g
 
   pub scoring_within : Fitting (scoring_counts s) (scoring_rooms s) → ScoringFits s
@@ -153,8 +134,8 @@ module _ (c : Counting) where
   pub counting_answered : {bounds tables own both path labelled lent rest r : Checked} → bounds ≡ bounds_checked c.model.labels c.words →
       tables ≡ tables_checked c.model → own ≡ line_checked c.words c.line → both ≡ sooner tables own →
       path ≡ labels_checked c.model.labels c.words c.path → labelled ≡ sooner both path →
-      lent ≡ or_next_of Accepted (refuse 2 0 (short c.features c.model.features.count)) → rest ≡ sooner labelled lent → r ≡ or_next_of bounds rest → r ≡ counting_checked c
-  unfolding tables_checked line_checked labels_checked part_checked counting_checked
+      lent ≡ refuse 2 0 (short c.features c.model.features.count) → rest ≡ sooner labelled lent → r ≡ or_next_of bounds rest → r ≡ counting_checked c
+  unfolding tables_checked line_checked labels_checked part_checked counting_checked or_next_of
   counting_answered a b d e f g h i j =
       let own = line_tests c.words c.line in
       let its = room (length c.path) c.words ∷ [] in

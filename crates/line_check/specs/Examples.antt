@@ -1,7 +1,6 @@
 -- Decided points of a call on a single line, computed over a small model: what is accepted, and which number comes first. Assumes nothing.
-use Rattle.std.specs.Prelude.{◌≡◌, refl, true, List, [], ◌∷◌, ◌++◌, ℕ, Float}
+use Rattle.std.specs.Prelude.{◌≡◌, refl, true, List, [], ◌∷◌, ◌++◌, ℕ, Float, Ok}
 use Rattle.std.specs.Float.{nan}
-use Rattle.refusals.specs.declared.Checked.TheVariants.{Accepted}
 use Rattle.refusals.specs.Refusals.{refused_at, refuse, or_next_of, lowest}
 use Rattle.refusal_rows.specs.Limits.{in_order_of}
 use Rattle.refusal_rows.specs.Tests.{in_table_order}
@@ -30,12 +29,12 @@ scored entries words id value states = record {
   states = states;
 }
 
-accepted : scoring_checked (scored (0 ∷ []) 1 0 nought 2) ≡ Accepted
+accepted : scoring_checked (scored (0 ∷ []) 1 0 nought 2) ≡ Ok tt
 unfolding scoring_checked lowest or_next_of refuse
 accepted = refl
 
 -- "An attribute id without a list is ignored, not refused"
-no_list : scoring_checked (scored (0 ∷ []) 1 9 nought 2) ≡ Accepted
+no_list : scoring_checked (scored (0 ∷ []) 1 9 nought 2) ≡ Ok tt
 unfolding scoring_checked lowest or_next_of refuse
 no_list = refl
 
@@ -68,7 +67,7 @@ counted label value = record {
   features = 2;
 }
 
-labelled : counting_checked (counted 1 nought) ≡ Accepted
+labelled : counting_checked (counted 1 nought) ≡ Ok tt
 unfolding counting_checked lowest or_next_of refuse
 labelled = refl
 

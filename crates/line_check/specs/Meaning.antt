@@ -1,9 +1,7 @@
 -- What a call on a single line refuses, in plain terms: each number exactly when document 01 gives it, and with which place. The proofs are in proofs/Meant.
-use Rattle.std.specs.Prelude.{◌≡◌, List, [], ◌∷◌, ◌++◌, ◌↔◌, ℕ}
+use Rattle.std.specs.Prelude.{◌≡◌, List, [], ◌∷◌, ◌++◌, ◌↔◌, ℕ, Ok, Err}
 use Rattle.refusals.specs.declared.Refusal.{Refusal}
-use Rattle.refusals.specs.declared.Checked.{Checked}
-use Rattle.refusals.specs.declared.Checked.TheVariants.{Accepted, Refused}
-use Rattle.refusals.specs.Refusals.{refused_at}
+use Rattle.refusals.specs.Refusals.{Checked, refused_at}
 use Rattle.score_tables.specs.Sound.{LabelsIn, WordsIn}
 use Rattle.refusal_rows.specs.Limits.{Limit, Fitting}
 use Rattle.refusal_rows.specs.Tests.{Test, AllGood, FirstBadOf}
@@ -20,8 +18,8 @@ pub record Meaning (check : Checked) (labels words : ℕ) (counts rooms : List L
   pub three : (place : ℕ) → check ≡ refused_at 3 place ↔ (LabelsIn labels × (WordsIn words × Fitting counts rooms)) × FirstBadOf starts place
   pub five : (place : ℕ) → check ≡ refused_at 5 place ↔ (LabelsIn labels × (WordsIn words × (Fitting counts rooms × AllGood starts))) × FirstBadOf ids place
   pub six : (place : ℕ) → check ≡ refused_at 6 place ↔ (LabelsIn labels × (WordsIn words × (Fitting counts rooms × (AllGood starts × AllGood ids)))) × FirstBadOf numbers place
-  pub only : (why : Refusal) → check ≡ Refused why → OneOf (1 ∷ 4 ∷ 2 ∷ 3 ∷ 5 ∷ 6 ∷ []) why.number
-  pub accepted : check ≡ Accepted ↔ LabelsIn labels × (WordsIn words × (Fitting counts rooms × (AllGood starts × (AllGood ids × AllGood numbers))))
+  pub only : (why : Refusal) → check ≡ Err why → OneOf (1 ∷ 4 ∷ 2 ∷ 3 ∷ 5 ∷ 6 ∷ []) why.number
+  pub accepted : check ≡ Ok tt ↔ LabelsIn labels × (WordsIn words × (Fitting counts rooms × (AllGood starts × (AllGood ids × AllGood numbers))))
 
 abbrev pub ScoringCheckMeans : Type 0
 ScoringCheckMeans = (s : Scoring) →
@@ -39,7 +37,7 @@ CountingCheckMeans = (c : Counting) →
 
 -- what is accepted may be relied on
 abbrev pub ScoringSound : Type 0
-ScoringSound = (s : Scoring) → scoring_checked s ≡ Accepted → SoundScoring s
+ScoringSound = (s : Scoring) → scoring_checked s ≡ Ok tt → SoundScoring s
 
 abbrev pub CountingSound : Type 0
-CountingSound = (c : Counting) → counting_checked c ≡ Accepted → SoundCounting c
+CountingSound = (c : Counting) → counting_checked c ≡ Ok tt → SoundCounting c

@@ -1,6 +1,6 @@
 -- The rows of a call on a single line in the parts that are checked apart: what the narrow checks promise. Assumes nothing.
 use Rattle.std.specs.Prelude.{List, [], ◌∷◌, ℕ, length}
-use Rattle.refusals.specs.declared.Checked.{Checked}
+use Rattle.refusals.specs.Refusals.{Checked}
 use Rattle.refusals.specs.Bounds.{the_attributes, attribute_table, reference_table}
 use Rattle.refusal_rows.specs.Limits.{Limit, count, room, two}
 use Rattle.refusal_rows.specs.Tests.{Test, starts_rise, ids_below}

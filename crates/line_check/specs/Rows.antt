@@ -1,7 +1,6 @@
 -- Document 01, "Numbered refusals", the rows of a call on a single line, and their order: 1, 4, 2, 3, 5, 6. Assumes nothing.
 use Rattle.std.specs.Prelude.{List, [], ◌∷◌, ◌++◌, ℕ, ◌+◌, ◌*◌, length, Float}
-use Rattle.refusals.specs.declared.Checked.{Checked}
-use Rattle.refusals.specs.Refusals.{first}
+use Rattle.refusals.specs.Refusals.{Checked, first}
 use Rattle.refusals.specs.Bounds.{the_attributes, attribute_table, reference_table}
 use Rattle.score_tables.specs.Rows.{one, four}
 use Rattle.refusal_rows.specs.Limits.{Limit, count, room, two}

@@ -10,50 +10,52 @@ ghost use Rattle.line_check.specs.Rows.{score_rooms, scoring_checked, counting_c
 ghost use Rattle.line_check.specs.Parts.{line_sized, line_checked, labels_checked};
 
 use feature_gen::Counts;
-use refusals::Checked;
+use refusals::Refusal;
 
 pub const MOST_ATTRIBUTES: u32 = 4194304;
 
 // 2 of a line: what can be said of it before any table is read.
-fn check_sizes(words: u32, attributes: u32, begins: &[u32], ids: &[u32], values: &[f64]) -> Checked
+#[tactic(auto, unfolding(crate::specs::Parts::line_sized))]
+fn check_sizes(
+    words: u32,
+    attributes: u32,
+    begins: &[u32],
+    ids: &[u32],
+    values: &[f64],
+) -> Result<(), Refusal>
     ensures { result ≡ line_sized words (line_was attributes begins ids values) }
 {
     let broken = (MOST_ATTRIBUTES < attributes)
         | (begins.len() < words as usize + 1)
         | (ids.len() < attributes as usize)
         | (values.len() < attributes as usize);
-    refusals::refuse_if(Checked::Accepted, 2, 0, broken)
+    refusals::refuse_if(2, 0, broken)
 }
 
 // 2, 3 and 6 of so many words in flat tables: those of a line, or of all lines of a trainer.
+#[tactic(auto, using(refusals::proofs::Laws::handed), unfolding(refusals::specs::Refusals::or_next_of, refusal_rows::specs::Parts::part_checked, crate::specs::Parts::line_sized, crate::specs::Parts::line_checked))]
 pub fn check_line(
     words: u32,
     attributes: u32,
     begins: &[u32],
     ids: &[u32],
     values: &[f64],
-) -> Checked
+) -> Result<(), Refusal>
     ensures { result ≡ line_checked words (line_was attributes begins ids values) }
 {
-    let sizes = check_sizes(words, attributes, begins, ids, values);
-    if let Checked::Refused(why) = sizes {
-        return Checked::Refused(why);
-    }
-    let three = table_checks::check_starts(sizes, begins, words as usize, attributes);
-    table_checks::check_numbers(three, values, attributes as usize)
+    check_sizes(words, attributes, begins, ids, values)?;
+    table_checks::check_starts(begins, words as usize, attributes)?;
+    table_checks::check_numbers(values, attributes as usize)
 }
 
 // 2 and 5 of a label for each of so many words.
-pub fn check_labels(labels: u32, words: u32, path: &[u32]) -> Checked
+#[tactic(auto, using(refusals::proofs::Laws::handed), unfolding(refusals::specs::Refusals::or_next_of, refusal_rows::specs::Parts::part_checked, crate::specs::Parts::labels_checked))]
+pub fn check_labels(labels: u32, words: u32, path: &[u32]) -> Result<(), Refusal>
     ensures { result ≡ labels_checked labels words path.now }
 {
     let n = words as usize;
-    let short = refusals::is_short(path.len(), n);
-    let sizes = refusals::refuse_if(Checked::Accepted, 2, 0, short);
-    if let Checked::Refused(why) = sizes {
-        return Checked::Refused(why);
-    }
-    table_checks::check_ids(sizes, path, n, labels)
+    refusals::refuse_if(2, 0, refusals::is_short(path.len(), n))?;
+    table_checks::check_ids(path, n, labels)
 }
 
 // 2: whether a buffer for the scores is too short.
@@ -83,12 +85,11 @@ pub fn check_scoring(
     values: &[f64],
     transitions: usize,
     states: usize,
-) -> Checked
+) -> Result<(), Refusal>
     ensures { let m = model_was labels counts kinds destinations sources attribute_starts attribute_entries label_starts label_entries in
         let l = line_was attributes begins ids values in
         result ≡ scoring_checked (record { model = m; weights = weights.now; words = words; line = l; transitions = transitions; states = states }) }
 {
-    let bounds = score_tables::check_bounds(labels, words);
     let model = feature_gen::check_weighted(
         labels,
         counts,
@@ -103,10 +104,9 @@ pub fn check_scoring(
     );
     let line = check_line(words, attributes, begins, ids, values);
     let tables = refusals::sooner(model, line);
-    let short = lacks_scores(labels, words, transitions, states);
-    let room = refusals::refuse_if(Checked::Accepted, 2, 0, short);
+    let room = refusals::refuse_if(2, 0, lacks_scores(labels, words, transitions, states));
     let scoring = refusals::sooner(tables, room);
-    refusals::or_next(bounds, scoring)
+    score_tables::check_bounds(labels, words).and(scoring)
 }
 
 // Whether the features of a line can be counted under labels into a buffer of this length.
@@ -127,12 +127,11 @@ pub fn check_counting(
     values: &[f64],
     path: &[u32],
     features: usize,
-) -> Checked
+) -> Result<(), Refusal>
     ensures { let m = model_was labels counts kinds destinations sources attribute_starts attribute_entries label_starts label_entries in
         let l = line_was attributes begins ids values in
         result ≡ counting_checked (record { model = m; words = words; line = l; path = path.now; features = features }) }
 {
-    let bounds = score_tables::check_bounds(labels, words);
     let model = feature_gen::check_tables(
         labels,
         counts,
@@ -148,7 +147,7 @@ pub fn check_counting(
     let tables = refusals::sooner(model, line);
     let labelled = refusals::sooner(tables, check_labels(labels, words, path));
     let short = refusals::is_short(features, counts.features as usize);
-    let room = refusals::refuse_if(Checked::Accepted, 2, 0, short);
+    let room = refusals::refuse_if(2, 0, short);
     let counting = refusals::sooner(labelled, room);
-    refusals::or_next(bounds, counting)
+    score_tables::check_bounds(labels, words).and(counting)
 }

@@ -70,10 +70,7 @@ unfolding state_count
 entry_noted m label v e who what n counts h k p q s =
     rw (p, q) (noted_step m.features.kinds who what n (get_or m.attribute_lists_of.entries e 0) v h k (eqb (get_or m.features.destinations (get_or m.attribute_lists_of.entries e 0) 0) label) _ counts s)
 
--- what the loops over entries, attributes and words keep of notes and counts
-pub record Going (features : ℕ) (who₀ : List ℕ) (what₀ counts₀ : List Float) (who : List ℕ) (what counts : List Float) (noted : ℕ) : Type 0 where
+-- what the loops over entries, attributes and words keep of the notes
+pub record Going (features : ℕ) (who : List ℕ) (what : List Float) (noted : ℕ) : Type 0 where
   pub notes : Notes features who what noted
   pub free : noted < length who
-  pub who_long : length who ≡ length who₀
-  pub what_long : length what ≡ length what₀
-  pub counts_long : length counts ≡ length counts₀

@@ -60,7 +60,7 @@ fn add_note(kinds: &[u8], who: &[usize], what: &[f64], j: usize, counts: &mut [f
 {
     let i = who[j];
     if kinds[i] == 0 {
-        counts[i] = counts[i] + what[j];
+        counts[i] += what[j];
     }
 }
 
@@ -78,10 +78,8 @@ pub fn add_notes(
     requires features_in_bounds_2 { features ≤ length counts.old }
     ensures { counts.new ≡ notes_added kinds.now who.now what.now noted counts.old }
 {
-    let mut j = 0;
-    while j < noted {
+    for j in 0..noted {
         add_note(kinds, who, what, j, counts);
-        j += 1;
     }
 }
 
@@ -143,10 +141,8 @@ pub fn count_attribute(
         notes_added kinds.now who.new what.new result counts.new ≡ through_span (state_count m label attribute.value) span (notes_added kinds.now who.old what.old noted counts.old) }
 {
     let value = attribute.value;
-    let last = span.last;
     let mut n = noted;
-    let mut e = span.first;
-    while e < last {
+    for e in span.first..span.last {
         n = count_entry(
             features,
             kinds,
@@ -160,7 +156,6 @@ pub fn count_attribute(
             what,
             counts,
         );
-        e += 1;
     }
     n
 }
@@ -198,10 +193,9 @@ fn count_word(
 {
     let mut n = noted;
     if from < to {
-        let mut a = from;
-        let mut attribute = lines::attribute_before(ids, values, to, a);
+        let mut attribute = lines::attribute_before(ids, values, to, from);
         let mut span = lines::attribute_span(lists, starts, attribute);
-        while a < to {
+        for a in from..to {
             let next = lines::attribute_before(ids, values, to, a + 1);
             let ahead = lines::attribute_span(lists, starts, next);
             n = count_attribute(
@@ -219,7 +213,6 @@ fn count_word(
             );
             attribute = next;
             span = ahead;
-            a += 1;
         }
     }
     n
@@ -253,8 +246,7 @@ pub fn count_words(
     let mut who = [0usize; NOTES];
     let mut what = [0.0; NOTES];
     let mut noted = 0;
-    let mut word = 0;
-    while word < words {
+    for word in 0..words {
         let from = lines::at(begins, first + word);
         let to = lines::at(begins, first + word + 1);
         let label = labels[word];
@@ -275,7 +267,6 @@ pub fn count_words(
             &mut what,
             counts,
         );
-        word += 1;
     }
     add_notes(features, kinds, &who, &what, noted, counts);
 }
@@ -306,7 +297,7 @@ fn transition_count(
         let source = sources[i];
         if source == previous {
             if kinds[i] == 1 {
-                counts[i] = counts[i] + 1.0;
+                counts[i] += 1.0;
             }
         }
     }
@@ -331,9 +322,7 @@ fn count_label(
     ensures { let m = transition_counts_was features kinds destinations sources 0 [] entries in
         counts.new ≡ through_span (transition_count_of m previous label) span counts.old }
 {
-    let last = span.last;
-    let mut e = span.first;
-    while e < last {
+    for e in span.first..span.last {
         transition_count(
             features,
             kinds,
@@ -345,7 +334,6 @@ fn count_label(
             e,
             counts,
         );
-        e += 1;
     }
 }
 
@@ -370,8 +358,7 @@ pub fn count_transitions(
     ensures { let m = transition_counts_was features kinds destinations sources lists starts.now entries in
         counts.new ≡ through (counted_transition m labels.now) 1 (words - 1) counts.old }
 {
-    let mut word = 1;
-    while word < words {
+    for word in 1..words {
         let previous = labels[word - 1];
         let label = labels[word];
         let span = lines::list_span(lists, starts, previous as usize);
@@ -386,6 +373,5 @@ pub fn count_transitions(
             span,
             counts,
         );
-        word += 1;
     }
 }

@@ -3,7 +3,7 @@
 // are read. The loops over these are in compute_scores and extract_features.
 #![tactic(auto)]
 
-ghost use Rattle.std.specs.Prelude.{◌≡◌, ◌≤◌, ◌<◌, min, length, get_or};
+ghost use Rattle.std.specs.Prelude.{◌≡◌, ◌≤◌, ◌<◌, length, get_or};
 ghost use Rattle.lines.specs.Spans.{attribute_before_of, span_of};
 
 // "An attribute is an id with a value."
@@ -45,18 +45,11 @@ pub fn attribute_before(ids: &[u32], values: &[f64], end: usize, a: usize) -> At
     requires end_in_bounds_2 { end ≤ length values.now }
     ensures { result ≡ attribute_before_of ids.now values.now end a }
 {
-    let i = smaller(a, end - 1);
+    let i = a.min(end - 1);
     Attribute {
         id: ids[i],
         value: values[i],
     }
-}
-
-// The smaller of two numbers.
-pub fn smaller(a: usize, b: usize) -> usize
-    ensures { result ≡ min a b }
-{
-    if a < b { a } else { b }
 }
 
 // The places of a list, of so many; none where there is no such list.

@@ -1,4 +1,5 @@
 -- The laws of a turn. Assumes nothing.
+use Rattle.std.specs.Prelude.{Ok, Err}
 use mathlib.Core.Path.{◌≡◌, refl, sym, ap, ◌∙◌}
 use mathlib.Core.Bool.{Bool, true, false, true≢false, false≢true, cond}
 use mathlib.Core.List.{List}
@@ -7,7 +8,6 @@ use native.Mathlib.Omega.{arith}
 use lib.ListN.{length, get_or, drop}
 use Rattle.layout.specs.declared.Mode.{Mode}
 use Rattle.layout.specs.declared.Mode.TheVariants.{Begin, Bad}
-use Rattle.layout.specs.declared.Found.TheVariants.{Whole, At}
 use Rattle.layout.specs.Scan.{next_mode_of, class_of, alive, accepting, look_from, look}
 use Rattle.layout.proofs.Laws.{look_on, look_dead, look_end}
 use Rattle.look.specs.declared.Stop.{Stop}
@@ -91,14 +91,14 @@ begins text = record { inside = omega arith; living = refl; same = refl }
 pub again : (text : List ℕ) (at : ℕ) (q : Mode) (r : Reached) → Looking text at q → Turned text q at r → alive r.mode ≡ true → Looking text r.at r.mode
 again text at q r l t a = record { inside = t.inside; living = a; same = sym (t.same a) ∙ l.same }
 
-pub found : (text : List ℕ) (at : ℕ) (q : Mode) (r : Reached) → Looking text at q → Turned text q at r → alive r.mode ≡ false → At r.at ≡ look text
+pub found : (text : List ℕ) (at : ℕ) (q : Mode) (r : Reached) → Looking text at q → Turned text q at r → alive r.mode ≡ false → Err r.at ≡ look text
 found text at q r l t a = sym (t.stuck a) ∙ l.same
 
-pub ends : (text : List ℕ) (at : ℕ) (q : Mode) → Looking text at q → length text ≤ at → cond (accepting q) Whole (At at) ≡ look text
+pub ends : (text : List ℕ) (at : ℕ) (q : Mode) → Looking text at q → length text ≤ at → cond (accepting q) (Ok tt) (Err at) ≡ look text
 ends text at q l h = sym (look_end q text at h) ∙ l.same
 
-pub ends_well : (text : List ℕ) (at : ℕ) (q : Mode) → Looking text at q → length text ≤ at → accepting q ≡ true → Whole ≡ look text
-ends_well text at q l h e = ap (λ (x : Bool). cond x Whole (At at)) (sym e) ∙ ends text at q l h
+pub ends_well : (text : List ℕ) (at : ℕ) (q : Mode) → Looking text at q → length text ≤ at → accepting q ≡ true → (Ok tt) ≡ look text
+ends_well text at q l h e = ap (λ (x : Bool). cond x (Ok tt) (Err at)) (sym e) ∙ ends text at q l h
 
-pub ends_badly : (text : List ℕ) (at : ℕ) (q : Mode) → Looking text at q → length text ≤ at → accepting q ≡ false → At at ≡ look text
-ends_badly text at q l h e = ap (λ (x : Bool). cond x Whole (At at)) (sym e) ∙ ends text at q l h
+pub ends_badly : (text : List ℕ) (at : ℕ) (q : Mode) → Looking text at q → length text ≤ at → accepting q ≡ false → Err at ≡ look text
+ends_badly text at q l h e = ap (λ (x : Bool). cond x (Ok tt) (Err at)) (sym e) ∙ ends text at q l h

@@ -1,13 +1,15 @@
 -- The steps of a walk through a name. Assumes nothing.
 use mathlib.Core.Path.{◌≡◌, refl, ◌∙◌}
-use mathlib.Core.Bool.{Bool, true, false}
+use mathlib.Core.Bool.{Bool, true, false, ◌||◌}
 use mathlib.Core.List.{List}
+use Rattle.std.proofs.lemmas.Bool.Decides.{nat_tests}
 use Prim.Native.Nat.{ℕ, ◌+◌, ◌-◌, ◌≤◌, ◌<◌}
 use native.Mathlib.Omega.{arith}
 use native.Mathlib.Nat.{le_refl}
+use lib.Dec.{eqb}
 use lib.ListN.{length, get_or}
 use Rattle.layout.specs.Scan.{next_mode_of, class_of, alive}
-use Rattle.layout.proofs.Laws.{look_on}
+use Rattle.layout.proofs.Laws.{look_on, step_plain}
 use Rattle.look.specs.declared.Stop.{Stop}
 use Rattle.layout.specs.declared.Mode.TheVariants.{Inside}
 use Rattle.look.specs.Windows.{Window, name_mode, WalkedTo, Passed}
@@ -46,9 +48,6 @@ on text s s' at end r w n e g =
     living false k = refl
 
 -- a run of plain characters
-pub none_yet : (text : List ℕ) (at end : ℕ) → Window text at end → Passed text at end at
-none_yet text at end w = record { forward = le_refl at; inside = w.forward; same = λ k. refl }
-
 pub one_further : (text : List ℕ) (at end i : ℕ) → Window text at end → Passed text at end i → i < end
     → ((k : Bool) → Inside k ≡ next_mode_of (Inside k) (class_of (get_or text i 0))) → Passed text at end (i + 1)
 one_further text at end i w p h e =
@@ -59,3 +58,6 @@ one_further text at end i w p h e =
       inside = omega (arith, h);
       same = λ k. p.same k ∙ look_on (Inside k) (Inside k) text i (omega (arith, h, b)) (e k) refl;
     }
+
+pub plain_on : (k : Bool) (b : ℕ) → ((eqb b 92 || eqb b 9) || eqb b 10) || eqb b 58 ≡ false → Inside k ≡ next_mode_of (Inside k) (class_of b)
+plain_on k b e = step_plain k b (λ h. grind (arith, nat_tests)) (grind (arith, nat_tests))

@@ -7,7 +7,7 @@ ghost use Rattle.layout.specs.Scan.{look, alive};
 ghost use Rattle.look.specs.Windows.{Window, name_mode, Passed, WalkedTo};
 ghost use Rattle.look.specs.Turns.{Onward, Turned};
 
-use layout::{Found, Mode};
+use layout::Mode;
 
 // Where a walk stopped, and in which of its two states.
 #[derive(Clone, Copy)]
@@ -21,18 +21,13 @@ fn plain_run(text: &[u8], at: usize, end: usize) -> usize
     requires { Window text.now at end }
     ensures { Passed text.now at end result }
 {
-    let mut i = at;
-    while i < end {
+    for i in at..end {
         let b = text[i];
-        if b == 92 {
+        if (b == b'\\') | (b == b'\t') | (b == b'\n') | (b == b':') {
             return i;
         }
-        if (b == 9) | (b == 10) | (b == 58) {
-            return i;
-        }
-        i += 1;
     }
-    i
+    end
 }
 
 // From a place inside a name.
@@ -42,20 +37,14 @@ fn plain(text: &[u8], at: usize, end: usize) -> Stop
     ensures { WalkedTo text.now false at end result }
 {
     if at == end {
-        return Stop {
-            at: at,
-            slashed: false,
-        };
+        return Stop { at, slashed: false };
     }
     let b = text[at];
-    if b == 92 {
+    if b == b'\\' {
         return behind(text, at + 1, end);
     }
-    if (b == 9) | (b == 10) | (b == 58) {
-        return Stop {
-            at: at,
-            slashed: false,
-        };
+    if (b == b'\t') | (b == b'\n') | (b == b':') {
+        return Stop { at, slashed: false };
     }
     plain(text, at + 1, end)
 }
@@ -67,19 +56,13 @@ fn behind(text: &[u8], at: usize, end: usize) -> Stop
     ensures { WalkedTo text.now true at end result }
 {
     if at == end {
-        return Stop {
-            at: at,
-            slashed: true,
-        };
+        return Stop { at, slashed: true };
     }
     let b = text[at];
-    if (b == 58) | (b == 92) {
+    if (b == b':') | (b == b'\\') {
         return plain(text, at + 1, end);
     }
-    Stop {
-        at: at,
-        slashed: true,
-    }
+    Stop { at, slashed: true }
 }
 
 // How far a look has come.
@@ -104,12 +87,12 @@ fn in_mode(at: usize, slashed: bool, attribute: bool) -> Reached
 {
     if slashed {
         Reached {
-            at: at,
+            at,
             mode: Mode::Slashed(attribute),
         }
     } else {
         Reached {
-            at: at,
+            at,
             mode: Mode::Inside(attribute),
         }
     }
@@ -130,11 +113,7 @@ fn through_name(text: &[u8], at: usize, end: usize, mode: Mode) -> Reached
             let s = behind(text, at, end);
             in_mode(s.at, s.slashed, k)
         }
-        Mode::Begin => Reached { at: at, mode: mode },
-        Mode::Field => Reached { at: at, mode: mode },
-        Mode::Value => Reached { at: at, mode: mode },
-        Mode::Digits(_, _) => Reached { at: at, mode: mode },
-        Mode::Bad => Reached { at: at, mode: mode },
+        _ => Reached { at, mode },
     }
 }
 
@@ -164,22 +143,23 @@ fn turn(text: &[u8], at: usize, mode: Mode) -> Reached
 }
 
 // 11: well-formed, or the first byte after which no well-formed text is possible, or the length at the end.
-pub fn look_through(text: &[u8]) -> Found
+pub fn look_through(text: &[u8]) -> Result<(), usize>
     ensures { result ≡ look text.now }
 {
     let mut at = 0usize;
     let mut mode = Mode::Begin;
+    // From window to window: how far it goes is told by the turn.
     while at < text.len() {
         let w = turn(text, at, mode);
         at = w.at;
         mode = w.mode;
         if !byte_steps::is_alive(mode) {
-            return Found::At(at);
+            return Err(at);
         }
     }
     if byte_steps::may_end(mode) {
-        Found::Whole
+        Ok(())
     } else {
-        Found::At(at)
+        Err(at)
     }
 }

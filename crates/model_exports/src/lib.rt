@@ -25,7 +25,7 @@ pub extern "C" fn bodkinbloom_check_model(
     ensures { let model = model_was labels counts kinds destinations sources attribute_starts attribute_entries label_starts label_entries in
         Checks (record { model = model; weights = weights.now }) result }
 {
-    let answer = feature_gen::check_model(
+    Refused::from(feature_gen::check_model(
         labels,
         counts,
         kinds,
@@ -36,8 +36,7 @@ pub extern "C" fn bodkinbloom_check_model(
         attribute_entries,
         label_starts,
         label_entries,
-    );
-    answers::checks::numbers_of_check(answer)
+    ))
 }
 
 // Every feature gets a new weight, in the front of `weights`.
@@ -49,6 +48,5 @@ pub extern "C" fn bodkinbloom_set_weights(
 ) -> Refused
     ensures { Sets (record { features = features; new = new.now }) weights.old (record { answer = result; weights = weights.new }) }
 {
-    let answer = set_weights::set_weights(features, new, weights);
-    answers::checks::numbers_of_check(answer)
+    Refused::from(set_weights::set_weights(features, new, weights))
 }

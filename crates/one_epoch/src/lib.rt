@@ -53,8 +53,7 @@ pub fn epoch(
         updates: s.updates,
         loss: 0.0,
     };
-    let mut j = 0usize;
-    while j < n {
+    for j in 0..n {
         let i = lines::at(order, j);
         progress = visits::visit(
             trainer,
@@ -83,7 +82,6 @@ pub fn epoch(
         if updates::is_refused(v) {
             return progress;
         }
-        j += 1;
     }
     progress
 }

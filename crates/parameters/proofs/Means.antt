@@ -1,4 +1,5 @@
 -- Parameters are refused exactly when they are not fit, by the first that is not. Assumes nothing.
+use Rattle.std.specs.Prelude.{Ok}
 use mathlib.Core.Path.{◌≡◌, refl, sym}
 use mathlib.Core.Bool.{Bool, true, false, not, ◌||◌}
 use mathlib.Core.List.{List, [], ◌∷◌}
@@ -9,9 +10,7 @@ use borrow.Author.Tests.{ltb-false, le-ltb, not-false}
 use lib.Dec.{T}
 use lib.Ieee.{Float, lt}
 use lib.Ieee.Scale.{finite}
-use Rattle.refusals.specs.declared.Checked.{Checked}
-use Rattle.refusals.specs.declared.Checked.TheVariants.{Accepted}
-use Rattle.refusals.specs.Refusals.{refused_at, refuse}
+use Rattle.refusals.specs.Refusals.{Checked, refused_at, refuse}
 use Rattle.refusals.specs.Bounds.{the_epochs, most}
 use Rattle.refusals.specs.Meaning.{AllAccepted, FirstRefused}
 use Rattle.refusals.proofs.Laws.{passes, holds, never, neither, test_number, place_of_lem}
@@ -52,7 +51,7 @@ module _ (p : Parameter) where
   abbrev row : Checked
   row = refuse 7 (parameter_number p) (unfit p)
 
-  accepted_means : row ≡ Accepted ↔ Fit p
+  accepted_means : row ≡ Ok tt ↔ Fit p
   unfolding refuse
   accepted_means = (λ h. (fit_means p).0 (passes 7 (parameter_number p) (unfit p) h), λ f. rw ((fit_means p).1 f))
 

@@ -2,8 +2,7 @@
 use Rattle.std.specs.Prelude.{◌≡◌, Bool, true, false, not, ◌||◌, List, [], ◌∷◌, ◌⊎◌, ℕ, ◌≤◌, ltb, T, Float}
 use Rattle.std.specs.Float.Ieee.{lt}
 use Rattle.std.specs.Float.Ieee.Scale.{finite}
-use Rattle.refusals.specs.declared.Checked.{Checked}
-use Rattle.refusals.specs.Refusals.{refuse}
+use Rattle.refusals.specs.Refusals.{Checked, refuse}
 use Rattle.refusals.specs.Bounds.{the_epochs, bound, Inside, outside_its}
 use Rattle.binary64.specs.Numbers.{nought}
 use Rattle.parameters.specs.declared.Perceptron.{Perceptron}

@@ -2,11 +2,11 @@
 #![tactic(auto)]
 
 ghost use Rattle.std.specs.Prelude.{◌≡◌, [], ◌∷◌};
-ghost use Rattle.refusals.specs.Refusals.{first_from};
+ghost use Rattle.refusals.specs.Refusals.{first_from, first};
 ghost use Rattle.parameters.specs.Trainers.{on, rule_of, rule_for, settings_in, settings_for};
 ghost use Rattle.parameters.specs.Parameters.{negative, not_above_zero, epochs, epsilon, sevens, passives_own, arows_own, own_of};
 
-use refusals::Checked;
+use refusals::Refusal;
 
 pub const MOST_EPOCHS: u32 = 1000;
 
@@ -139,37 +139,42 @@ fn is_not_above_zero(x: f64) -> bool
 }
 
 // Epochs and epsilon, which every trainer has.
-fn check_shared(answer: Checked, rounds: u32, stop: f64) -> Checked
-    ensures { result ≡ first_from answer (sevens (epochs rounds ∷ epsilon stop ∷ [])) }
+#[tactic(auto, using(refusals::proofs::Laws::handed), unfolding(refusals::specs::Refusals::or_next_of))]
+fn check_shared(rounds: u32, stop: f64) -> Result<(), Refusal>
+    ensures { result ≡ first (sevens (epochs rounds ∷ epsilon stop ∷ [])) }
 {
-    let one = refusals::refuse_if(answer, 7, 1, refusals::is_outside(1, MOST_EPOCHS, rounds));
-    refusals::refuse_if(one, 7, 2, is_negative(stop))
+    refusals::refuse_if(7, 1, refusals::is_outside(1, MOST_EPOCHS, rounds))?;
+    refusals::refuse_if(7, 2, is_negative(stop))
 }
 
 // C is tested for every variant, as in the Rust's setter.
-fn check_passive(answer: Checked, parameters: Passive) -> Checked
-    ensures { result ≡ first_from answer (sevens (passives_own parameters)) }
+#[tactic(auto, using(refusals::proofs::Laws::handed), unfolding(refusals::specs::Refusals::or_next_of))]
+fn check_passive(parameters: Passive) -> Result<(), Refusal>
+    ensures { result ≡ first (sevens (passives_own parameters)) }
 {
-    let two = check_shared(answer, parameters.epochs, parameters.epsilon);
-    let three = refusals::refuse_if(two, 7, 3, is_not_above_zero(parameters.c));
-    refusals::refuse_if(three, 7, 5, LAST_VARIANT < parameters.variant)
+    check_shared(parameters.epochs, parameters.epsilon)?;
+    refusals::refuse_if(7, 3, is_not_above_zero(parameters.c))?;
+    refusals::refuse_if(7, 5, LAST_VARIANT < parameters.variant)
 }
 
-fn check_arow(answer: Checked, parameters: Arow) -> Checked
-    ensures { result ≡ first_from answer (sevens (arows_own parameters)) }
+#[tactic(auto, using(refusals::proofs::Laws::handed), unfolding(refusals::specs::Refusals::or_next_of))]
+fn check_arow(parameters: Arow) -> Result<(), Refusal>
+    ensures { result ≡ first (sevens (arows_own parameters)) }
 {
-    let two = check_shared(answer, parameters.epochs, parameters.epsilon);
-    let three = refusals::refuse_if(two, 7, 3, is_not_above_zero(parameters.variance));
-    refusals::refuse_if(three, 7, 4, is_not_above_zero(parameters.gamma))
+    check_shared(parameters.epochs, parameters.epsilon)?;
+    refusals::refuse_if(7, 3, is_not_above_zero(parameters.variance))?;
+    refusals::refuse_if(7, 4, is_not_above_zero(parameters.gamma))
 }
 
-// 7: each method's own.
-pub fn check_parameters(answer: Checked, method: Method) -> Checked
-    ensures { result ≡ first_from answer (sevens (own_of method)) }
+// 7 after the answer of an input's check: each method's own.
+#[tactic(auto, using(refusals::proofs::Laws::handed), unfolding(refusals::specs::Refusals::or_next_of))]
+pub fn check_parameters(input: Result<(), Refusal>, method: Method) -> Result<(), Refusal>
+    ensures { result ≡ first_from input (sevens (own_of method)) }
 {
+    input?;
     match method {
-        Method::AveragedPerceptron(p) => check_shared(answer, p.epochs, p.epsilon),
-        Method::PassiveAggressive(p) => check_passive(answer, p),
-        Method::Arow(p) => check_arow(answer, p),
+        Method::AveragedPerceptron(p) => check_shared(p.epochs, p.epsilon),
+        Method::PassiveAggressive(p) => check_passive(p),
+        Method::Arow(p) => check_arow(p),
     }
 }

@@ -63,11 +63,9 @@ fn add_up(sum: f64, truly: &[f64], predicted: &[f64], first: usize, last: usize)
     ensures { result ≡ through (squared truly.now predicted.now) first (last - first) sum }
 {
     let mut s = sum;
-    let mut i = first;
-    while i < last {
+    for i in first..last {
         let delta = truly[i] - predicted[i];
-        s = s + delta * delta;
-        i += 1;
+        s += delta * delta;
     }
     s
 }
@@ -77,12 +75,9 @@ fn differ(truly: &[f64], predicted: &[f64], first: usize) -> bool
     requires { Both (first + 4) (length truly.now) (length predicted.now) }
     ensures { result ≡ through (differing truly.now predicted.now) first 4 false }
 {
-    let last = first + 4;
     let mut any = false;
-    let mut i = first;
-    while i < last {
-        any = any | (truly[i] - predicted[i] != 0.0);
-        i += 1;
+    for i in first..first + 4 {
+        any |= truly[i] - predicted[i] != 0.0;
     }
     any
 }
@@ -116,11 +111,8 @@ fn settle(
     ensures { result ≡ fours_added truly.now predicted.now who.now noted sum }
 {
     let mut s = sum;
-    let mut j = 0usize;
-    while j < noted {
-        let first = who[j];
+    for &first in &who[..noted] {
         s = add_up(s, truly, predicted, first, first + 4);
-        j += 1;
     }
     s
 }
@@ -134,17 +126,16 @@ pub fn norm(features: usize, truly: &[f64], predicted: &[f64]) -> f64
     let mut who = [0usize; NOTES];
     let mut noted = 0usize;
     let mut sum = 0.0;
-    let mut i = 0usize;
-    while 4 <= features - i {
-        noted = note(truly, predicted, i, noted, &mut who);
+    let fours = features / 4;
+    for four in 0..fours {
+        noted = note(truly, predicted, 4 * four, noted, &mut who);
         if noted == NOTES {
             sum = settle(features, truly, predicted, &who, noted, sum);
             noted = 0;
         }
-        i += 4;
     }
     let so_far = settle(features, truly, predicted, &who, noted, sum);
-    add_up(so_far, truly, predicted, i, features)
+    add_up(so_far, truly, predicted, 4 * fours, features)
 }
 
 // Each feature's difference of counts, times the step, goes to its weight and, with averaging, times the counter too, to its
@@ -163,16 +154,14 @@ pub fn pull(
     ensures { Moved features (pulled truly.now predicted.now averaging tau counter) (record { weights = weights.old; beside = sums.old }) (record { weights = weights.new; beside = sums.new }) result }
 {
     let mut all = true;
-    let mut i = 0usize;
-    while i < features {
+    for i in 0..features {
         let delta = truly[i] - predicted[i];
         let w = weights[i] + tau * delta;
         weights[i] = w;
         if averaging {
-            sums[i] = sums[i] + tau * counter * delta;
+            sums[i] += tau * counter * delta;
         }
-        all = all & binary64::are_finite(w, sums[i]);
-        i += 1;
+        all &= binary64::are_finite(w, sums[i]);
     }
     all
 }

@@ -24,15 +24,13 @@ pub fn push(
     ensures { Moved features (pushed truly.now predicted.now weight counter) (record { weights = weights.old; beside = sums.old }) (record { weights = weights.new; beside = sums.new }) result }
 {
     let mut all = true;
-    let mut i = 0usize;
-    while i < features {
+    for i in 0..features {
         let delta = (truly[i] - predicted[i]) * weight;
         let w = weights[i] + delta;
         let s = sums[i] + counter * delta;
         weights[i] = w;
         sums[i] = s;
-        all = all & binary64::are_finite(w, s);
-        i += 1;
+        all &= binary64::are_finite(w, s);
     }
     all
 }
@@ -65,8 +63,5 @@ pub fn update(
 {
     let all = push(features, weight, counter, truly, predicted, weights, sums);
     let loss = share(wrong, words, weight);
-    Outcome {
-        loss: loss,
-        finite: all,
-    }
+    Outcome { loss, finite: all }
 }

@@ -1,19 +1,18 @@
 -- Names without their backslashes: byte by byte, and back from the escaped name. Assumes nothing.
-use mathlib.Core.Path.{◌≡◌, refl, sym, ap, subst, ◌∙◌}
-use mathlib.Core.Bool.{Bool, true, false, cond, not, ◌&&◌, ◌||◌, true≢false, false≢true}
-use mathlib.Core.List.{List, [], ◌∷◌}
-use Prim.Native.Nat.{ℕ, zero, suc, ◌+◌, ◌≤◌, ◌<◌}
-use native.Mathlib.Numerals.{add-one}
-use native.Mathlib.Nat.{le_antisymm}
+use mathlib.Core.Path.{◌≡◌, refl, sym, ap, ◌∙◌}
+use mathlib.Core.Bool.{Bool, true, false, ◌&&◌, ◌||◌, true≢false}
+use mathlib.Core.List.{[], ◌∷◌}
+use Prim.Native.Nat.{ℕ, ◌+◌, ◌≤◌, ◌<◌}
 use native.Mathlib.Omega.{arith}
 use lib.Dec.{eqb}
-use lib.ListN.{length, get_or, set, length-set}
-use lib.Seq.{slice, slice-cons, slice_empty}
+use lib.ListN.{length, get_or, set, drop, drop_of_length-le, length-set}
+use lib.Seq.{slice}
 use Rattle.layout.specs.Layout.{Bytes, escaped}
 use Rattle.byte_buffers.specs.Stored.{stored, RoomFor, Put}
 use Rattle.pieces.specs.Standing.{Named}
 use Rattle.pieces.specs.Unescaped.{is_skipped, unescaped_from, unescaped, UnescapesBack}
 use Rattle.pieces.proofs.Names.{escaped_special, escaped_plain, either}
+use Rattle.pieces.proofs.Parts.{here}
 
 -- ---- one byte
 
@@ -53,47 +52,37 @@ bare_name {text} {from} {to} {name} g = ap unescaped g.bytes ∙ unescapes_back 
 
 -- ---- the loops
 
-next : (text : Bytes) (i to : ℕ) → i < to → to ≤ length text → slice i to text ≡ get_or text i 0 ∷ slice (i + 1) to text
-next text i to h k = slice-cons i to text 0 h k ∙ ap (λ (j : ℕ). get_or text i 0 ∷ slice j to text) (sym (add-one i))
-
 -- what is left
-abbrev pub rest : Bytes → Bool → ℕ → ℕ → Bytes
-rest text x i to = unescaped_from x (slice i to text)
+abbrev pub rest : Bytes → Bool → ℕ → Bytes
+rest name x i = unescaped_from x (drop i name)
 
-rest_skip : (text : Bytes) (x : Bool) (i to : ℕ) → i < to → to ≤ length text → is_skipped x (get_or text i 0) ≡ true → rest text x i to ≡ rest text true (i + 1) to
-rest_skip text x i to h k f = ap (unescaped_from x) (next text i to h k) ∙ bare_skip x (get_or text i 0) (slice (i + 1) to text) f
+rest_skip : (name : Bytes) (x : Bool) (i : ℕ) → i < length name → is_skipped x (get_or name i 0) ≡ true → rest name x i ≡ rest name true (i + 1)
+rest_skip name x i h f = ap (unescaped_from x) (here name i h) ∙ bare_skip x (get_or name i 0) (drop (i + 1) name) f
 
-rest_keep : (text : Bytes) (x : Bool) (i to : ℕ) → i < to → to ≤ length text → is_skipped x (get_or text i 0) ≡ false → rest text x i to ≡ get_or text i 0 ∷ rest text false (i + 1) to
-rest_keep text x i to h k f = ap (unescaped_from x) (next text i to h k) ∙ bare_keep x (get_or text i 0) (slice (i + 1) to text) f
+rest_keep : (name : Bytes) (x : Bool) (i : ℕ) → i < length name → is_skipped x (get_or name i 0) ≡ false → rest name x i ≡ get_or name i 0 ∷ rest name false (i + 1)
+rest_keep name x i h f = ap (unescaped_from x) (here name i h) ∙ bare_keep x (get_or name i 0) (drop (i + 1) name) f
 
-rest_none : (text : Bytes) (x : Bool) (i to : ℕ) → i ≤ to → to ≤ i → rest text x i to ≡ []
-rest_none text x i to h k = ap (λ (j : ℕ). unescaped_from x (slice j to text)) (le_antisymm h k) ∙ ap (unescaped_from x) (slice_empty to text) ∙ bare_nil x
+rest_none : (name : Bytes) (x : Bool) (i : ℕ) → length name ≤ i → rest name x i ≡ []
+rest_none name x i h = ap (unescaped_from x) (drop_of_length-le name {i = i} h) ∙ bare_nil x
 
 -- so many bytes so far, and what is left makes so many in all
-pub record Counting (text : Bytes) (to i count : ℕ) (x : Bool) (all : Bytes) : Type 0 where
-  pub inside : i ≤ to
-  pub whole : to ≤ length text
+pub record Counting (name : Bytes) (i count : ℕ) (x : Bool) : Type 0 where
   pub few : count ≤ i
-  pub same : count + length (rest text x i to) ≡ length all
+  pub same : count + length (rest name x i) ≡ length (unescaped name)
 
-pub counting_starts : {text : Bytes} {from to : ℕ} → (from ≤ to) × (to ≤ length text) → Counting text to from 0 false (unescaped (slice from to text))
-counting_starts h = record { inside = h.0; whole = h.1; few = omega arith; same = omega arith }
-
-pub counting_skip : {text : Bytes} {to i count : ℕ} {x : Bool} {all : Bytes} → Counting text to i count x all → i < to → is_skipped x (get_or text i 0) ≡ true → Counting text to (i + 1) count true all
-counting_skip {text} {to} {i} {count} {x} g h f = record {
-  inside = omega (arith, h);
-  whole = g.whole;
+pub counting_skip : {name : Bytes} {i count : ℕ} {x y : Bool} → Counting name i count x → i < length name → y ≡ is_skipped x (get_or name i 0) → y ≡ true → Counting name (i + 1) count y
+counting_skip {name} {i} {count} {x} g h e f = record {
   few = omega (arith, g.few);
-  same = ap (λ (t : Bytes). count + length t) (sym (rest_skip text x i to h g.whole f)) ∙ g.same;
+  same = rw f (ap (λ (t : Bytes). count + length t) (sym (rest_skip name x i h (sym e ∙ f))) ∙ g.same);
 }
 
-pub counting_keep : {text : Bytes} {to i count : ℕ} {x : Bool} {all : Bytes} → Counting text to i count x all → i < to → is_skipped x (get_or text i 0) ≡ false → Counting text to (i + 1) (count + 1) false all
-counting_keep {text} {to} {i} {count} {x} g h f =
-    let l = ap length (rest_keep text x i to h g.whole f) in
-    record { inside = omega (arith, h); whole = g.whole; few = omega (arith, g.few); same = omega (arith, l, g.same) }
+pub counting_keep : {name : Bytes} {i count : ℕ} {x y : Bool} → Counting name i count x → i < length name → y ≡ is_skipped x (get_or name i 0) → y ≡ false → Counting name (i + 1) (count + 1) y
+counting_keep {name} {i} {count} {x} g h e f =
+    let l = ap length (rest_keep name x i h (sym e ∙ f)) in
+    record { few = omega (arith, g.few); same = rw f (omega (arith, l, g.same)) }
 
-pub counting_over : {text : Bytes} {to i count : ℕ} {x : Bool} {all : Bytes} → Counting text to i count x all → to ≤ i → count ≡ length all
-counting_over {text} {to} {i} {count} {x} g h = let l = ap length (rest_none text x i to g.inside h) in omega (arith, l, g.same)
+pub counting_over : {name : Bytes} {i count : ℕ} {x : Bool} → Counting name i count x → length name ≤ i → count ≡ length (unescaped name)
+counting_over {name} {i} {count} {x} g h = let l = ap length (rest_none name x i h) in omega (arith, l, g.same)
 
 -- a name has at most as many bytes as stand for it
 pub bare_shorter : (x : Bool) (t : Bytes) → length (unescaped_from x t) ≤ length t
@@ -104,25 +93,17 @@ bare_shorter x (b ∷ t) =
     (λ f. omega (arith, ap length (bare_keep x b t f), bare_shorter false t))
 
 -- so many were written, and to write what is left gives the same as to write all from the start
-pub record Writing (text : Bytes) (to i : ℕ) (x : Bool) (k at : ℕ) (out before all : Bytes) : Type 0 where
-  pub inside : i ≤ to
-  pub whole : to ≤ length text
+pub record Writing (name : Bytes) (i : ℕ) (x : Bool) (k at : ℕ) (out before : Bytes) : Type 0 where
   pub long : length out ≡ length before
-  pub room : at + length all ≤ length before
-  pub place : k + length (rest text x i to) ≡ at + length all
-  pub same : stored out k (rest text x i to) ≡ stored before at all
+  pub room : at + length (unescaped name) ≤ length before
+  pub place : k + length (rest name x i) ≡ at + length (unescaped name)
+  pub same : stored out k (rest name x i) ≡ stored before at (unescaped name)
 
-pub writing_starts : {text : Bytes} {from to at : ℕ} {out : Bytes} → (from ≤ to) × (to ≤ length text) → RoomFor (unescaped (slice from to text)) out at
-    → Writing text to from false at at out out (unescaped (slice from to text))
-writing_starts h r = record { inside = h.0; whole = h.1; long = refl; room = r.room; place = refl; same = refl }
-
-pub writing_skip : {text : Bytes} {to i : ℕ} {x : Bool} {k at : ℕ} {out before all : Bytes} → Writing text to i x k at out before all → i < to → is_skipped x (get_or text i 0) ≡ true
-    → Writing text to (i + 1) true k at out before all
-writing_skip {text} {to} {i} {x} {k} {at} {out} g h f =
-    let e = sym (rest_skip text x i to h g.whole f) in
+pub writing_skip : {name : Bytes} {i : ℕ} {x y : Bool} {k at : ℕ} {out before : Bytes} → Writing name i x k at out before → i < length name → y ≡ is_skipped x (get_or name i 0) → y ≡ true
+    → Writing name (i + 1) y k at out before
+writing_skip {name} {i} {x} {y} {k} {at} {out} g h s f =
+    let e = ap (λ (z : Bool). rest name z (i + 1)) f ∙ sym (rest_skip name x i h (sym s ∙ f)) in
     record {
-      inside = omega (arith, h);
-      whole = g.whole;
       long = g.long;
       room = g.room;
       place = ap (λ (t : Bytes). k + length t) e ∙ g.place;
@@ -130,28 +111,27 @@ writing_skip {text} {to} {i} {x} {k} {at} {out} g h f =
     }
 
 -- where a byte is left to write there is room for it
-pub writing_room : {text : Bytes} {to i : ℕ} {x : Bool} {k at : ℕ} {out before all : Bytes} → Writing text to i x k at out before all → i < to → is_skipped x (get_or text i 0) ≡ false → k < length out
-writing_room {text} {to} {i} {x} g h f = let l = ap length (rest_keep text x i to h g.whole f) in omega (arith, l, g.place, g.room, g.long)
+pub writing_room : {name : Bytes} {i : ℕ} {x y : Bool} {k at : ℕ} {out before : Bytes} → Writing name i x k at out before → i < length name → y ≡ is_skipped x (get_or name i 0) → y ≡ false
+    → k < length out
+writing_room {name} {i} {x} g h e f = let l = ap length (rest_keep name x i h (sym e ∙ f)) in omega (arith, l, g.place, g.room, g.long)
 
-pub writing_keep : {text : Bytes} {to i : ℕ} {x : Bool} {k at : ℕ} {out before all : Bytes} → Writing text to i x k at out before all → i < to → is_skipped x (get_or text i 0) ≡ false
-    → Writing text to (i + 1) false (k + 1) at (set out k (get_or text i 0)) before all
-writing_keep {text} {to} {i} {x} {k} {at} {out} g h f =
-    let e = rest_keep text x i to h g.whole f in
+pub writing_keep : {name : Bytes} {i : ℕ} {x y : Bool} {k at : ℕ} {out before : Bytes} → Writing name i x k at out before → i < length name → y ≡ is_skipped x (get_or name i 0) → y ≡ false
+    → Writing name (i + 1) y (k + 1) at (set out k (get_or name i 0)) before
+writing_keep {name} {i} {x} {y} {k} {at} {out} g h s f =
+    let e = rest_keep name x i h (sym s ∙ f) ∙ ap (λ (z : Bool). get_or name i 0 ∷ rest name z (i + 1)) (sym f) in
     record {
-      inside = omega (arith, h);
-      whole = g.whole;
-      long = length-set out k (get_or text i 0) ∙ g.long;
+      long = length-set out k (get_or name i 0) ∙ g.long;
       room = g.room;
       place = omega (arith, ap length e, g.place);
-      same = one out k (get_or text i 0) (rest text false (i + 1) to) ∙ ap (stored out k) (sym e) ∙ g.same;
+      same = one out k (get_or name i 0) (rest name y (i + 1)) ∙ ap (stored out k) (sym e) ∙ g.same;
     }
   where
     one : (out : Bytes) (k b : ℕ) (t : Bytes) → stored (set out k b) (k + 1) t ≡ stored out k (b ∷ t)
     one out k b t = unfold stored in refl
 
-pub writing_over : {text : Bytes} {to i : ℕ} {x : Bool} {k at : ℕ} {out before all : Bytes} → Writing text to i x k at out before all → to ≤ i → Put all before at k out
-writing_over {text} {to} {i} {x} {k} {at} {out} g h =
-    let e = rest_none text x i to g.inside h in
+pub writing_over : {name : Bytes} {i : ℕ} {x : Bool} {k at : ℕ} {out before : Bytes} → Writing name i x k at out before → length name ≤ i → Put (unescaped name) before at k out
+writing_over {name} {i} {x} {k} {at} {out} g h =
+    let e = rest_none name x i h in
     record { next = omega (arith, ap length e, g.place); line = nothing out k ∙ ap (stored out k) (sym e) ∙ g.same }
   where
     nothing : (out : Bytes) (k : ℕ) → out ≡ stored out k []

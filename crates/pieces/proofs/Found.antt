@@ -1,13 +1,13 @@
 -- The piece at a cursor, by what the code has tested. Assumes nothing.
-use mathlib.Core.Path.{◌≡◌, refl, sym, ap, subst, ◌∙◌}
-use mathlib.Core.Bool.{Bool, true, false, true≢false, false≢true}
+use mathlib.Core.Path.{◌≡◌, refl, sym, ap, ◌∙◌}
+use mathlib.Core.Bool.{true, false, true≢false, false≢true}
 use mathlib.Core.List.{List, [], ◌∷◌}
-use Prim.Native.Nat.{ℕ, zero, suc, ◌+◌, ◌≤◌, ◌<◌}
+use Prim.Native.Nat.{ℕ}
 use native.Mathlib.Omega.{arith}
 use lib.Dec.{eqb}
 use lib.ListN.{length}
 use borrow.Author.Tests.{eq-eqb, ne_eqb}
-use Rattle.layout.specs.Layout.{Bytes, escaped, scale_text}
+use Rattle.layout.specs.Layout.{Bytes, scale_text}
 use Rattle.text_tables.specs.Pieces.{Piece, blank, label, attribute}
 use Rattle.pieces.specs.declared.Kind.TheVariants.{Attribute}
 use Rattle.pieces.specs.declared.Cursor.{Cursor}

@@ -1,9 +1,9 @@
 -- Lines and their pieces make the same text, and sound lines have sound pieces. Assumes nothing.
-use mathlib.Core.Path.{◌≡◌, refl, sym, ap, subst, ◌∙◌}
-use mathlib.Core.Bool.{Bool, true, false}
+use mathlib.Core.Path.{◌≡◌, refl, sym, ap, ◌∙◌}
+use mathlib.Core.Bool.{false}
 use mathlib.Core.List.{List, [], ◌∷◌, ◌++◌, map, append-nil, append_assoc}
-use Rattle.layout.specs.Layout.{Bytes, TextAttribute, Word, Line, empty, word, escaped, scale_text, attributes_text, line_text, more_lines, text_of, SoundAttributes, SoundTextLine, EachSound, SoundText}
-use Rattle.text_tables.specs.Pieces.{Piece, blank, label, attribute, line_pieces, pieces_of}
+use Rattle.layout.specs.Layout.{Bytes, TextAttribute, Line, empty, word, escaped, scale_text, attributes_text, line_text, more_lines, text_of, SoundAttributes, SoundTextLine, EachSound, SoundText}
+use Rattle.text_tables.specs.Pieces.{Piece, attribute, line_pieces, pieces_of}
 use Rattle.pieces.specs.PieceText.{piece_text, parting, more_text, pieces_text, SoundPieces, SameText}
 use Rattle.pieces.specs.Standing.{none_left, field_first}
 

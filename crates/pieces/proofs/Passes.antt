@@ -1,8 +1,8 @@
 -- The laws of a loop over pieces: at its start, at each piece, at its end. Assumes nothing.
 use mathlib.Core.Path.{◌≡◌, refl, sym, ap, subst, ◌∙◌}
-use mathlib.Core.Bool.{Bool, true, false, true≢false, false≢true}
+use mathlib.Core.Bool.{true, false, true≢false, false≢true}
 use mathlib.Core.List.{List, [], ◌∷◌}
-use Prim.Native.Nat.{ℕ, ◌+◌, ◌≤◌, ◌<◌}
+use Prim.Native.Nat.{◌≤◌, ◌<◌}
 use native.Mathlib.Omega.{arith}
 use lib.ListN.{length}
 use borrow.Author.Tests.{lt-ltb, le-ltb}
@@ -11,7 +11,7 @@ use Rattle.text_tables.specs.Pieces.{Piece, pieces_of, after_each}
 use Rattle.pieces.specs.declared.Cursor.{Cursor}
 use Rattle.pieces.specs.declared.Span.{Span}
 use Rattle.pieces.specs.Standing.{Stands, none_left, PiecesAhead, SomePieceAhead, PieceMet, Finds, Follows, AtStart}
-use Rattle.pieces.specs.Passing.{Passing, Passed}
+use Rattle.pieces.specs.Passing.{Passed}
 
 -- pieces are ahead exactly while the cursor stands within the text
 pub some_ahead : {text : Bytes} {c : Cursor} {rest : List Piece} → PiecesAhead text c rest → c.at ≤ length text → (p : Piece) × (more : List Piece) × (rest ≡ p ∷ more)

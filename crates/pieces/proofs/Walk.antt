@@ -1,21 +1,18 @@
 -- From one piece to the next. Assumes nothing.
 use mathlib.Core.Path.{◌≡◌, refl, sym, ap, subst, ◌∙◌}
-use mathlib.Core.Bool.{Bool, true, false, true≢false, false≢true}
-use mathlib.Core.List.{List, [], ◌∷◌, ◌++◌, append_assoc, cons≢nil}
-use Prim.Native.Nat.{ℕ, zero, suc, ◌+◌, ◌-◌, ◌≤◌, ◌<◌}
+use mathlib.Core.Bool.{Bool, true, false}
+use mathlib.Core.List.{List, [], ◌∷◌, ◌++◌, append_assoc}
+use Prim.Native.Nat.{ℕ, ◌+◌, ◌≤◌, ◌<◌}
 use native.Mathlib.Omega.{arith}
-use lib.Dec.{eqb, ltb}
-use lib.ListN.{length, take, drop, get_or, length-drop, length-append, drop_of_length-le, get_or-eq_default}
-use lib.Seq.{drop-drop, take-append_seam, drop-append_seam}
-use borrow.Author.Tests.{ltb-true, ltb-false, lt-ltb, le-ltb, eqb-false}
+use lib.Dec.{eqb}
+use lib.ListN.{length, drop, get_or, length-drop, drop_of_length-le, get_or-eq_default}
+use borrow.Author.Tests.{ltb-false, lt-ltb, le-ltb}
 use Rattle.layout.specs.Layout.{Bytes, escaped, scale_text, Clean, Name, Digits, minus_text, Part, none as no_part, point as pointed, part_text, fraction, Scale, KeptText, Line, EachSound, SoundText, WellFormed}
 use Rattle.text_tables.specs.Pieces.{Piece, blank, label, attribute, pieces_of}
-use Rattle.pieces.specs.declared.Kind.{Kind}
-use Rattle.pieces.specs.declared.Kind.TheVariants.{Blank, Label, Attribute}
 use Rattle.pieces.specs.declared.Cursor.{Cursor}
 use Rattle.pieces.specs.declared.Span.{Span}
-use Rattle.pieces.specs.PieceText.{kind_of, name_in, kept_in, is_field, piece_text, parting, more_text, pieces_text, SoundPiece, SoundPieces}
-use Rattle.pieces.specs.Standing.{name_ends, field_ends, Named, SomeName, Fielded, Stands, Behind, none_left, PiecesAhead, SomePieceAhead, PieceMet, Finds, Follows, AtStart}
+use Rattle.pieces.specs.PieceText.{kind_of, name_in, kept_in, is_field, piece_text, parting, more_text, pieces_text, SoundPiece}
+use Rattle.pieces.specs.Standing.{name_ends, field_ends, Named, Fielded, Behind, PiecesAhead, PieceMet, Follows, AtStart}
 use Rattle.pieces.proofs.Parts.{here, part_of, drop_past, fits}
 use Rattle.pieces.proofs.Names.{first, further}
 use Rattle.pieces.proofs.Made.{same_text, sound_pieces, some_first, line_first}

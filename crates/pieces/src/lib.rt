@@ -38,14 +38,14 @@ pub struct Span {
 fn ends_name(b: u8) -> bool
     ensures { result ≡ ends_name_of b }
 {
-    (b == 9) | (b == 10) | (b == 58)
+    matches!(b, b'\t' | b'\n' | b':')
 }
 
 // A byte that ends a field.
 fn ends_field(b: u8) -> bool
     ensures { result ≡ ends_field_of b }
 {
-    (b == 9) | (b == 10)
+    matches!(b, b'\t' | b'\n')
 }
 
 // Where the name that begins here ends: at a bare tab, line feed or colon, or at the end of the text.
@@ -54,14 +54,14 @@ pub fn name_end(text: &[u8], at: usize) -> usize
     ensures { (to : ℕ) (name : Bytes) → Named text.now at to name → result ≡ to }
 {
     let mut i = at;
+    // At a backslash two places on: the byte behind it ends nothing.
     while i < text.len() {
         let b = text[i];
-        if b == 92 {
+        if b == b'\\' {
             i += 2;
+        } else if ends_name(b) {
+            return i;
         } else {
-            if ends_name(b) {
-                return i;
-            }
             i += 1;
         }
     }
@@ -72,15 +72,12 @@ pub fn name_end(text: &[u8], at: usize) -> usize
 fn scale_end(text: &[u8], at: usize) -> usize
     ensures { (to : ℕ) → Fielded text.now at to → result ≡ to }
 {
-    let mut i = at;
-    while i < text.len() {
-        let b = text[i];
-        if ends_field(b) {
+    for i in at..text.len() {
+        if ends_field(text[i]) {
             return i;
         }
-        i += 1;
     }
-    i
+    text.len()
 }
 
 // The cursor at the start of a text.
@@ -111,14 +108,14 @@ pub fn piece_at(text: &[u8], cursor: Cursor) -> Span
         return Span {
             kind: Kind::Attribute,
             from: at,
-            split: split,
+            split,
             to: scale_end(text, split),
         };
     }
     Span {
         kind: line_kind(split == at),
         from: at,
-        split: split,
+        split,
         to: split,
     }
 }
@@ -130,23 +127,19 @@ pub fn after(text: &[u8], to: usize) -> Cursor
 {
     let at = to + 1;
     if to < text.len() {
-        let b = text[to];
         return Cursor {
-            at: at,
-            field: b == 9,
+            at,
+            field: text[to] == b'\t',
         };
     }
-    Cursor {
-        at: at,
-        field: false,
-    }
+    Cursor { at, field: false }
 }
 
 // Whether a byte of an escaped name goes: a backslash that stands behind none.
 fn skips(b: u8, slashed: bool) -> bool
     ensures { result ≡ is_skipped slashed b }
 {
-    (b == 92) & !slashed
+    (b == b'\\') & !slashed
 }
 
 // How many bytes the name between two places has without its backslashes.
@@ -154,16 +147,11 @@ pub fn unescaped_length(text: &[u8], from: usize, to: usize) -> usize
     requires { (from ≤ to) × (to ≤ length text.now) }
     ensures { result ≡ length (unescaped (slice from to text.now)) }
 {
-    let mut i = from;
     let mut count = 0usize;
     let mut slashed = false;
-    while i < to {
-        let b = text[i];
-        i += 1;
-        if skips(b, slashed) {
-            slashed = true;
-        } else {
-            slashed = false;
+    for b in &text[from..to] {
+        slashed = skips(*b, slashed);
+        if !slashed {
             count += 1;
         }
     }
@@ -176,17 +164,12 @@ pub fn unescape(text: &[u8], from: usize, to: usize, out: &mut [u8], at: usize) 
     requires room_for { RoomFor (unescaped (slice from to text.now)) out.old at }
     ensures { Put (unescaped (slice from to text.now)) out.old at result out.new }
 {
-    let mut i = from;
     let mut k = at;
     let mut slashed = false;
-    while i < to {
-        let b = text[i];
-        i += 1;
-        if skips(b, slashed) {
-            slashed = true;
-        } else {
-            slashed = false;
-            out[k] = b;
+    for b in &text[from..to] {
+        slashed = skips(*b, slashed);
+        if !slashed {
+            out[k] = *b;
             k += 1;
         }
     }

@@ -8,6 +8,7 @@ ghost use Rattle.prediction.specs.Tables.{training_model_at, training_model_was,
 ghost use Rattle.judging.specs.Judged.{Judged};
 
 use judging::Prediction;
+use labelling::{FEW, MOST_STATES, MOST_TRANSITIONS};
 
 // The counts of a trainer's tables.
 #[derive(Clone, Copy)]
@@ -88,8 +89,9 @@ fn predict_in(
     judging::judge(labels, words, references, transitions, states, path, answer)
 }
 
-// A short line has its scores in small arrays.
-fn predict_short(
+// The scores in arrays of these sizes: small ones for a short line, since clearing large ones would take longer than the line;
+// for any other the most words, with the most labels each.
+fn predict_within<const TRANSITIONS: usize, const STATES: usize>(
     sizes: Sizes,
     kinds: &[u8],
     destinations: &[u32],
@@ -110,67 +112,15 @@ fn predict_short(
     requires sound_model { SoundModel (training_model_at sizes kinds destinations sources starts entries label_starts label_entries) }
     requires sound_instance { SoundInstance sizes.labels (words_at sizes begins ids values) first words references.now }
     requires weights_len { (length weights.now ≡ sizes.features) × (length path.old ≡ words) }
-    requires labels_bound { (sizes.labels * sizes.labels ≤ 256) × (words * sizes.labels ≤ 256) }
+    requires labels_bound { (sizes.labels * sizes.labels ≤ TRANSITIONS) × (words * sizes.labels ≤ STATES) }
+    requires sizes_bound { (TRANSITIONS ≤ MOST_TRANSITIONS) × (STATES ≤ MOST_STATES) }
     ensures { let m = training_model_was sizes kinds destinations sources starts entries label_starts label_entries in
         let line = words_was sizes begins ids values in
         let w = weights.now in
         Judged sizes.labels words (transitions_of m w) (states_of m w line first words) references.now path.new result }
 {
-    let mut transitions = [0.0; labelling::FEW];
-    let mut states = [0.0; labelling::FEW];
-    let square = sizes.labels * sizes.labels;
-    let rows = words * sizes.labels;
-    predict_in(
-        sizes,
-        kinds,
-        destinations,
-        sources,
-        weights,
-        starts,
-        entries,
-        label_starts,
-        label_entries,
-        begins,
-        ids,
-        values,
-        first,
-        words,
-        references,
-        &mut transitions[..square],
-        &mut states[..rows],
-        path,
-    )
-}
-
-// Any line: the most words, with the most labels each.
-fn predict_long(
-    sizes: Sizes,
-    kinds: &[u8],
-    destinations: &[u32],
-    sources: &[u32],
-    weights: &[f64],
-    starts: &[u32],
-    entries: &[u32],
-    label_starts: &[u32],
-    label_entries: &[u32],
-    begins: &[u32],
-    ids: &[u32],
-    values: &[f64],
-    first: usize,
-    words: usize,
-    references: &[u32],
-    path: &mut [u32],
-) -> Prediction
-    requires sound_model { SoundModel (training_model_at sizes kinds destinations sources starts entries label_starts label_entries) }
-    requires sound_instance { SoundInstance sizes.labels (words_at sizes begins ids values) first words references.now }
-    requires weights_len { (length weights.now ≡ sizes.features) × (length path.old ≡ words) }
-    ensures { let m = training_model_was sizes kinds destinations sources starts entries label_starts label_entries in
-        let line = words_was sizes begins ids values in
-        let w = weights.now in
-        Judged sizes.labels words (transitions_of m w) (states_of m w line first words) references.now path.new result }
-{
-    let mut transitions = [0.0; labelling::MOST_TRANSITIONS];
-    let mut states = [0.0; labelling::MOST_STATES];
+    let mut transitions = [0.0; TRANSITIONS];
+    let mut states = [0.0; STATES];
     let square = sizes.labels * sizes.labels;
     let rows = words * sizes.labels;
     predict_in(
@@ -223,7 +173,7 @@ pub fn predict(
         Judged sizes.labels words (transitions_of m w) (states_of m w line first words) references.now path.new result }
 {
     if labelling::is_small(sizes.labels, words) {
-        predict_short(
+        predict_within::<FEW, FEW>(
             sizes,
             kinds,
             destinations,
@@ -242,7 +192,7 @@ pub fn predict(
             path,
         )
     } else {
-        predict_long(
+        predict_within::<MOST_TRANSITIONS, MOST_STATES>(
             sizes,
             kinds,
             destinations,

@@ -1,11 +1,11 @@
 -- What was written of what was read reads back. Assumes nothing.
+use Rattle.std.specs.Prelude.{Ok, Err}
 use mathlib.Core.Path.{◌≡◌, refl, sym, ap, subst, ◌∙◌}
 use mathlib.Core.List.{List}
 use mathlib.Core.Logic.{◌⊎◌, inl, inr}
 use Prim.Native.Nat.{ℕ, ◌≤◌}
 use lib.ListN.{length, drop}
-use Rattle.refusals.specs.declared.Checked.{Checked}
-use Rattle.refusals.specs.declared.Checked.TheVariants.{Accepted, Refused}
+use Rattle.refusals.specs.Refusals.{Checked}
 use Rattle.refusals.specs.Said.{accepted, or_refused}
 use Rattle.refusals.proofs.Said.{apart, same_given}
 use Rattle.layout.specs.Layout.{Bytes, Word, Line, SoundText, text_of, WellFormed, sequences, NoneEmpty}
@@ -24,7 +24,6 @@ use Rattle.text_check.specs.Rows.{text_checked}
 use Rattle.text_check.specs.declared.Lengths.{Lengths}
 use Rattle.text_check.proofs.Meant.{text_checks_mean}
 use Rattle.read_text.specs.declared.TextSizes.{TextSizes}
-use Rattle.read_text.specs.declared.TextReading.{TextReading}
 use Rattle.read_text.specs.Promise.{Buffers, Outcome, said, sizes_for, lengths_of, checked_of, laid_over, holding, Yields, Promised}
 use Rattle.read_text.specs.Again.{lent_back, SameRead, ReadsAgain, ReadsTheSame}
 use Rattle.read_text.proofs.Unique.{told, either}
@@ -58,23 +57,23 @@ lines_sound ls h =
 
 -- what an accepted reading gives
 record Accepts (ss : List (List Word)) (text : Bytes) (before : Buffers) (sizes : TextSizes) (outcome : Outcome) : Type 0 where
-  checked : checked_of text ss before ≡ Accepted
+  checked : checked_of text ss before ≡ Ok tt
   sizes_are : sizes ≡ sizes_for ss
   after_is : outcome.after ≡ laid_over (tables ss) before
 
-accepts : (ss : List (List Word)) (text : Bytes) (before : Buffers) (sizes : TextSizes) (outcome : Outcome) → outcome.answer ≡ TextReading.Read sizes
+accepts : (ss : List (List Word)) (text : Bytes) (before : Buffers) (sizes : TextSizes) (outcome : Outcome) → outcome.answer ≡ Ok sizes
     → (check : Checked) → checked_of text ss before ≡ check → Yields (or_refused check (accepted (sizes_for ss))) (holding check (tables ss) before) outcome → Accepts ss text before sizes outcome
-accepts ss text before sizes outcome e Accepted c g = record { checked = c; sizes_are = same_given (sym (ap said e) ∙ g.answers); after_is = g.after }
-accepts ss text before sizes outcome e (Refused why) c g = absurd (apart (sym (ap said e) ∙ g.answers))
+accepts ss text before sizes outcome e (Ok _) c g = record { checked = c; sizes_are = same_given (sym (ap said e) ∙ g.answers); after_is = g.after }
+accepts ss text before sizes outcome e (Err why) c g = absurd (apart (sym (ap said e) ∙ g.answers))
 
 -- the same checks accept another text of the same sequences that is not too long
-still_accepted : (text written : Bytes) (ss : List (List Word)) (have : Lengths) → length written ≤ 4294967295 → text_checked (length text) ss have ≡ Accepted → text_checked (length written) ss have ≡ Accepted
+still_accepted : (text written : Bytes) (ss : List (List Word)) (have : Lengths) → length written ≤ 4294967295 → text_checked (length text) ss have ≡ Ok tt → text_checked (length written) ss have ≡ Ok tt
 still_accepted text written ss have few e =
     let fits = (text_checks_mean (length text) ss have).1.accepted.0 e in
     (text_checks_mean (length written) ss have).1.accepted.1 ((few, fits.0.1), fits.1)
 
 -- a reading of a text of these sequences that is accepted
-reads : (ss : List (List Word)) → NoneEmpty ss → SoundText (all_lines ss) → (written : Bytes) → text_of (all_lines ss) ≡ written → (other : Buffers) → checked_of written ss other ≡ Accepted
+reads : (ss : List (List Word)) → NoneEmpty ss → SoundText (all_lines ss) → (written : Bytes) → text_of (all_lines ss) ≡ written → (other : Buffers) → checked_of written ss other ≡ Ok tt
     → (again : Outcome) → Promised written other again → Yields (accepted (sizes_for ss)) (laid_over (tables ss) other) again
 reads ss full sound written made other c again p =
     subst (λ (check : Checked). Yields (or_refused check (accepted (sizes_for ss))) (holding check (tables ss) other) again) c
@@ -88,13 +87,13 @@ same_read ls sound text before sizes outcome a few other same again p =
     let ss : List (List Word) = sequences ls in
     let written : Bytes = written_text (lent_back sizes outcome.after) in
     let made : written ≡ text_of (all_lines ss) = (λ i. written_text (lent_back (a.sizes_are i) (a.after_is i))) ∙ written_is ss before in
-    let check : checked_of written ss other ≡ Accepted = ap (λ (have : Lengths). text_checked (length written) ss have) same ∙ still_accepted text written ss (lengths_of before) few a.checked in
+    let check : checked_of written ss other ≡ Ok tt = ap (λ (have : Lengths). text_checked (length written) ss have) same ∙ still_accepted text written ss (lengths_of before) few a.checked in
     let g = reads ss (none_empty ls) (lines_sound ls sound) written (sym made) other check again p in
     record {
       held = tables ss;
       first = a.after_is;
       second = g.after;
-      answer = told again.answer (TextReading.Read sizes) (g.answers ∙ ap accepted (sym a.sizes_are));
+      answer = told again.answer (Ok sizes) (g.answers ∙ ap accepted (sym a.sizes_are));
     }
 
 pub reads_again : ReadsAgain

@@ -1,4 +1,5 @@
 -- The sizes of sequences: what the tables need by them, and that a survey whose counts are within their bounds has them. Assumes nothing.
+use Rattle.std.specs.Prelude.{Ok}
 use mathlib.Core.Path.{◌≡◌, refl, sym, ap, subst, ◌∙◌}
 use mathlib.Core.List.{List, [], ◌∷◌, map, flatten}
 use Prim.Native.Nat.{ℕ, suc, ◌+◌, ◌≤◌}
@@ -6,7 +7,6 @@ use native.Mathlib.Omega.{arith}
 use lib.ListN.{length, take, replicate, length-map, length-replicate}
 use lib.Seq.{take_all}
 use Rattle.binary64.specs.Numbers.{whole}
-use Rattle.refusals.specs.declared.Checked.TheVariants.{Accepted}
 use Rattle.refusal_rows.specs.Limits.{room, AllWithin}
 use Rattle.layout.specs.Layout.{Bytes, TextAttribute, Word, WellFormed, sequences}
 use Rattle.scales.specs.Value.{value_of}
@@ -113,7 +113,7 @@ survey_small {text} {s} h small g w =
     }
 
 -- sizes that are accepted are of counts within their bounds
-pub sized_within : (bytes : ℕ) (ss : List (List Word)) → text_sized bytes ss ≡ Accepted → AllWithin (text_counts ss)
+pub sized_within : (bytes : ℕ) (ss : List (List Word)) → text_sized bytes ss ≡ Ok tt → AllWithin (text_counts ss)
 sized_within bytes ss e = ((text_checks_mean bytes ss none).0.accepted.0 e).0.1
   where
     none : Lengths

@@ -1,4 +1,5 @@
 -- The promises of reading and of the sizes mean what `Meaning` says. Assumes nothing.
+use Rattle.std.specs.Prelude.{Ok, Err, Result}
 use mathlib.Core.Path.{◌≡◌, sym, ap, subst, ◌∙◌}
 use mathlib.Core.List.{List, [], ◌∷◌}
 use mathlib.Core.Logic.{◌⊎◌, inl, inr}
@@ -6,9 +7,7 @@ use Prim.Native.Nat.{ℕ}
 use native.Mathlib.Omega.{arith}
 use lib.ListN.{length}
 use Rattle.refusals.specs.declared.Refusal.{Refusal}
-use Rattle.refusals.specs.declared.Checked.{Checked}
-use Rattle.refusals.specs.declared.Checked.TheVariants.{Accepted, Refused}
-use Rattle.refusals.specs.Refusals.{numbered}
+use Rattle.refusals.specs.Refusals.{Checked, numbered}
 use Rattle.refusals.specs.Said.{accepted, refused, or_refused}
 use Rattle.refusals.specs.Meaning.{FirstBad}
 use Rattle.refusals.proofs.Said.{apart, same_given, same_refusal, refused_said, accepted_said}
@@ -23,21 +22,20 @@ use Rattle.text_check.specs.Meaning.{SizesFit, TextFits, GivenTwoFour}
 use Rattle.text_check.proofs.Meant.{text_checks_mean, long_means}
 use Rattle.text_check.specs.declared.Lengths.{Lengths}
 use Rattle.read_text.specs.declared.TextSizes.{TextSizes}
-use Rattle.read_text.specs.declared.TextReading.{TextReading}
 use Rattle.read_text.specs.Promise.{said, sizes_for, lengths_of, checked_of}
 use Rattle.read_text.specs.Meaning.{sequences_of, TextAnswerMeans, PromiseMeans, SizesMean}
 use Rattle.read_text.proofs.Unique.{either}
 
 -- an answer that is 11 of a malformed text, and of the sequences of a well-formed one what a check says
-module _ (text : Bytes) (answer : TextReading) (check : List (List Word) → Checked) (Fits : List (List Word) → Type 0)
+module _ (text : Bytes) (answer : Result TextSizes Refusal) (check : List (List Word) → Checked) (Fits : List (List Word) → Type 0)
     (malformed : (place : ℕ) → PlaceOf text place → said answer ≡ refused (numbered 11 place))
     (says : (h : WellFormed text) → said answer ≡ or_refused (check (sequences_of h)) (accepted (sizes_for (sequences_of h))))
     (means : (ss : List (List Word)) → GivenTwoFour (check ss) (Fits ss) ss) where
   -- of a well-formed text a refusal is that of the checks
-  check_refused : (h : WellFormed text) (why : Refusal) → said answer ≡ refused why → check (sequences_of h) ≡ Refused why
+  check_refused : (h : WellFormed text) (why : Refusal) → said answer ≡ refused why → check (sequences_of h) ≡ Err why
   check_refused h why e = (refused_said (sizes_for (sequences_of h)) (check (sequences_of h)) why).0 (sym (says h) ∙ e)
 
-  said_refused : (h : WellFormed text) (why : Refusal) → check (sequences_of h) ≡ Refused why → said answer ≡ refused why
+  said_refused : (h : WellFormed text) (why : Refusal) → check (sequences_of h) ≡ Err why → said answer ≡ refused why
   said_refused h why e = says h ∙ (refused_said (sizes_for (sequences_of h)) (check (sequences_of h)) why).1 e
 
   -- of a malformed one it is 11
@@ -97,7 +95,7 @@ module _ (text : Bytes) (answer : TextReading) (check : List (List Word) → Che
       go : WellFormed text ⊎ ((place : ℕ) × PlaceOf text place) → Taken sizes
       go (inl h) =
           let own : TextSizes = sizes_for (sequences_of h) in
-          let c : check (sequences_of h) ≡ Accepted = accepted_said own sizes (check (sequences_of h)) (sym (says h) ∙ e) in
+          let c : check (sequences_of h) ≡ Ok tt = accepted_said own sizes (check (sequences_of h)) (sym (says h) ∙ e) in
           let f = (means (sequences_of h)).accepted.0 c in
           (h, f.0, f.1, same_given (sym e ∙ says h ∙ ap (λ (c : Checked). or_refused c (accepted own)) c))
       go (inr (r, g)) = absurd (apart (sym e ∙ malformed r g))

@@ -1,12 +1,12 @@
 -- A survey whose checks accept leaves the text ready to be filled. Assumes nothing.
+use Rattle.std.specs.Prelude.{Ok}
 use mathlib.Core.Path.{◌≡◌, sym, ap, subst, ◌∙◌}
 use mathlib.Core.List.{List, map}
 use Prim.Native.Nat.{ℕ, ◌≤◌}
 use native.Mathlib.Omega.{arith}
 use lib.ListN.{length, take}
 use lib.Seq.{take_all}
-use Rattle.refusals.specs.declared.Checked.{Checked}
-use Rattle.refusals.specs.declared.Checked.TheVariants.{Accepted}
+use Rattle.refusals.specs.Refusals.{Checked}
 use Rattle.refusal_rows.specs.Limits.{AllWithin}
 use Rattle.layout.specs.Layout.{Bytes, Word, escaped, WellFormed, sequences}
 use Rattle.text_tables.specs.Pieces.{pieces_of}
@@ -44,7 +44,7 @@ module _ {text : Bytes} {labels slots positions : List ℕ} {s : Survey} (g : Su
       → (h : WellFormed text) → r ≡ checked_of text (sequences h.lines) before
   checked_as before e h = e (length text) (sequences h.lines) g.readable.small (surveyed h).tells
 
-  module _ (before : Buffers) (accepted : (h : WellFormed text) → checked_of text (sequences h.lines) before ≡ Accepted) where
+  module _ (before : Buffers) (accepted : (h : WellFormed text) → checked_of text (sequences h.lines) before ≡ Ok tt) where
     pub within : (h : WellFormed text) → AllWithin (text_counts (sequences h.lines))
     within h = ((text_checks_mean (length text) (sequences h.lines) (lengths_of before)).1.accepted.0 (accepted h)).0.1.0
 

@@ -1,12 +1,12 @@
 -- No two different answers satisfy the promise of the sizes, and some answer does; and what they tell of reading. Assumes nothing.
+use Rattle.refusals.specs.declared.Refusal.{Refusal}
+use Rattle.std.specs.Prelude.{Ok, Err, Result}
 use mathlib.Core.Path.{◌≡◌, refl, sym, ap, subst, ◌∙◌}
 use mathlib.Core.List.{List}
 use mathlib.Core.Logic.{◌⊎◌, inl, inr}
 use Prim.Native.Nat.{ℕ}
 use lib.ListN.{length}
-use Rattle.refusals.specs.declared.Checked.{Checked}
-use Rattle.refusals.specs.declared.Checked.TheVariants.{Accepted}
-use Rattle.refusals.specs.Refusals.{numbered, refused_at, or_next_of, first_from}
+use Rattle.refusals.specs.Refusals.{Checked, numbered, refused_at, or_next_of, first_from}
 use Rattle.refusals.specs.Said.{accepted, refused, or_refused}
 use Rattle.refusals.proofs.Said.{apart, same_given, accepted_said}
 use Rattle.refusals.proofs.Laws.{alone}
@@ -21,7 +21,6 @@ use Rattle.text_check.specs.declared.Lengths.{Lengths}
 use Rattle.text_check.specs.Rows.{too_long_of, text_counts, text_rooms, sequence_tests, text_sized, text_checked}
 use Rattle.text_check.proofs.Meant.{text_checks_mean}
 use Rattle.read_text.specs.declared.TextSizes.{TextSizes}
-use Rattle.read_text.specs.declared.TextReading.{TextReading}
 use Rattle.read_text.specs.Promise.{Buffers, Outcome, said, sizes_for, lengths_of, checked_of, Promised}
 use Rattle.read_text.specs.Sizes.{sized_of, SizesPromised, OnlyOneSizes, SomeSizes, sizes_rooms, SizesTell, SizesAgree}
 use Rattle.read_text.proofs.Unique.{told, either, reading_of, said_back, same_place}
@@ -37,7 +36,7 @@ one_sizes text a b p q = go (either text)
 pub some_sizes : SomeSizes
 some_sizes text = go (either text)
   where
-    go : WellFormed text ⊎ ((place : ℕ) × PlaceOf text place) → (answer : TextReading) × SizesPromised text answer
+    go : WellFormed text ⊎ ((place : ℕ) × PlaceOf text place) → (answer : Result TextSizes Refusal) × SizesPromised text answer
     go (inl h) = (
       reading_of (sized_of text (sequences h.lines)),
       record {
@@ -47,7 +46,7 @@ some_sizes text = go (either text)
       },
     )
     go (inr (p, g)) = (
-      TextReading.Refused (numbered 11 p),
+      Err (numbered 11 p),
       record {
         malformed = λ r k. ap (λ (n : ℕ). refused (numbered 11 n)) (same_place text p r g k);
         whole = λ ls sound e. absurd (g.malformed (record { lines = ls; sound = sound; made = e }));
@@ -58,16 +57,16 @@ some_sizes text = go (either text)
 
 module _ (bytes : ℕ) (ss : List (List Word)) (have : Lengths) where
   -- what is accepted with tables is accepted without
-  wider : text_checked bytes ss have ≡ Accepted → text_sized bytes ss ≡ Accepted
+  wider : text_checked bytes ss have ≡ Ok tt → text_sized bytes ss ≡ Ok tt
   wider e =
       let m = text_checks_mean bytes ss have in
       let f = m.1.accepted.0 e in
       m.0.accepted.1 ((f.0.0, f.0.1.0), f.1)
 
-  rooms : text_checked bytes ss have ≡ Accepted → AllWithin (text_rooms (tables ss) have)
+  rooms : text_checked bytes ss have ≡ Ok tt → AllWithin (text_rooms (tables ss) have)
   rooms e = ((text_checks_mean bytes ss have).1.accepted.0 e).0.1.1
 
-  narrower : text_sized bytes ss ≡ Accepted → AllWithin (text_rooms (tables ss) have) → text_checked bytes ss have ≡ Accepted
+  narrower : text_sized bytes ss ≡ Ok tt → AllWithin (text_rooms (tables ss) have) → text_checked bytes ss have ≡ Ok tt
   narrower e r =
       let m = text_checks_mean bytes ss have in
       let f = m.0.accepted.0 e in
@@ -80,8 +79,8 @@ module _ (bytes : ℕ) (ss : List (List Word)) (have : Lengths) where
   same_checks : AllWithin (text_rooms (tables ss) have) → text_checked bytes ss have ≡ text_sized bytes ss
   unfolding text_checked text_sized
   same_checks r =
-      let t : two (text_rooms (tables ss) have) ≡ Accepted = (two_means (text_rooms (tables ss) have)).accepted.1 r in
-      let so_far : Checked = or_next_of (or_next_of Accepted (too_long_of bytes)) (two (text_counts ss)) in
+      let t : two (text_rooms (tables ss) have) ≡ Ok tt = (two_means (text_rooms (tables ss) have)).accepted.1 r in
+      let so_far : Checked = or_next_of (or_next_of (Ok tt) (too_long_of bytes)) (two (text_counts ss)) in
       ap (λ (c : Checked). first_from c (checks (sequence_tests ss))) (ap (or_next_of so_far) t ∙ alone so_far)
 
 -- ---- what an answer with sizes tells
@@ -89,10 +88,10 @@ module _ (bytes : ℕ) (ss : List (List Word)) (have : Lengths) where
 -- a check of the sequences accepted, and these are their sizes
 record Accepts (text : Bytes) (check : List (List Word) → Checked) (sizes : TextSizes) : Type 0 where
   formed : WellFormed text
-  checked : check (sequences formed.lines) ≡ Accepted
+  checked : check (sequences formed.lines) ≡ Ok tt
   sizes_are : sizes ≡ sizes_for (sequences formed.lines)
 
-accepts : (text : Bytes) (check : List (List Word) → Checked) (sizes : TextSizes) (answer : TextReading) → answer ≡ TextReading.Read sizes
+accepts : (text : Bytes) (check : List (List Word) → Checked) (sizes : TextSizes) (answer : Result TextSizes Refusal) → answer ≡ Ok sizes
     → ((place : ℕ) → PlaceOf text place → said answer ≡ refused (numbered 11 place))
     → ((h : WellFormed text) → said answer ≡ or_refused (check (sequences h.lines)) (accepted (sizes_for (sequences h.lines)))) → Accepts text check sizes
 accepts text check sizes answer e malformed says = go (either text)
@@ -105,17 +104,17 @@ accepts text check sizes answer e malformed says = go (either text)
         record { formed = h; checked = c; sizes_are = same_given (f ∙ ap (λ (k : Checked). or_refused k (accepted own)) c) }
     go (inr (place, g)) = absurd (apart (sym (ap said e) ∙ malformed place g))
 
-module _ (text : Bytes) (before : Buffers) (outcome : Outcome) (answer : TextReading) (p : Promised text before outcome) (q : SizesPromised text answer) where
+module _ (text : Bytes) (before : Buffers) (outcome : Outcome) (answer : Result TextSizes Refusal) (p : Promised text before outcome) (q : SizesPromised text answer) where
   reads : (h : WellFormed text) → said outcome.answer ≡ or_refused (checked_of text (sequences h.lines) before) (accepted (sizes_for (sequences h.lines)))
   reads h = (p.whole h.lines h.sound h.made).answers
 
   sizes_of : (h : WellFormed text) → said answer ≡ sized_of text (sequences h.lines)
   sizes_of h = q.whole h.lines h.sound h.made
 
-  sized : (sizes : TextSizes) → answer ≡ TextReading.Read sizes → Accepts text (text_sized (length text)) sizes
+  sized : (sizes : TextSizes) → answer ≡ Ok sizes → Accepts text (text_sized (length text)) sizes
   sized sizes e = accepts text (text_sized (length text)) sizes answer e q.malformed sizes_of
 
-  read : (sizes : TextSizes) → outcome.answer ≡ TextReading.Read sizes → Accepts text (λ ss. checked_of text ss before) sizes
+  read : (sizes : TextSizes) → outcome.answer ≡ Ok sizes → Accepts text (λ ss. checked_of text ss before) sizes
   read sizes e = accepts text (λ ss. checked_of text ss before) sizes outcome.answer e (λ place g. (p.malformed place g).answers) reads
 
   abbrev Roomy : TextSizes → Type 0
@@ -125,33 +124,33 @@ module _ (text : Bytes) (before : Buffers) (outcome : Outcome) (answer : TextRea
   rooms_by : (sizes : TextSizes) (ss : List (List Word)) → sizes ≡ sizes_for ss → sizes_rooms sizes (lengths_of before) ≡ text_rooms (tables ss) (lengths_of before)
   rooms_by sizes ss e = ap (λ (z : TextSizes). sizes_rooms z (lengths_of before)) e ∙ rooms_are ss (lengths_of before)
 
-  has_room : (sizes : TextSizes) → outcome.answer ≡ TextReading.Read sizes → Roomy sizes
+  has_room : (sizes : TextSizes) → outcome.answer ≡ Ok sizes → Roomy sizes
   has_room sizes e =
       let a = read sizes e in
       let ss : List (List Word) = sequences a.formed.lines in
       subst AllWithin (sym (rooms_by sizes ss a.sizes_are)) (rooms (length text) ss (lengths_of before) a.checked)
 
-  is_read : (sizes : TextSizes) → answer ≡ TextReading.Read sizes → Roomy sizes → outcome.answer ≡ TextReading.Read sizes
+  is_read : (sizes : TextSizes) → answer ≡ Ok sizes → Roomy sizes → outcome.answer ≡ Ok sizes
   is_read sizes e r =
       let a = sized sizes e in
       let ss : List (List Word) = sequences a.formed.lines in
       let c = narrower (length text) ss (lengths_of before) a.checked (subst AllWithin (rooms_by sizes ss a.sizes_are) r) in
-      told outcome.answer (TextReading.Read sizes)
+      told outcome.answer (Ok sizes)
       (reads a.formed ∙ ap (λ (k : Checked). or_refused k (accepted (sizes_for ss))) c ∙ ap accepted (sym a.sizes_are))
 
-  is_short : (sizes : TextSizes) → answer ≡ TextReading.Read sizes → (Roomy sizes → ⊥) → said outcome.answer ≡ refused (numbered 2 0)
+  is_short : (sizes : TextSizes) → answer ≡ Ok sizes → (Roomy sizes → ⊥) → said outcome.answer ≡ refused (numbered 2 0)
   is_short sizes e n =
       let a = sized sizes e in
       let ss : List (List Word) = sequences a.formed.lines in
       let c = lacking (length text) ss (lengths_of before) (λ r. n (subst AllWithin (sym (rooms_by sizes ss a.sizes_are)) r)) in
       reads a.formed ∙ ap (λ (k : Checked). or_refused k (accepted (sizes_for ss))) c
 
-  same_sizes : (sizes : TextSizes) → outcome.answer ≡ TextReading.Read sizes → answer ≡ TextReading.Read sizes
+  same_sizes : (sizes : TextSizes) → outcome.answer ≡ Ok sizes → answer ≡ Ok sizes
   same_sizes sizes e =
       let a = read sizes e in
       let ss : List (List Word) = sequences a.formed.lines in
       let c = wider (length text) ss (lengths_of before) a.checked in
-      told answer (TextReading.Read sizes)
+      told answer (Ok sizes)
       (sizes_of a.formed ∙ ap (λ (k : Checked). or_refused k (accepted (sizes_for ss))) c ∙ ap accepted (sym a.sizes_are))
 
 pub sizes_tell : SizesTell

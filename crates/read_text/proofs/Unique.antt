@@ -1,4 +1,6 @@
 -- No two different outcomes satisfy the reader's promise, and some outcome does: every text is well-formed or has a place, and not both. Assumes nothing.
+use Rattle.std.specs.Prelude.{Ok, Err, Result}
+use Rattle.refusals.specs.declared.Refusal.{Refusal}
 use mathlib.Core.Path.{◌≡◌, refl, sym, ap, subst, ◌∙◌}
 use mathlib.Core.List.{List}
 use mathlib.Core.Logic.{◌⊎◌, inl, inr}
@@ -9,29 +11,26 @@ use Rattle.refusals.specs.Said.{Said, accepted, refused, or_refused}
 use Rattle.refusals.proofs.Said.{same_given, same_refusal}
 use Rattle.layout.specs.Layout.{Bytes, Line, WellFormed, sequences}
 use Rattle.layout.specs.Scan.{look, PlaceOf}
-use Rattle.layout.specs.declared.Found.{Found}
-use Rattle.layout.specs.declared.Found.TheVariants.{Whole, At}
 use Rattle.layout.proofs.Read.{one_one}
 use Rattle.layout.proofs.Place.{whole_meant, place_meant}
 use Rattle.text_tables.specs.Tables.{tables}
 use Rattle.read_text.specs.declared.TextSizes.{TextSizes}
-use Rattle.read_text.specs.declared.TextReading.{TextReading}
 use Rattle.read_text.specs.Promise.{Buffers, Outcome, said, sizes_for, checked_of, holding, Yields, Promised, OnlyOne, SomeOutcome}
 
 -- what is said tells the answer
-pub told : (a b : TextReading) → said a ≡ said b → a ≡ b
-told (TextReading.Read t) (TextReading.Read u) h = ap TextReading.Read (same_given h)
-told (TextReading.Read t) (TextReading.Refused v) h = let z : ◌≡◌ {A = ℕ} 0 1 = cc in absurd (omega arith)
-told (TextReading.Refused w) (TextReading.Read u) h = let z : ◌≡◌ {A = ℕ} 0 1 = cc in absurd (omega arith)
-told (TextReading.Refused w) (TextReading.Refused v) h = ap TextReading.Refused (same_refusal h)
+pub told : (a b : Result TextSizes Refusal) → said a ≡ said b → a ≡ b
+told (Ok t) (Ok u) h = ap Ok (same_given h)
+told (Ok t) (Err v) h = let z : ◌≡◌ {A = ℕ} 0 1 = cc in absurd (omega arith)
+told (Err w) (Ok u) h = let z : ◌≡◌ {A = ℕ} 0 1 = cc in absurd (omega arith)
+told (Err w) (Err v) h = ap Err (same_refusal h)
 
 -- every text is well-formed or has a place
 pub either : (text : Bytes) → WellFormed text ⊎ ((place : ℕ) × PlaceOf text place)
 either text = go (look text) refl
   where
-    go : (f : Found) → look text ≡ f → WellFormed text ⊎ ((place : ℕ) × PlaceOf text place)
-    go Whole e = inl ((whole_meant text).0 e)
-    go (At p) e = inr (p, (place_meant text p).0 e)
+    go : (f : Result (Unit {0}) ℕ) → look text ≡ f → WellFormed text ⊎ ((place : ℕ) × PlaceOf text place)
+    go (Ok _) e = inl ((whole_meant text).0 e)
+    go (Err p) e = inr (p, (place_meant text p).0 e)
 
 both_give : (answer : Said TextSizes) (contents : Buffers) (a b : Outcome) → Yields answer contents a → Yields answer contents b → a ≡ b
 both_give said_so contents a b p q =
@@ -48,16 +47,16 @@ only_one text before a b p q = go (either text)
 
 -- ---- some outcome does
 
-abbrev pub reading_of : Said TextSizes → TextReading
-reading_of (accepted sizes) = TextReading.Read sizes
-reading_of (refused why) = TextReading.Refused why
+abbrev pub reading_of : Said TextSizes → Result TextSizes Refusal
+reading_of (accepted sizes) = Ok sizes
+reading_of (refused why) = Err why
 
 pub said_back : (s : Said TextSizes) → said (reading_of s) ≡ s
 said_back (accepted sizes) = refl
 said_back (refused why) = refl
 
 pub same_place : (text : Bytes) (p r : ℕ) → PlaceOf text p → PlaceOf text r → p ≡ r
-same_place text p r g h = let e : At p ≡ At r = sym ((place_meant text p).1 g) ∙ (place_meant text r).1 h in cc
+same_place text p r g h = let e : ◌≡◌ {A = Result (Unit {0}) ℕ} (Err p) (Err r) = sym ((place_meant text p).1 g) ∙ (place_meant text r).1 h in cc
 
 pub some_outcome : SomeOutcome
 some_outcome text before = go (either text)
@@ -78,7 +77,7 @@ some_outcome text before = go (either text)
           },
         )
     go (inr (p, g)) =
-        let made : Outcome = record { answer = TextReading.Refused (numbered 11 p); after = before } in (
+        let made : Outcome = record { answer = Err (numbered 11 p); after = before } in (
           made,
           record {
             malformed = λ r k. record { answers = ap (λ (n : ℕ). refused (numbered 11 n)) (same_place text p r g k); after = refl };

@@ -1,5 +1,7 @@
 -- Desk cases T1, T3 and T6 of the promises: what any outcome of a reading that keeps it is, and any answer of the sizes. Assumes nothing.
-use Rattle.std.specs.Prelude.{◌≡◌, refl, true, false, ℕ, ◌≤◌, replicate}
+use Rattle.refusals.specs.declared.Refusal.{Refusal}
+use Rattle.read_text.specs.declared.TextSizes.{TextSizes}
+use Rattle.std.specs.Prelude.{◌≡◌, refl, true, false, ℕ, ◌≤◌, replicate, Result}
 use Rattle.std.proofs.Common.{arith}
 use mathlib.Core.List.{List, [], ◌∷◌, flatten}
 use Rattle.binary64.specs.Numbers.{nought}
@@ -9,7 +11,6 @@ use Rattle.layout.specs.Layout.{Bytes, Line, empty, word, Scale, point, none, So
 use Rattle.text_tables.specs.Distinct.{same, id_in, learnt, learnt_all}
 use Rattle.text_tables.specs.Tables.{starts_from, tables}
 use Rattle.text_check.specs.Rows.{text_sized, text_checked}
-use Rattle.read_text.specs.declared.TextReading.{TextReading}
 use Rattle.read_text.specs.Promise.{Buffers, Outcome, said, Promised}
 use Rattle.read_text.specs.Sizes.{SizesPromised}
 
@@ -82,11 +83,11 @@ unfolding text_of more_lines line_text text_checked tables sequences_from starts
 t3_refused before outcome p = ((p.whole (empty ∷ []) (tt, tt) refl).answers, (p.whole (empty ∷ []) (tt, tt) refl).after)
 
 -- T1 and T3 of the sizes, which need no table
-t1_sized : (answer : TextReading) → SizesPromised t1 answer →
+t1_sized : (answer : Result TextSizes Refusal) → SizesPromised t1 answer →
     said answer ≡ accepted (record { labels = 2; names = 2; instances = 2; words = 3; attributes = 3; label_bytes = 2; name_bytes = 2; scale_bytes = 5 })
 unfolding text_sized tables sequences_from starts_from flatten learnt_all learnt id_in same lowest or_next_of refuse
 t1_sized answer p = p.whole t1_lines t1_sound t1_made
 
-t3_sized : (answer : TextReading) → SizesPromised [] answer → said answer ≡ refused (numbered 2 0)
+t3_sized : (answer : Result TextSizes Refusal) → SizesPromised [] answer → said answer ≡ refused (numbered 2 0)
 unfolding text_of more_lines line_text text_sized tables sequences_from starts_from flatten learnt_all learnt id_in same lowest or_next_of refuse
 t3_sized answer p = p.whole (empty ∷ []) (tt, tt) refl

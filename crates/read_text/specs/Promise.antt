@@ -1,9 +1,8 @@
 -- What reading a training text promises: the answer, and what the twelve lent tables hold afterwards. It speaks of the lines that make the text; nothing is parsed. Assumes nothing.
-use Rattle.std.specs.Prelude.{◌≡◌, ℕ, length, Float}
+use Rattle.refusals.specs.declared.Refusal.{Refusal}
+use Rattle.std.specs.Prelude.{◌≡◌, ℕ, length, Float, Ok, Err, Result}
 use mathlib.Core.List.{List, flatten}
-use Rattle.refusals.specs.declared.Checked.{Checked}
-use Rattle.refusals.specs.declared.Checked.TheVariants.{Accepted, Refused}
-use Rattle.refusals.specs.Refusals.{numbered}
+use Rattle.refusals.specs.Refusals.{Checked, numbered}
 use Rattle.refusals.specs.Said.{Said, accepted, refused, or_refused}
 use Rattle.layout.specs.Layout.{Bytes, Word, Line, text_of, SoundText, sequences}
 use Rattle.layout.specs.Scan.{PlaceOf}
@@ -13,7 +12,6 @@ use Rattle.text_tables.specs.Laid.{laid}
 use Rattle.text_check.specs.declared.Lengths.{Lengths}
 use Rattle.text_check.specs.Rows.{text_checked}
 use Rattle.read_text.specs.declared.TextSizes.{TextSizes}
-use Rattle.read_text.specs.declared.TextReading.{TextReading}
 
 -- the tables that it is lent, in the call's order: where sequences and words begin, ids, values, reference labels, instance weights, and three lists of byte strings
 pub record Buffers : Type 0 where
@@ -32,12 +30,12 @@ pub record Buffers : Type 0 where
 
 -- the answer, and what they hold afterwards
 pub record Outcome : Type 0 where
-  pub answer : TextReading
+  pub answer : Result TextSizes Refusal
   pub after : Buffers
 
-abbrev pub said : TextReading → Said TextSizes
-said (TextReading.Read sizes) = accepted sizes
-said (TextReading.Refused why) = refused why
+abbrev pub said : Result TextSizes Refusal → Said TextSizes
+said (Ok sizes) = accepted sizes
+said (Err why) = refused why
 
 -- what is counted
 abbrev pub sizes_for : List (List Word) → TextSizes
@@ -94,8 +92,8 @@ laid_over t before = record {
 
 -- "after every refusal all twelve are as at entry"
 abbrev pub holding : Checked → Tables → Buffers → Buffers
-holding (Refused why) t before = before
-holding Accepted t before = laid_over t before
+holding (Err why) t before = before
+holding (Ok _) t before = laid_over t before
 
 -- this answer, and these contents
 pub record Yields (answer : Said TextSizes) (contents : Buffers) (outcome : Outcome) : Type 0 where

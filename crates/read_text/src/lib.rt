@@ -10,7 +10,7 @@ ghost use Rattle.read_text.specs.Lent.{buffers_of};
 ghost use Rattle.text_bytes.specs.Bytes.{Readable};
 ghost use Rattle.read_text.specs.Steps.{sizes_in_of, SmallSurvey, FreeSlots, SurveyMade};
 
-use refusals::{Checked, Refusal};
+use refusals::Refusal;
 use survey::Survey;
 use text_check::Lengths;
 
@@ -25,12 +25,6 @@ pub struct TextSizes {
     pub label_bytes: u32,
     pub name_bytes: u32,
     pub scale_bytes: u32,
-}
-
-#[derive(Clone, Copy)]
-pub enum TextReading {
-    Read(TextSizes),
-    Refused(Refusal),
 }
 
 // The figures of a survey as an answer.
@@ -72,7 +66,7 @@ fn fill_checked(
     attribute_names: &mut [u8],
     scale_starts: &mut [u32],
     scales: &mut [u8],
-) -> TextReading
+) -> Result<TextSizes, Refusal>
     requires { SurveyMade text.now labels.now slots.now positions.now survey }
     ensures { let before = buffers_of line_starts.old word_starts.old ids.old values.old references.old instance_weights.old label_name_starts.old label_names.old attribute_name_starts.old attribute_names.old scale_starts.old scales.old in
         let after = buffers_of line_starts.new word_starts.new ids.new values.new references.new instance_weights.new label_name_starts.new label_names.new attribute_name_starts.new attribute_names.new scale_starts.new scales.new in
@@ -92,10 +86,7 @@ fn fill_checked(
         scale_starts: scale_starts.len(),
         scale_bytes: scales.len(),
     };
-    let answer = text_check::check_text(survey, have);
-    if let Checked::Refused(why) = answer {
-        return TextReading::Refused(why);
-    }
+    text_check::check_text(survey, have)?;
     let known = survey.labels;
     let names = survey.names;
     fill_text::fill(
@@ -118,7 +109,7 @@ fn fill_checked(
         scale_starts,
         scales,
     );
-    TextReading::Read(sizes_in(survey))
+    Ok(sizes_in(survey))
 }
 
 // The survey, with lists of its own for the places of names: one more than may be, so that too many are seen. Then the rest.
@@ -137,7 +128,7 @@ fn read_with(
     attribute_names: &mut [u8],
     scale_starts: &mut [u32],
     scales: &mut [u8],
-) -> TextReading
+) -> Result<TextSizes, Refusal>
     requires { Readable text.now × FreeSlots slots.old }
     ensures { let before = buffers_of line_starts.old word_starts.old ids.old values.old references.old instance_weights.old label_name_starts.old label_names.old attribute_name_starts.old attribute_names.old scale_starts.old scales.old in
         let after = buffers_of line_starts.new word_starts.new ids.new values.new references.new instance_weights.new label_name_starts.new label_names.new attribute_name_starts.new attribute_names.new scale_starts.new scales.new in
@@ -182,15 +173,12 @@ pub fn read_text(
     attribute_names: &mut [u8],
     scale_starts: &mut [u32],
     scales: &mut [u8],
-) -> TextReading
+) -> Result<TextSizes, Refusal>
     ensures { let before = buffers_of line_starts.old word_starts.old ids.old values.old references.old instance_weights.old label_name_starts.old label_names.old attribute_name_starts.old attribute_names.old scale_starts.old scales.old in
         let after = buffers_of line_starts.new word_starts.new ids.new values.new references.new instance_weights.new label_name_starts.new label_names.new attribute_name_starts.new attribute_names.new scale_starts.new scales.new in
         Promised text.now before (record { answer = result; after = after }) }
 {
-    let checked = text_bytes::check_bytes(text);
-    if let Checked::Refused(why) = checked {
-        return TextReading::Refused(why);
-    }
+    text_bytes::check_bytes(text)?;
     let mut slots = [0u32; 131072];
     read_with(
         text,
@@ -211,25 +199,19 @@ pub fn read_text(
 }
 
 // 2 and 4 of a well-formed text that is not too long, or its sizes.
-fn sizes_readable(text: &[u8]) -> TextReading
+fn sizes_readable(text: &[u8]) -> Result<TextSizes, Refusal>
     requires { Readable text.now }
     ensures { (h : WellFormed text.now) → said result ≡ sized_of text.now (sequences h.lines) }
 {
     let survey = text_check::survey_alone(text);
-    let checked = text_check::check_sizes(survey);
-    if let Checked::Refused(why) = checked {
-        return TextReading::Refused(why);
-    }
-    TextReading::Read(sizes_in(survey))
+    text_check::check_sizes(survey)?;
+    Ok(sizes_in(survey))
 }
 
 // The sizes of a text; or the refusal.
-pub fn text_sizes(text: &[u8]) -> TextReading
+pub fn text_sizes(text: &[u8]) -> Result<TextSizes, Refusal>
     ensures { SizesPromised text.now result }
 {
-    let checked = text_bytes::check_bytes(text);
-    if let Checked::Refused(why) = checked {
-        return TextReading::Refused(why);
-    }
+    text_bytes::check_bytes(text)?;
     sizes_readable(text)
 }

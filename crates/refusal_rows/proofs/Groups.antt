@@ -1,4 +1,5 @@
 -- A call's rows in groups of one number each: the number is given exactly when the groups before are fine, and at the places that its own group says. Assumes nothing.
+use Rattle.std.specs.Prelude.{Ok, Err}
 use mathlib.Core.Path.{◌≡◌, refl, sym, ◌∙◌, ap}
 use mathlib.Core.Bool.{Bool, true, false, not, ◌&&◌}
 use mathlib.Core.List.{List, [], ◌∷◌, ◌++◌, append-nil, append_assoc}
@@ -8,9 +9,7 @@ use native.Mathlib.Omega.{arith}
 use borrow.Author.Tests.{eqb-true, eqb-false}
 use lib.Dec.{T, eqb, ltb, ltb→lt}
 use Rattle.refusals.specs.declared.Refusal.{Refusal}
-use Rattle.refusals.specs.declared.Checked.{Checked}
-use Rattle.refusals.specs.declared.Checked.TheVariants.{Accepted, Refused}
-use Rattle.refusals.specs.Refusals.{refused_at, first}
+use Rattle.refusals.specs.Refusals.{Checked, refused_at, first}
 use Rattle.refusals.specs.Meaning.{AllAccepted, FirstRefused}
 use Rattle.refusals.proofs.Laws.{all_accepted, accepted_all, first_refused, place_of_lem}
 use Rattle.score_tables.specs.Meaning.{Row}
@@ -134,8 +133,8 @@ module _ (place : ℕ) where
       (all_fine before) (mine.at place))
 
 -- accepted exactly when every group is fine
-pub accepted_when : (groups : List Group) → first (rows_of groups) ≡ Accepted ↔ AllFine groups
-accepted_when groups = (λ h. (all_fine groups).0 (all_accepted Accepted (rows_of groups) h).1, λ f. accepted_all (rows_of groups) ((all_fine groups).1 f))
+pub accepted_when : (groups : List Group) → first (rows_of groups) ≡ Ok tt ↔ AllFine groups
+accepted_when groups = (λ h. (all_fine groups).0 (all_accepted (Ok tt) (rows_of groups) h).1, λ f. accepted_all (rows_of groups) ((all_fine groups).1 f))
 
 -- no other number is given
 abbrev pub numbers_of : List Group → List ℕ
@@ -164,7 +163,7 @@ module _ (refusal : Refusal) where
   whose [] r = r
   whose (group ∷ groups) r = ⊎_elim (λ m. inl (own group m)) (λ m. inr (whose groups m)) (parts group.rows (rows_of groups) (rw (rows_cons group groups) at r))
 
-  pub given_only : (groups : List Group) → first (rows_of groups) ≡ Refused refusal → OneOf (numbers_of groups) refusal.number
+  pub given_only : (groups : List Group) → first (rows_of groups) ≡ Err refusal → OneOf (numbers_of groups) refusal.number
   given_only groups h = whose groups (first_refused refusal (rows_of groups) h)
 
 -- none of these numbers is 0: a test that computes

@@ -1,4 +1,5 @@
 -- The sooner of two parts is one part: both limits, and both tests by their numbers, those of one number as they stood. Assumes nothing.
+use Rattle.std.specs.Prelude.{Ok, Err}
 use mathlib.Core.Path.{◌≡◌, refl, sym, ◌∙◌, ap}
 use mathlib.Core.Bool.{Bool, true, false, ◌||◌}
 use mathlib.Core.List.{List, [], ◌∷◌, ◌++◌}
@@ -6,9 +7,7 @@ use Prim.Native.Nat.{ℕ, zero, suc, ◌<◌}
 use native.Mathlib.Omega.{arith}
 use lib.Dec.{T}
 use Rattle.refusals.specs.declared.Refusal.{Refusal}
-use Rattle.refusals.specs.declared.Checked.{Checked}
-use Rattle.refusals.specs.declared.Checked.TheVariants.{Accepted, Refused}
-use Rattle.refusals.specs.Refusals.{refuse, or_next_of, first, first_from, rank, sooner}
+use Rattle.refusals.specs.Refusals.{Checked, refuse, or_next_of, first, first_from, rank, sooner}
 use Rattle.refusals.proofs.Laws.{number_of_lem, test_number, settled}
 use Rattle.refusals.proofs.Ranks.{sooner_assoc, sooner_swap, in_turn, from_first, checks_of, soonest, sorted, none_below, rising, soonest_parts, sorted_soonest, first_soonest, least}
 use Rattle.refusal_rows.specs.Limits.{Limit, room, any_broken, two, Within, AllWithin}
@@ -19,7 +18,7 @@ use Rattle.refusal_rows.proofs.Means.{limits_mean, broken_parts, two_means, test
 -- ---- tests by their numbers
 
 -- a test refuses under its own number
-own : (test : Test) (why : Refusal) → checked test ≡ Refused why → rank why ≡ number_of test
+own : (test : Test) (why : Refusal) → checked test ≡ Err why → rank why ≡ number_of test
 own test why h = number_of_lem ((test_means test).only why h)
 
 -- the tests by their numbers, those of one number as they stood
@@ -47,7 +46,7 @@ behind_two (ids_below which table n bound ∷ tests) = behind_two tests
 behind_two (sources_below which kinds table n labels ∷ tests) = behind_two tests
 behind_two (numbers_finite which table n ∷ tests) = behind_two tests
 
-above_two : (limits : List Limit) (tests : List Test) (x y : Refusal) → two limits ≡ Refused x → soonest_of tests ≡ Refused y → rank x < rank y
+above_two : (limits : List Limit) (tests : List Test) (x y : Refusal) → two limits ≡ Err x → soonest_of tests ≡ Err y → rank x < rank y
 above_two limits tests x y h k =
     omega (arith, test_number 2 0 (any_broken limits) x h, least number_of checked own 3 tests (behind_two tests) y k)
 
@@ -129,9 +128,9 @@ same_limits xs ys to from p q =
 
 two_in_turn : (answer : Checked) (a b : Bool) → or_next_of (or_next_of answer (refuse 2 0 a)) (refuse 2 0 b) ≡ or_next_of answer (refuse 2 0 (a || b))
 unfolding or_next_of refuse
-two_in_turn (Refused why) a b = refl
-two_in_turn Accepted true b = refl
-two_in_turn Accepted false b = refl
+two_in_turn (Err why) a b = refl
+two_in_turn (Ok _) true b = refl
+two_in_turn (Ok _) false b = refl
 
 -- after the answer so far: 2 of the counts, 2 of the rooms, the tests
 pub as_rows : (answer : Checked) (limits counts rooms : List Limit) (tests : List Test) → any_broken limits ≡ any_broken (counts ++ rooms) →
@@ -149,15 +148,6 @@ pub two_parts : (ls ms : List Limit) → refuse 2 0 (any_broken ls || any_broken
 two_parts ls ms = ap (refuse 2 0) (sym (broken_parts ls ms))
 
 module _ (limits : List Limit) (tests : List Test) where
-  -- a refusal by a limit is the part's
-  pub part_stopped : {sizes : Checked} (why : Refusal) → sizes ≡ two limits → sizes ≡ Refused why → Refused why ≡ part_checked limits tests
-  unfolding part_checked or_next_of
-  part_stopped why e h = sym (settled (two limits) (checks tests) why (sym e ∙ h))
-
   -- an accepted size is within its limits
-  pub part_within : {sizes : Checked} → sizes ≡ two limits → sizes ≡ Accepted → AllWithin limits
+  pub part_within : {sizes : Checked} → sizes ≡ two limits → sizes ≡ Ok tt → AllWithin limits
   part_within e h = (two_means limits).accepted.0 (sym e ∙ h)
-
-  pub part_answered : {sizes answer : Checked} → sizes ≡ two limits → answer ≡ first_from sizes (checks tests) → answer ≡ part_checked limits tests
-  unfolding part_checked or_next_of
-  part_answered e f = f ∙ ap (λ (a : Checked). first_from a (checks tests)) e

@@ -4,7 +4,7 @@ use mathlib.Core.List.{List, [], ◌∷◌}
 use mathlib.Core.Logic.{◌↔◌, inl, inr}
 use Prim.Native.Nat.{ℕ, ◌*◌}
 use lib.Ieee.{Float}
-use Rattle.refusals.specs.declared.Checked.{Checked}
+use Rattle.refusals.specs.Refusals.{Checked}
 use Rattle.refusals.specs.Meaning.{FirstRefused}
 use Rattle.refusals.proofs.Laws.{place_of_lem}
 use Rattle.score_tables.specs.Rows.{sixes}

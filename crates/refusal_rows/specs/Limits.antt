@@ -1,7 +1,6 @@
 -- Row 2 of document 01's table as lists of limits: counts within their bounds, and room in what is lent. A call has a list of each, counts first. Assumes nothing.
 use Rattle.std.specs.Prelude.{Bool, true, false, ◌||◌, ◌&&◌, List, [], ◌∷◌, ℕ, ◌+◌, ◌≤◌, ltb, leb}
-use Rattle.refusals.specs.declared.Checked.{Checked}
-use Rattle.refusals.specs.Refusals.{refuse}
+use Rattle.refusals.specs.Refusals.{Checked, refuse}
 use Rattle.refusals.specs.Tables.{short}
 use Rattle.refusals.specs.Bounds.{Count, position, bound, Inside, most, outside_its}
 

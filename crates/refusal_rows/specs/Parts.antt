@@ -1,7 +1,6 @@
 -- A part of a call's rows: what one narrow check looks at. A call takes the sooner of its parts. Assumes nothing.
 use Rattle.std.specs.Prelude.{List, ◌∷◌}
-use Rattle.refusals.specs.declared.Checked.{Checked}
-use Rattle.refusals.specs.Refusals.{first}
+use Rattle.refusals.specs.Refusals.{Checked, first}
 use Rattle.refusal_rows.specs.Limits.{Limit, two}
 use Rattle.refusal_rows.specs.Tests.{Test, checks}
 

@@ -2,8 +2,7 @@
 use Rattle.std.specs.Prelude.{◌≡◌, Bool, true, false, ◌&&◌, List, [], ◌∷◌, ◌⊎◌, ℕ, ◌+◌, ◌-◌, ◌<◌, ◌≤◌, leb, get_or, Float}
 use Rattle.std.specs.Float.{nan}
 use Rattle.std.specs.Float.Ieee.Scale.{finite}
-use Rattle.refusals.specs.declared.Checked.{Checked}
-use Rattle.refusals.specs.Refusals.{lowest}
+use Rattle.refusals.specs.Refusals.{Checked, lowest}
 use Rattle.refusals.specs.Tables.{starts_checked, kinds_checked, ids_checked, sources_checked, numbers_checked}
 use Rattle.refusals.specs.Bounds.{Table, word_table, table_position, the_line_words, outside_its}
 use Rattle.refusals.specs.Meaning.{FirstBad, BadStart}

@@ -1,4 +1,5 @@
 -- The checks of one table mean what `Meaning` says: one law over the test, and each test against its row. Assumes nothing.
+use Rattle.std.specs.Prelude.{Ok, Err}
 use mathlib.Core.Path.{◌≡◌, refl, sym, ◌∙◌, ap}
 use mathlib.Core.Bool.{Bool, true, false, ◌&&◌, ◌||◌, or-true, true≢false, false≢true}
 use mathlib.Core.Logic.{◌↔◌, ⊎_elim}
@@ -15,7 +16,6 @@ use Rattle.refusals.specs.Refusals.{refused_at, refuse, or_next_of, lowest}
 use Rattle.refusals.specs.Tables.{bad_start, start_before, bad_kind, not_below, bad_source, not_finite, kinds_checked, ids_checked, sources_checked, numbers_checked}
 use Rattle.refusals.specs.Meaning.{FirstBad, Exactly, BadStart, not_zero, falls, not_the_count, StartsMean, KindsMean, IdsMean, SourcesMean, NumbersMean, Starts, StartsKept, FirstMeans}
 use Rattle.refusals.specs.declared.Refusal.{Refusal}
-use Rattle.refusals.specs.declared.Checked.TheVariants.{Accepted, Refused}
 use Rattle.refusals.proofs.Laws.{hit, never, both, either, passes, holds, number_of_lem, place_of_lem, all_accepted, accepted_all, first_refused, refused_first}
 
 -- ---- the law over the test
@@ -36,19 +36,19 @@ clash : {A : Type 0} (b : Bool) → b ≡ true → b ≡ false → A
 clash b p q = absurd (true≢false (sym p ∙ q))
 
 module _ (number : ℕ) (test : ℕ → Bool) where
-  pub accepted_means : (n : ℕ) → lowest number test n ≡ Accepted → (i : ℕ) → i < n → test i ≡ false
+  pub accepted_means : (n : ℕ) → lowest number test n ≡ Ok tt → (i : ℕ) → i < n → test i ≡ false
   unfolding lowest
   accepted_means zero h i b = absurd (omega arith)
   accepted_means (suc n) h i b =
       let s = both (lowest number test n) (refuse number n (test n)) h in
       by_last i n b (λ e. rw e (passes number n (test n) s.1)) (λ l. accepted_means n s.0 i l)
 
-  pub accepted_if : (n : ℕ) → ((i : ℕ) → i < n → test i ≡ false) → lowest number test n ≡ Accepted
+  pub accepted_if : (n : ℕ) → ((i : ℕ) → i < n → test i ≡ false) → lowest number test n ≡ Ok tt
   unfolding lowest or_next_of refuse
   accepted_if zero h = refl
   accepted_if (suc n) h = let l : n < suc n = omega arith in rw (accepted_if n (λ i b. h i (omega arith)), h n l)
 
-  pub refused_means : (n : ℕ) (why : Refusal) → lowest number test n ≡ Refused why → (Refused why ≡ refused_at number why.place) × FirstBad (λ i. test i ≡ true) n why.place
+  pub refused_means : (n : ℕ) (why : Refusal) → lowest number test n ≡ Err why → (Err why ≡ refused_at number why.place) × FirstBad (λ i. test i ≡ true) n why.place
   unfolding lowest
   refused_means zero why h = never refl h
   refused_means (suc n) why h =
@@ -61,7 +61,7 @@ module _ (number : ℕ) (test : ℕ → Bool) where
       (either (lowest number test n) (refuse number n (test n)) why h)
 
   -- a table refuses under its own number only
-  pub table_number : (n : ℕ) (why : Refusal) → lowest number test n ≡ Refused why → why.number ≡ number
+  pub table_number : (n : ℕ) (why : Refusal) → lowest number test n ≡ Err why → why.number ≡ number
   table_number n why h = number_of_lem (refused_means n why h).0
 
   -- a check by a test that tells the bad places
@@ -132,16 +132,16 @@ starts_mean starts n entries = exactly 3 (bad_start starts n entries) (n + 1) (B
 
 -- ---- what an accepted table gives to whoever reads it
 
-pub kinds_known : (kinds : List ℕ) (n : ℕ) → kinds_checked kinds n ≡ Accepted → (i : ℕ) → i < n → get_or kinds i 0 ≤ 1
+pub kinds_known : (kinds : List ℕ) (n : ℕ) → kinds_checked kinds n ≡ Ok tt → (i : ℕ) → i < n → get_or kinds i 0 ≤ 1
 kinds_known kinds n h i l = ltb-false 1 (get_or kinds i 0) (accepted_means 5 (bad_kind kinds) n h i l)
 
-pub ids_below : (ids : List ℕ) (n bound : ℕ) → ids_checked ids n bound ≡ Accepted → (i : ℕ) → i < n → get_or ids i 0 < bound
+pub ids_below : (ids : List ℕ) (n bound : ℕ) → ids_checked ids n bound ≡ Ok tt → (i : ℕ) → i < n → get_or ids i 0 < bound
 ids_below ids n bound h i l = leb-false bound (get_or ids i 0) (accepted_means 5 (not_below ids bound) n h i l)
 
-pub sources_below : (kinds sources : List ℕ) (n labels : ℕ) → sources_checked kinds sources n labels ≡ Accepted → (i : ℕ) → i < n → get_or kinds i 0 ≡ 1 → get_or sources i 0 < labels
+pub sources_below : (kinds sources : List ℕ) (n labels : ℕ) → sources_checked kinds sources n labels ≡ Ok tt → (i : ℕ) → i < n → get_or kinds i 0 ≡ 1 → get_or sources i 0 < labels
 sources_below kinds sources n labels h i l k = lt_of_not-le (λ b. (sources_mean kinds sources n labels).accepted.0 h i l (k, b))
 
-pub numbers_finite : (numbers : List Float) (n : ℕ) → numbers_checked numbers n ≡ Accepted → (i : ℕ) → i < n → finite (get_or numbers i nan) ≡ true
+pub numbers_finite : (numbers : List Float) (n : ℕ) → numbers_checked numbers n ≡ Ok tt → (i : ℕ) → i < n → finite (get_or numbers i nan) ≡ true
 numbers_finite numbers n h i l = not-false (finite (get_or numbers i nan)) (accepted_means 6 (not_finite numbers) n h i l)
 
 same_unless : (a b : ℕ) → ((a ≡ b → ⊥) → ⊥) → a ≡ b
@@ -192,4 +192,4 @@ within {n = n} s i l = within_by s (n - i) i (omega arith)
 -- ---- checks in order
 
 pub first_means : FirstMeans
-first_means checks = ((λ h. (all_accepted Accepted checks h).1, accepted_all checks), λ why. (first_refused why checks, refused_first why checks))
+first_means checks = ((λ h. (all_accepted (Ok tt) checks h).1, accepted_all checks), λ why. (first_refused why checks, refused_first why checks))

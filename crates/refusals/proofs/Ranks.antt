@@ -1,4 +1,5 @@
 -- The laws of `sooner`: several answers may be taken together in any way that keeps those of one rank in order. Assumes nothing.
+use Rattle.std.specs.Prelude.{Ok, Err}
 use mathlib.Core.Path.{◌≡◌, refl, sym, ◌∙◌, ap}
 use mathlib.Core.Bool.{Bool, true, false, ◌&&◌, cond}
 use mathlib.Core.List.{List, [], ◌∷◌, ◌++◌}
@@ -7,27 +8,25 @@ use Prim.Native.Nat.{ℕ, ◌<◌, ◌≤◌}
 use native.Mathlib.Omega.{arith}
 use borrow.Author.Tests.{ltb-true, ltb-false, lt-ltb, le-ltb}
 use lib.Dec.{T, ltb, leb, leb→le}
-use Rattle.refusals.specs.Refusals.{or_next_of, first_from, first, rank, sooner}
+use Rattle.refusals.specs.Refusals.{or_next_of, first_from, first, rank, sooner, Checked}
 use Rattle.refusals.specs.declared.Refusal.{Refusal}
-use Rattle.refusals.specs.declared.Checked.{Checked}
-use Rattle.refusals.specs.declared.Checked.TheVariants.{Accepted, Refused}
 use Rattle.refusals.proofs.Laws.{never, settled}
 
 -- ---- two and three answers
 
-pub sooner_none : (a : Checked) → sooner a Accepted ≡ a
+pub sooner_none : (a : Checked) → sooner a (Ok tt) ≡ a
 unfolding sooner
-sooner_none Accepted = refl
-sooner_none (Refused x) = refl
+sooner_none (Ok _) = refl
+sooner_none (Err x) = refl
 
 pub sooner_assoc : (a b c : Checked) → sooner (sooner a b) c ≡ sooner a (sooner b c)
 unfolding sooner
-sooner_assoc Accepted b c = refl
-sooner_assoc (Refused x) Accepted c = refl
-sooner_assoc (Refused x) (Refused y) Accepted = sooner_none (sooner (Refused x) (Refused y))
-sooner_assoc (Refused x) (Refused y) (Refused z) = go (ltb (rank y) (rank x)) (ltb (rank z) (rank y)) refl refl
+sooner_assoc (Ok _) b c = refl
+sooner_assoc (Err x) (Ok _) c = refl
+sooner_assoc (Err x) (Err y) (Ok _) = sooner_none (sooner (Err x) (Err y))
+sooner_assoc (Err x) (Err y) (Err z) = go (ltb (rank y) (rank x)) (ltb (rank z) (rank y)) refl refl
   where
-    go : (p q : Bool) → ltb (rank y) (rank x) ≡ p → ltb (rank z) (rank y) ≡ q → sooner (sooner (Refused x) (Refused y)) (Refused z) ≡ sooner (Refused x) (sooner (Refused y) (Refused z))
+    go : (p q : Bool) → ltb (rank y) (rank x) ≡ p → ltb (rank z) (rank y) ≡ q → sooner (sooner (Err x) (Err y)) (Err z) ≡ sooner (Err x) (sooner (Err y) (Err z))
     go true true d e =
         let l = ltb-true (rank y) (rank x) d in
         let m = ltb-true (rank z) (rank y) e in
@@ -41,42 +40,42 @@ sooner_assoc (Refused x) (Refused y) (Refused z) = go (ltb (rank y) (rank x)) (l
 
 -- every refusal of the one has a lower rank than every refusal of the other, or one not above it
 abbrev pub Below : Checked → Checked → Type 0
-Below a b = (x y : Refusal) → a ≡ Refused x → b ≡ Refused y → rank x < rank y
+Below a b = (x y : Refusal) → a ≡ Err x → b ≡ Err y → rank x < rank y
 
 abbrev pub NotAbove : Checked → Checked → Type 0
-NotAbove a b = (x y : Refusal) → a ≡ Refused x → b ≡ Refused y → rank x ≤ rank y
+NotAbove a b = (x y : Refusal) → a ≡ Err x → b ≡ Err y → rank x ≤ rank y
 
 pub sooner_swap : (a b : Checked) → Below a b → sooner a b ≡ sooner b a
 unfolding sooner
-sooner_swap Accepted b l = sym (sooner_none b)
-sooner_swap (Refused x) Accepted l = refl
-sooner_swap (Refused x) (Refused y) l =
+sooner_swap (Ok _) b l = sym (sooner_none b)
+sooner_swap (Err x) (Ok _) l = refl
+sooner_swap (Err x) (Err y) l =
     let k : rank x < rank y = l x y refl refl in
     rw (lt-ltb (rank x) (rank y) k, le-ltb (rank y) (rank x) (omega arith))
 
 -- where what comes first has no higher rank, `sooner` is `orNext`
 pub in_turn : (a b : Checked) → NotAbove a b → or_next_of a b ≡ sooner a b
 unfolding sooner or_next_of
-in_turn Accepted b l = refl
-in_turn (Refused x) Accepted l = refl
-in_turn (Refused x) (Refused y) l = let k : rank x ≤ rank y = l x y refl refl in rw (le-ltb (rank y) (rank x) k)
+in_turn (Ok _) b l = refl
+in_turn (Err x) (Ok _) l = refl
+in_turn (Err x) (Err y) l = let k : rank x ≤ rank y = l x y refl refl in rw (le-ltb (rank y) (rank x) k)
 
 -- a refusal is one of the two
-pub whose : (a b : Checked) (why : Refusal) → sooner a b ≡ Refused why → (a ≡ Refused why) ⊎ (b ≡ Refused why)
+pub whose : (a b : Checked) (why : Refusal) → sooner a b ≡ Err why → (a ≡ Err why) ⊎ (b ≡ Err why)
 unfolding sooner
-whose Accepted b why h = inr h
-whose (Refused x) Accepted why h = inl h
-whose (Refused x) (Refused y) why h = go (ltb (rank y) (rank x)) h
+whose (Ok _) b why h = inr h
+whose (Err x) (Ok _) why h = inl h
+whose (Err x) (Err y) why h = go (ltb (rank y) (rank x)) h
   where
-    go : (t : Bool) → cond t (Refused y) (Refused x) ≡ Refused why → (Refused x ≡ Refused why) ⊎ (Refused y ≡ Refused why)
+    go : (t : Bool) → ◌≡◌ {A = Checked} (cond t (Err y) (Err x)) (Err why) → (◌≡◌ {A = Checked} (Err x) (Err why)) ⊎ (◌≡◌ {A = Checked} (Err y) (Err why))
     go true e = inr e
     go false e = inl e
 
 -- checks in order, after an answer
 pub from_first : (answer : Checked) (checks : List Checked) → first_from answer checks ≡ or_next_of answer (first checks)
 unfolding or_next_of
-from_first Accepted checks = refl
-from_first (Refused why) checks = settled (Refused why) checks why refl
+from_first (Ok _) checks = refl
+from_first (Err why) checks = settled (Err why) checks why refl
 
 both : (a b : Bool) → T (a && b) → T a × T b
 both true b t = (tt, t)
@@ -91,7 +90,7 @@ module _ {A : Type 0} (rank_of : A → ℕ) (check_of : A → Checked) where
 
   -- the lowest rank of all, of equal ranks the first
   abbrev pub soonest : List A → Checked
-  soonest [] = Accepted
+  soonest [] = Ok tt
   soonest (x ∷ xs) = sooner (check_of x) (soonest xs)
 
   -- by rank, those of one rank as they stood
@@ -112,7 +111,7 @@ module _ {A : Type 0} (rank_of : A → ℕ) (check_of : A → Checked) where
   rising [] = true
   rising (x ∷ xs) = none_below (rank_of x) xs && rising xs
 
-  module _ (own : (x : A) (why : Refusal) → check_of x ≡ Refused why → rank why ≡ rank_of x) where
+  module _ (own : (x : A) (why : Refusal) → check_of x ≡ Err why → rank why ≡ rank_of x) where
     pub soonest_parts : (xs ys : List A) → soonest (xs ++ ys) ≡ sooner (soonest xs) (soonest ys)
     unfolding sooner
     soonest_parts [] ys = refl
@@ -136,7 +135,7 @@ module _ {A : Type 0} (rank_of : A → ℕ) (check_of : A → Checked) where
     sorted_soonest [] = refl
     sorted_soonest (x ∷ xs) = put_soonest x (sorted xs) ∙ ap (sooner (check_of x)) (sorted_soonest xs)
 
-    pub least : (k : ℕ) (xs : List A) → T (none_below k xs) → (why : Refusal) → soonest xs ≡ Refused why → k ≤ rank why
+    pub least : (k : ℕ) (xs : List A) → T (none_below k xs) → (why : Refusal) → soonest xs ≡ Err why → k ≤ rank why
     least k [] t why h = never refl h
     least k (x ∷ xs) t why h =
         let s = both (leb k (rank_of x)) (none_below k xs) t in

@@ -1,7 +1,6 @@
 -- Decided points and rows of document 01, computed. Assumes nothing.
-use Rattle.std.specs.Prelude.{◌≡◌, refl, false, true, [], ◌∷◌, pos}
+use Rattle.std.specs.Prelude.{◌≡◌, refl, false, true, [], ◌∷◌, pos, Ok}
 use Rattle.std.specs.Float.{nan, inf, fin}
-use Rattle.refusals.specs.declared.Checked.TheVariants.{Accepted}
 use Rattle.refusals.specs.Refusals.{refused_at, refuse, or_next_of, sooner, lowest, first}
 use Rattle.refusals.specs.Tables.{outside, starts_checked, kinds_checked, ids_checked, sources_checked, numbers_checked}
 
@@ -21,7 +20,7 @@ unfolding lowest or_next_of refuse
 falling = refl
 
 -- "with no lists that is one start, which has to be 0 and equal to the entry count"
-no_lists : starts_checked (0 ∷ []) 0 0 ≡ Accepted
+no_lists : starts_checked (0 ∷ []) 0 0 ≡ Ok tt
 unfolding lowest or_next_of refuse
 no_lists = refl
 
@@ -45,7 +44,7 @@ unfolding lowest or_next_of refuse
 state_source = refl
 
 -- "its tail is neither read nor tested"
-tail : ids_checked (0 ∷ 1 ∷ 99 ∷ []) 2 2 ≡ Accepted
+tail : ids_checked (0 ∷ 1 ∷ 99 ∷ []) 2 2 ≡ Ok tt
 unfolding lowest or_next_of refuse
 tail = refl
 
@@ -60,6 +59,6 @@ unfolding lowest or_next_of refuse
 lowest_number = refl
 
 -- "The lowest number wins" of two checks, whichever was made first; of equal numbers the first
-lower_first : (sooner (refused_at 6 0) (refused_at 3 2) ≡ refused_at 3 2) × (sooner (refused_at 5 1) (refused_at 5 0) ≡ refused_at 5 1) × (sooner Accepted (refused_at 6 0) ≡ refused_at 6 0)
+lower_first : (sooner (refused_at 6 0) (refused_at 3 2) ≡ refused_at 3 2) × (sooner (refused_at 5 1) (refused_at 5 0) ≡ refused_at 5 1) × (sooner (Ok tt) (refused_at 6 0) ≡ refused_at 6 0)
 unfolding sooner
 lower_first = (refl, refl, refl)

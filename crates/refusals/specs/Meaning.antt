@@ -1,11 +1,9 @@
 -- What the checks of one table mean, and what several in order mean, in plain terms. Each claim is proved in proofs/Meant. Assumes nothing.
-use Rattle.std.specs.Prelude.{◌≡◌, false, List, [], ◌∷◌, ◌⊎◌, ◌↔◌, ℕ, ◌+◌, ◌-◌, ◌<◌, ◌≤◌, get_or, Float}
+use Rattle.std.specs.Prelude.{◌≡◌, false, List, [], ◌∷◌, ◌⊎◌, ◌↔◌, ℕ, ◌+◌, ◌-◌, ◌<◌, ◌≤◌, get_or, Float, Ok, Err}
 use Rattle.std.specs.Float.{nan}
 use Rattle.std.specs.Float.Ieee.Scale.{finite}
 use Rattle.refusals.specs.declared.Refusal.{Refusal}
-use Rattle.refusals.specs.declared.Checked.{Checked}
-use Rattle.refusals.specs.declared.Checked.TheVariants.{Accepted, Refused}
-use Rattle.refusals.specs.Refusals.{refused_at, first}
+use Rattle.refusals.specs.Refusals.{Checked, refused_at, first}
 use Rattle.refusals.specs.Tables.{starts_checked, kinds_checked, ids_checked, sources_checked, numbers_checked}
 
 -- "the lowest index": p is bad, and no place before it
@@ -16,9 +14,9 @@ pub record FirstBad (Bad : ℕ → Type 0) (n p : ℕ) : Type 0 where
 
 -- "Given exactly when": a check of n places accepts exactly when none is bad, refuses exactly at the first bad one, and under no other number
 pub record Exactly (check : Checked) (number n : ℕ) (Bad : ℕ → Type 0) : Type 0 where
-  pub accepted : (check ≡ Accepted) ↔ ((i : ℕ) → i < n → Bad i → ⊥)
+  pub accepted : (check ≡ Ok tt) ↔ ((i : ℕ) → i < n → Bad i → ⊥)
   pub refused : (p : ℕ) → (check ≡ refused_at number p) ↔ FirstBad Bad n p
-  pub only : (why : Refusal) → check ≡ Refused why → Refused why ≡ refused_at number why.place
+  pub only : (why : Refusal) → check ≡ Err why → Err why ≡ refused_at number why.place
 
 -- a start that breaks the rule: the first that is not 0, one below the start before it, the last that is not the entry count
 pub data BadStart (starts : List ℕ) (n entries i : ℕ) : Type 0 where
@@ -53,18 +51,18 @@ pub record Starts (starts : List ℕ) (n entries : ℕ) : Type 0 where
   pub ends : get_or starts n 0 ≡ entries
 
 abbrev pub StartsKept : Type 0
-StartsKept = (starts : List ℕ) (n entries : ℕ) → (starts_checked starts n entries ≡ Accepted) ↔ Starts starts n entries
+StartsKept = (starts : List ℕ) (n entries : ℕ) → (starts_checked starts n entries ≡ Ok tt) ↔ Starts starts n entries
 
 -- every one of the checks accepts
 abbrev pub AllAccepted : List Checked → Type 0
 AllAccepted [] = Unit
-AllAccepted (check ∷ checks) = (check ≡ Accepted) × AllAccepted checks
+AllAccepted (check ∷ checks) = (check ≡ Ok tt) × AllAccepted checks
 
 -- one of the checks refuses so, and all before it accept
 abbrev pub FirstRefused : Refusal → List Checked → Type 0
 FirstRefused why [] = ⊥
-FirstRefused why (check ∷ checks) = (check ≡ Refused why) ⊎ ((check ≡ Accepted) × FirstRefused why checks)
+FirstRefused why (check ∷ checks) = (check ≡ Err why) ⊎ ((check ≡ Ok tt) × FirstRefused why checks)
 
 -- checks in order: accepted exactly when all accept, refused exactly as the first that refuses
 abbrev pub FirstMeans : Type 0
-FirstMeans = (checks : List Checked) → ((first checks ≡ Accepted) ↔ AllAccepted checks) × ((why : Refusal) → (first checks ≡ Refused why) ↔ FirstRefused why checks)
+FirstMeans = (checks : List Checked) → ((first checks ≡ Ok tt) ↔ AllAccepted checks) × ((why : Refusal) → (first checks ≡ Err why) ↔ FirstRefused why checks)

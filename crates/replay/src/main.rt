@@ -3,76 +3,22 @@
 // both the records and the lines that are expected.
 #![tactic(auto)]
 
-mod answers;
-mod text;
+mod answer;
+mod operation;
+mod record;
 
-ghost use Rattle.std.specs.Prelude.{◌<◌};
-
-use std::io::{self, ErrorKind, Read, Write};
-
-// The word at a place of a record.
-fn word_at(record: &[u8; 128], place: usize) -> u64 {
-    let mut word = 0u64;
-    let mut i = 8usize;
-    while 0 < i {
-        i -= 1;
-        word = (word % 72057594037927936) * 256 + byte_at(record, place, i);
-    }
-    word
-}
-
-fn byte_at(record: &[u8; 128], place: usize, i: usize) -> u64
-    ensures { result < 256 }
-{
-    if place < 16 {
-        if i < 8 {
-            return wide(record[place * 8 + i]);
-        }
-    }
-    0
-}
-
-fn wide(b: u8) -> u64
-    ensures { result < 256 }
-{
-    b as u64
-}
-
-// The record's table of twelve.
-fn table_of(record: &[u8; 128]) -> [u64; 12] {
-    let mut table = [0u64; 12];
-    let mut i = 0usize;
-    while i < 12 {
-        table[i] = word_at(record, i + 4);
-        i += 1;
-    }
-    table
-}
-
-// One record, or the end of the input.
-fn replay_one<R: Read, W: Write>(input: &mut R, out: &mut W) -> io::Result<bool> {
-    let mut record = [0u8; 128];
-    match input.read_exact(&mut record) {
-        Ok(()) => {}
-        Err(e) if e.kind() == ErrorKind::UnexpectedEof => return Ok(false),
-        Err(e) => return Err(e),
-    }
-    let operation = word_at(&record, 0);
-    let a = word_at(&record, 1);
-    let b = word_at(&record, 2);
-    let c = word_at(&record, 3);
-    let table = table_of(&record);
-    answers::answer(out, operation, a, b, c, table)?;
-    Ok(true)
-}
+use record::Record;
+use std::io::{self, Write};
 
 // A proved loop has to end, and nothing says that the input does.
 fn main(rt: HostRuntime) -> io::Result<()> {
     let mut input = rt.reader();
     let mut out = io::writer(&rt);
-    let mut turns = 100000u32;
-    while turns > 0 && replay_one(&mut input, &mut out)? {
-        turns -= 1;
+    for _ in 0..100_000 {
+        let Some(record) = Record::read(&mut input)? else {
+            break;
+        };
+        writeln!(out, "{}", operation::answer(&record))?;
     }
     Ok(())
 }

@@ -1,5 +1,5 @@
 -- A scale gathered byte by byte is the scale's value. Assumes nothing.
-use Rattle.std.proofs.Common.{◌≡◌, ℕ, suc, ◌+◌, ◌-◌, ◌*◌, ◌^◌, ◌<◌, ◌≤◌, Bool, true, false, cond, [], ◌∷◌, ◌++◌, length, get_or, drop, sym, refl, ap, ◌∙◌, subst, append-nil, le_trans, pow-suc, add-one, arith, drop_of_length-le, drop-cons, ne_eqb}
+use Rattle.std.proofs.Common.{◌≡◌, ℕ, suc, ◌+◌, ◌-◌, ◌*◌, ◌^◌, ◌<◌, ◌≤◌, Bool, true, false, cond, [], ◌∷◌, ◌++◌, length, drop, sym, refl, ap, ◌∙◌, subst, append-nil, le_trans, pow-suc, add-one, arith, drop_of_length-le, ne_eqb}
 use lib.Ieee.{Float, binary64, round}
 use Rattle.layout.specs.Layout.{Bytes, Digits, Part, none, point as pointed, part_text, fraction, minus_text, Scale}
 use Rattle.scales.specs.declared.Amount.{Amount}
@@ -160,24 +160,8 @@ pub record Gathering (text : Bytes) (a : Amount) (i : ℕ) : Type 0 where
   pub goes : Goes a (drop i text)
   pub same : gathered a (drop i text) ≡ gathered start text
 
-here : (text : Bytes) (i : ℕ) → i < length text → drop i text ≡ get_or text i 0 ∷ drop (i + 1) text
-here text i h = drop-cons text i 0 h ∙ ap (λ (k : ℕ). get_or text i 0 ∷ drop k text) (sym (add-one i))
-
 pub begins : (text : Bytes) → Scale text → Gathering text start 0
 begins text h = record { inside = omega arith; goes = (scale_ends text h).goes; same = refl }
-
-pub ready : (text : Bytes) (a : Amount) (i : ℕ) → Gathering text a i → i < length text → Ready a (get_or text i 0)
-ready text a i g h =
-    let t = subst (Goes a) (here text i h) g.goes in
-    let w = t.0 in
-    record { digit = t.1; amount = w.amount; behind = w.behind; few = w.few }
-
-pub again : (text : Bytes) (a r : Amount) (i : ℕ) → Gathering text a i → i < length text → r ≡ taken a (get_or text i 0) → Gathering text r (i + 1)
-again text a r i g h e = record {
-  inside = omega (arith, h);
-  goes = subst (λ (z : Amount). Goes z (drop (i + 1) text)) (sym e) (subst (Goes a) (here text i h) g.goes).2;
-  same = ap (λ (z : Amount). gathered z (drop (i + 1) text)) e ∙ ap (gathered a) (sym (here text i h)) ∙ g.same;
-}
 
 pub bounded : (text : Bytes) (a : Amount) (i : ℕ) → Gathering text a i → (a.amount ≤ 1000000000000000) × (a.behind ≤ 15)
 bounded text a i g =
@@ -197,10 +181,3 @@ amount_fits a b r = le_trans (lower a.amount (10 ^ a.digits) r.amount) (tens a.d
   where
     lower : (x y : ℕ) → x < y → x ≤ y
     lower x y h = omega (arith, h)
-
-pub behind_fits : (a : Amount) (b : ℕ) → Ready a b → a.behind ≤ 15
-behind_fits a b r = le_trans r.behind r.few
-
-pub one_byte : (a : Amount) (b w k : ℕ) → (b ≡ 45 → ⊥) → (b ≡ 46 → ⊥) → w ≡ b → k ≡ cond a.point (a.behind + 1) a.behind
-    → ◌≡◌ {A = Amount} (record { minus = a.minus; point = a.point; digits = a.digits + 1; amount = a.amount * 10 + (w - 48); behind = k }) (taken a b)
-one_byte a b w k h g e f = rw (ne_eqb b 45 h, ne_eqb b 46 g, e, f) refl

@@ -1,4 +1,5 @@
 -- The rows of the score tables mean what `Meaning` says. Assumes nothing.
+use Rattle.std.specs.Prelude.{Ok}
 use mathlib.Core.Path.{◌≡◌}
 use mathlib.Core.List.{List}
 use mathlib.Core.Logic.{◌↔◌, inl, inr}
@@ -9,7 +10,6 @@ use lib.Dec.{T}
 use lib.ListN.{length, get_or}
 use lib.Ieee.{Float, nan}
 use lib.Ieee.Scale.{finite}
-use Rattle.refusals.specs.declared.Checked.TheVariants.{Accepted}
 use Rattle.refusals.specs.Tables.{numbers_checked}
 use Rattle.refusals.specs.Meaning.{FirstRefused}
 use Rattle.refusals.proofs.Laws.{passes}
@@ -37,10 +37,10 @@ short_means count path = row 2 _ (λ h. ltb-false (length path) count (passes 2 
 
 -- one table of numbers
 module _ (numbers : List Float) (n : ℕ) where
-  pub finite_to : numbers_checked numbers n ≡ Accepted → FiniteTo numbers n
+  pub finite_to : numbers_checked numbers n ≡ Ok tt → FiniteTo numbers n
   finite_to h i b = true_holds (numbers_finite numbers n h i b)
 
-  pub to_finite : FiniteTo numbers n → numbers_checked numbers n ≡ Accepted
+  pub to_finite : FiniteTo numbers n → numbers_checked numbers n ≡ Ok tt
   to_finite f = (numbers_mean numbers n).accepted.1 (λ i b e. rw e at (f i b))
 
 -- a table row by row, and entry by entry

@@ -1,19 +1,18 @@
 -- Rows in order: one number is given exactly when the rows before its own accept, and its own give it. Assumes nothing.
+use Rattle.std.specs.Prelude.{Ok, Err}
 use mathlib.Core.Path.{◌≡◌, refl, sym, ◌∙◌}
 use mathlib.Core.Bool.{Bool, true, false}
 use mathlib.Core.List.{List, [], ◌∷◌, ◌++◌}
 use mathlib.Core.Logic.{◌↔◌, inl, inr}
 use Prim.Native.Nat.{ℕ}
 use Rattle.refusals.specs.declared.Refusal.{Refusal}
-use Rattle.refusals.specs.declared.Checked.{Checked}
-use Rattle.refusals.specs.declared.Checked.TheVariants.{Accepted, Refused}
-use Rattle.refusals.specs.Refusals.{refused_at, refuse, first}
+use Rattle.refusals.specs.Refusals.{Checked, refused_at, refuse, first}
 use Rattle.refusals.specs.Meaning.{FirstBad, Exactly, AllAccepted, FirstRefused}
 use Rattle.refusals.proofs.Laws.{never, holds, number_of_lem, first_refused, refused_first}
 use Rattle.score_tables.specs.Meaning.{Row}
 
 -- a row of one test, which fails exactly where all is fine
-pub row : {Fine : Type 0} (number : ℕ) (test : Bool) → (refuse number 0 test ≡ Accepted → Fine) → (Fine → test ≡ false) → Row (refuse number 0 test) number Fine
+pub row : {Fine : Type 0} (number : ℕ) (test : Bool) → (refuse number 0 test ≡ Ok tt → Fine) → (Fine → test ≡ false) → Row (refuse number 0 test) number Fine
 unfolding refuse
 row {Fine} number test to from = record {
   accepted = (to, λ f. yes_if test (from f));
@@ -21,7 +20,7 @@ row {Fine} number test to from = record {
   only = λ why h. (holds number 0 test why h).1;
 }
   where
-    yes_if : (test : Bool) → test ≡ false → refuse number 0 test ≡ Accepted
+    yes_if : (test : Bool) → test ≡ false → refuse number 0 test ≡ Ok tt
     yes_if test e = rw e
 
     not_if : (test : Bool) → (test ≡ false → ⊥) → refuse number 0 test ≡ refused_at number 0
@@ -111,8 +110,8 @@ of_two {a} {b} {number} {P} {Q} r s = (to, λ n. from n a refl)
     to (inr (_, inr (_, h))) f = h
 
     from : (P × Q → ⊥) → (check : Checked) → a ≡ check → FirstRefused (why number 0) (a ∷ b ∷ [])
-    from n Accepted e = inr (e, inl (s.refused.1 (λ q. n (r.accepted.0 e, q))))
-    from n (Refused w) e = inl (e ∙ r.only w e)
+    from n (Ok _) e = inr (e, inl (s.refused.1 (λ q. n (r.accepted.0 e, q))))
+    from n (Err w) e = inl (e ∙ r.only w e)
 
 pub of_table : {check : Checked} {number n : ℕ} {Bad : ℕ → Type 0} (place : ℕ) → Exactly check number n Bad → FirstRefused (why number place) (check ∷ []) ↔ FirstBad Bad n place
 of_table {check} {number} {n} {Bad} place t = (to, λ f. inl ((t.refused place).1 f))

@@ -1,9 +1,7 @@
 -- What the rows of the score tables mean in plain terms: each number exactly when document 01 gives it. The proofs are in proofs/Meant.
-use Rattle.std.specs.Prelude.{◌≡◌, List, ◌↔◌, ℕ, ◌*◌, Float}
+use Rattle.std.specs.Prelude.{◌≡◌, List, ◌↔◌, ℕ, ◌*◌, Float, Ok, Err}
 use Rattle.refusals.specs.declared.Refusal.{Refusal}
-use Rattle.refusals.specs.declared.Checked.{Checked}
-use Rattle.refusals.specs.declared.Checked.TheVariants.{Accepted, Refused}
-use Rattle.refusals.specs.Refusals.{refused_at}
+use Rattle.refusals.specs.Refusals.{Checked, refused_at}
 use Rattle.refusals.specs.Meaning.{FirstBad}
 use Rattle.fronts.specs.Finite.{FiniteTo, NotFinite}
 use Rattle.score_tables.specs.Rows.{one, four, scores_short}
@@ -11,9 +9,9 @@ use Rattle.score_tables.specs.Sound.{LabelsIn, WordsIn, ScoresRoom}
 
 -- a row with place 0: "given exactly when" something is not fine, and under no other number
 pub record Row (check : Checked) (number : ℕ) (Fine : Type 0) : Type 0 where
-  pub accepted : (check ≡ Accepted) ↔ Fine
+  pub accepted : (check ≡ Ok tt) ↔ Fine
   pub refused : (check ≡ refused_at number 0) ↔ (Fine → ⊥)
-  pub only : (why : Refusal) → check ≡ Refused why → Refused why ≡ refused_at number 0
+  pub only : (why : Refusal) → check ≡ Err why → Err why ≡ refused_at number 0
 
 abbrev pub OneMeans : Type 0
 OneMeans = (labels : ℕ) → Row (one labels) 1 (LabelsIn labels)

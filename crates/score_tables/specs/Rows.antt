@@ -1,7 +1,6 @@
 -- Document 01, "Numbered refusals", the rows that concern the score tables of one line, and their order. Assumes nothing.
 use Rattle.std.specs.Prelude.{◌||◌, List, [], ◌∷◌, ℕ, ◌*◌, length, Float}
-use Rattle.refusals.specs.declared.Checked.{Checked}
-use Rattle.refusals.specs.Refusals.{first, refuse}
+use Rattle.refusals.specs.Refusals.{Checked, first, refuse}
 use Rattle.refusals.specs.Tables.{short, numbers_checked}
 use Rattle.refusals.specs.Bounds.{the_labels, the_line_words, outside_its}
 

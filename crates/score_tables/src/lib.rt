@@ -1,13 +1,13 @@
 // The score tables of one line: their bounds, and the refusals 1, 4, 2 and 6 that every call shares which is lent
-// them (decode, path score). Each check takes the answer so far, so that a call can put its own tests between.
-#![tactic(auto)]
+// them (decode, path score).
+#![tactic(auto, using(refusals::proofs::Laws::handed), unfolding(refusals::specs::Refusals::or_next_of))]
 
 ghost use Rattle.std.specs.Prelude.{◌≡◌, ◌*◌};
-ghost use Rattle.refusals.specs.Refusals.{or_next_of, first_from};
+ghost use Rattle.refusals.specs.Refusals.{first};
 ghost use Rattle.score_tables.specs.Rows.{one, scores_short, sixes, bounds_checked};
 ghost use Rattle.score_tables.specs.Sound.{ScoresRoom};
 
-use refusals::Checked;
+use refusals::Refusal;
 
 pub const MOST_LABELS: u32 = 32;
 
@@ -21,50 +21,44 @@ pub fn entries(rows: u32, width: u32) -> usize
 }
 
 // 1.
-pub fn check_labels(labels: u32) -> Checked
+pub fn check_labels(labels: u32) -> Result<(), Refusal>
     ensures { result ≡ one labels }
 {
-    let outside = refusals::is_outside(1, MOST_LABELS, labels);
-    refusals::refuse_if(Checked::Accepted, 1, 0, outside)
+    refusals::refuse_if(1, 0, refusals::is_outside(1, MOST_LABELS, labels))
 }
 
 // 1 and 4: "a call that takes T as a number tests 4 right after 1".
-pub fn check_bounds(labels: u32, words: u32) -> Checked
+pub fn check_bounds(labels: u32, words: u32) -> Result<(), Refusal>
     ensures { result ≡ bounds_checked labels words }
 {
-    let a = check_labels(labels);
-    refusals::refuse_if(a, 4, 0, refusals::is_outside(1, MOST_WORDS, words))
+    check_labels(labels)?;
+    refusals::refuse_if(4, 0, refusals::is_outside(1, MOST_WORDS, words))
 }
 
 // 2 for the two tables; a call's own buffers are its own to test.
 pub fn check_room(
-    answer: Checked,
     labels: u32,
     words: u32,
     transitions: &[f64],
     states: &[f64],
-) -> Checked
-    ensures { result ≡ or_next_of answer (scores_short labels words transitions.now states.now) }
+) -> Result<(), Refusal>
+    ensures { result ≡ scores_short labels words transitions.now states.now }
 {
     let short = (transitions.len() < entries(labels, labels))
         | (states.len() < entries(words, labels));
-    refusals::refuse_if(answer, 2, 0, short)
+    refusals::refuse_if(2, 0, short)
 }
 
-// 6, transitions before states. Where the answer so far refuses, nothing is read.
+// 6, transitions before states.
 pub fn check_finite(
-    answer: Checked,
     labels: u32,
     words: u32,
     transitions: &[f64],
     states: &[f64],
-) -> Checked
-    requires { answer ≡ Checked.Accepted → ScoresRoom labels words transitions.now states.now }
-    ensures { result ≡ first_from answer (sixes labels words transitions.now states.now) }
+) -> Result<(), Refusal>
+    requires { ScoresRoom labels words transitions.now states.now }
+    ensures { result ≡ first (sixes labels words transitions.now states.now) }
 {
-    if let Checked::Refused(why) = answer {
-        return Checked::Refused(why);
-    }
-    let a = table_checks::check_numbers(answer, transitions, entries(labels, labels));
-    table_checks::check_numbers(a, states, entries(words, labels))
+    table_checks::check_numbers(transitions, entries(labels, labels))?;
+    table_checks::check_numbers(states, entries(words, labels))
 }

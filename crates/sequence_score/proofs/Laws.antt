@@ -1,5 +1,6 @@
 -- The laws of `path_score` that its loop leans on, and what the rows give a call that accepts. Assumes nothing.
-use mathlib.Core.Path.{◌≡◌, refl, sym}
+use Rattle.std.specs.Prelude.{Ok}
+use mathlib.Core.Path.{◌≡◌, refl}
 use mathlib.Core.List.{List, ◌∷◌, ◌++◌}
 use Prim.Native.Nat.{ℕ, zero, suc, ◌+◌, ◌-◌, ◌*◌, ◌<◌, ◌≤◌}
 use native.Mathlib.Nat.{le_trans, lt_of_lt_of_le, mul-le-mul_right}
@@ -8,11 +9,8 @@ use native.Mathlib.Omega.{arith}
 use borrow.Author.Tests.{ltb-false}
 use lib.ListN.{length}
 use lib.Ieee.{Float, binary64, add, of_bits}
-use Rattle.refusals.specs.declared.Refusal.{Refusal}
-use Rattle.refusals.specs.declared.Checked.{Checked}
-use Rattle.refusals.specs.declared.Checked.TheVariants.{Accepted, Refused}
-use Rattle.refusals.specs.Refusals.{first, or_next_of}
-use Rattle.refusals.proofs.Laws.{settled, all_accepted, passes}
+use Rattle.refusals.specs.Refusals.{Checked}
+use Rattle.refusals.proofs.Laws.{all_accepted, passes}
 use Rattle.refusals.proofs.Meant.{ids_below}
 use Rattle.best_path.specs.Scores.{Scores, label_at}
 use Rattle.best_path.specs.PathScore.{path_score}
@@ -50,40 +48,29 @@ module _ {labels : ℕ} {transitions states : List Float} {path : List ℕ} {cou
   pub transition_within : (before label : ℕ) → before < labels → label < labels → before * labels + label < length transitions
   transition_within before label b l = lt_of_lt_of_le (within labels labels before label b l) met.long_transitions
 
--- both tables of numbers, checked from an accepted answer, come after the labels
-pub after : (sizes labels transitions states : Checked) → sizes ≡ Accepted → or_next_of (or_next_of sizes labels) (or_next_of (or_next_of sizes transitions) states) ≡ or_next_of (or_next_of (or_next_of sizes labels) transitions) states
-unfolding or_next_of
-after sizes Accepted transitions states h = rw h
-after sizes (Refused why) transitions states h = rw h
-
 module _ (labels words : ℕ) (transitions states : List Float) (path : List ℕ) (count : ℕ) where
   abbrev rows : List Checked
   rows = sizes labels words transitions states path count
 
-  -- a refusal by size is the call's
-  pub stopped : (why : Refusal) → path_sized labels words transitions states path count ≡ Refused why → Refused why ≡ path_checked labels words transitions states path count
-  unfolding path_sized path_checked
-  stopped why h = sym (settled (first rows) (five labels path count ∷ sixes labels words transitions states) why h)
-
   -- 1, 4 and 2 accept: there is room in the path
-  pub path_room : path_sized labels words transitions states path count ≡ Accepted → count ≤ length path
+  pub path_room : path_sized labels words transitions states path count ≡ Ok tt → count ≤ length path
   unfolding path_sized
   path_room h =
-      let a = (all_accepted Accepted rows h).1 in
+      let a = (all_accepted (Ok tt) rows h).1 in
       ltb-false (length path) count (passes 2 0 _ a.1.1.1.1.0)
 
   -- and in the tables
-  pub tables_room : path_sized labels words transitions states path count ≡ Accepted → ScoresRoom labels words transitions states
+  pub tables_room : path_sized labels words transitions states path count ≡ Ok tt → ScoresRoom labels words transitions states
   unfolding path_sized
   tables_room h =
-      let a = (all_accepted Accepted rows h).1 in
+      let a = (all_accepted (Ok tt) rows h).1 in
       room a.1.1.1.0
 
   -- all accept
-  pub sound : path_checked labels words transitions states path count ≡ Accepted → SoundPath labels words transitions states path count
+  pub sound : path_checked labels words transitions states path count ≡ Ok tt → SoundPath labels words transitions states path count
   unfolding path_checked
   sound h =
-      let a = (all_accepted Accepted (rows ++ (five labels path count ∷ sixes labels words transitions states)) h).1 in
+      let a = (all_accepted (Ok tt) (rows ++ (five labels path count ∷ sixes labels words transitions states)) h).1 in
       let z = a.1.1.1.1.1 in
       record {
         sized_path = record {
@@ -96,7 +83,7 @@ module _ (labels words : ℕ) (transitions states : List Float) (path : List ℕ
       }
 
   -- so every entry that the path meets is within its table
-  pub met : path_checked labels words transitions states path count ≡ Accepted → Met labels transitions states path count
+  pub met : path_checked labels words transitions states path count ≡ Ok tt → Met labels transitions states path count
   met h =
       let s = sound h in
       let p = s.sized_path in

@@ -5,8 +5,7 @@ use mathlib.Core.Logic.{◌↔◌}
 use Prim.Native.Nat.{ℕ, ◌≤◌, ◌<◌}
 use native.Mathlib.Omega.{arith}
 use borrow.Author.Tests.{ltb-false, le-ltb}
-use Rattle.refusals.specs.declared.Checked.{Checked}
-use Rattle.refusals.specs.Refusals.{numbered}
+use Rattle.refusals.specs.Refusals.{Checked, numbered}
 use Rattle.refusals.specs.Said.{accepted, or_refused}
 use Rattle.refusals.specs.Meaning.{Exactly}
 use Rattle.refusals.proofs.Laws.{passes}

@@ -1,6 +1,5 @@
 -- What a path score answers, in plain terms: each number exactly when document 01 gives it, and with which place. The proofs are in proofs/Meant; for C in decoding_exports.
-use Rattle.std.specs.Prelude.{◌≡◌, [], ◌∷◌, ◌↔◌, ℕ, ◌≤◌, length, Float}
-use Rattle.refusals.specs.declared.Checked.TheVariants.{Accepted}
+use Rattle.std.specs.Prelude.{◌≡◌, [], ◌∷◌, ◌↔◌, ℕ, ◌≤◌, length, Float, Ok, Result}
 use Rattle.refusals.specs.Refusals.{numbered, refused_at}
 use Rattle.refusals.specs.Said.{accepted, refused}
 use Rattle.refusals.specs.Meaning.{FirstBad}
@@ -8,7 +7,7 @@ use Rattle.best_path.specs.Scores.{label_at}
 use Rattle.score_tables.specs.Sound.{LabelsIn, WordsIn, ScoresRoom}
 use Rattle.score_tables.specs.Meaning.{SixAt}
 use Rattle.refusal_rows.specs.Given.{AtZero, OneOf}
-use Rattle.sequence_score.specs.declared.PathScore.{PathScore}
+use Rattle.refusals.specs.declared.Refusal.{Refusal}
 use Rattle.sequence_score.specs.Sound.{LabelsBelow, SoundPath}
 use Rattle.sequence_score.specs.Promise.{Given, said, checked_of, Promised}
 
@@ -39,10 +38,10 @@ pub record Meaning (Refuses : ℕ → ℕ → Type 0) (Accepts : Type 0) (given 
 
 -- of the check
 abbrev pub PathsMean : Type 0
-PathsMean = (given : Given) → Meaning (λ number place. checked_of given ≡ refused_at number place) (checked_of given ≡ Accepted) given
+PathsMean = (given : Given) → Meaning (λ number place. checked_of given ≡ refused_at number place) (checked_of given ≡ Ok tt) given
 
 -- of whatever satisfies the promise: a score exactly when no number is given
 abbrev pub AnswersMean : Type 0
 AnswersMean =
-    (given : Given) (outcome : PathScore) → Promised given outcome →
+    (given : Given) (outcome : Result Float Refusal) → Promised given outcome →
     Meaning (λ number place. said outcome ≡ refused (numbered number place)) ((score : Float) × (said outcome ≡ accepted score)) given

@@ -1,7 +1,6 @@
 -- Document 01, "Numbered refusals", row by row for a path score, and their order. Assumes nothing.
 use Rattle.std.specs.Prelude.{List, [], ◌∷◌, ◌++◌, ℕ, ltb, Float}
-use Rattle.refusals.specs.declared.Checked.{Checked}
-use Rattle.refusals.specs.Refusals.{first, refuse}
+use Rattle.refusals.specs.Refusals.{Checked, first, refuse}
 use Rattle.refusals.specs.Tables.{ids_checked}
 use Rattle.score_tables.specs.Rows.{one, four, scores_short, path_short, sixes}
 

@@ -9,13 +9,7 @@ ghost use Rattle.sequence_score.specs.Rows.{path_sized, path_checked};
 ghost use Rattle.sequence_score.specs.Sound.{Met};
 ghost use Rattle.sequence_score.specs.Promise.{Promised};
 
-use refusals::{Checked, Refusal};
-
-#[derive(Clone, Copy)]
-pub enum PathScore {
-    Scored(f64),
-    Refused(Refusal),
-}
+use refusals::Refusal;
 
 // The label that the path gives to a word, as an index.
 fn label(path: &[u32], word: usize) -> usize
@@ -48,20 +42,20 @@ pub fn score_path(
         return 0.0;
     }
     let mut before = label(path, 0);
-    let mut score = 0.0 + entry(states, labels, 0, before);
-    let mut word = 1usize;
-    while word < count {
+    let first = entry(states, labels, 0, before);
+    let mut score = 0.0 + first;
+    for word in 1..count {
         let next = label(path, word);
         let state = entry(states, labels, word, next);
         let transition = entry(transitions, labels, before, next);
         score = score + state + transition;
         before = next;
-        word += 1;
     }
     score
 }
 
 // 1, 4 and 2: what can be said before a table is read.
+#[tactic(auto, using(refusals::proofs::Laws::handed), unfolding(refusals::specs::Refusals::or_next_of, crate::specs::Rows::path_sized))]
 fn check_sizes(
     labels: u32,
     words: u32,
@@ -69,16 +63,17 @@ fn check_sizes(
     states: &[f64],
     path: &[u32],
     count: u32,
-) -> Checked
+) -> Result<(), Refusal>
     ensures { result ≡ path_sized labels words transitions.now states.now path.now count }
 {
-    let a = score_tables::check_bounds(labels, words);
-    let b = refusals::refuse_if(a, 4, 0, words < count);
-    let c = score_tables::check_room(b, labels, words, transitions, states);
-    refusals::refuse_if(c, 2, 0, path.len() < count as usize)
+    score_tables::check_bounds(labels, words)?;
+    refusals::refuse_if(4, 0, words < count)?;
+    score_tables::check_room(labels, words, transitions, states)?;
+    refusals::refuse_if(2, 0, path.len() < count as usize)
 }
 
 // Every refusal of the call.
+#[tactic(auto, using(refusals::proofs::Laws::handed, crate::proofs::Laws::path_room, crate::proofs::Laws::tables_room), unfolding(refusals::specs::Refusals::or_next_of, crate::specs::Rows::path_sized, crate::specs::Rows::path_checked))]
 fn check_path(
     labels: u32,
     words: u32,
@@ -86,19 +81,16 @@ fn check_path(
     states: &[f64],
     path: &[u32],
     count: u32,
-) -> Checked
+) -> Result<(), Refusal>
     ensures { result ≡ path_checked labels words transitions.now states.now path.now count }
 {
-    let sizes = check_sizes(labels, words, transitions, states, path, count);
-    if let Checked::Refused(why) = sizes {
-        return Checked::Refused(why);
-    }
-    let five = table_checks::check_ids(sizes, path, count as usize, labels);
-    let six = score_tables::check_finite(sizes, labels, words, transitions, states);
-    refusals::or_next(five, six)
+    check_sizes(labels, words, transitions, states, path, count)?;
+    table_checks::check_ids(path, count as usize, labels)?;
+    score_tables::check_finite(labels, words, transitions, states)
 }
 
 // The score of the first `count` labels of a path over the tables of a line, or the refusal.
+#[tactic(auto, using(refusals::proofs::Laws::handed, crate::proofs::Laws::met), unfolding(crate::specs::Promise::answer_to))]
 pub fn sequence_score(
     labels: u32,
     words: u32,
@@ -106,12 +98,9 @@ pub fn sequence_score(
     states: &[f64],
     path: &[u32],
     count: u32,
-) -> PathScore
+) -> Result<f64, Refusal>
     ensures { Promised (record { labels = labels; words = words; transitions = transitions.now; states = states.now; path = path.now; count = count }) result }
 {
-    let checked = check_path(labels, words, transitions, states, path, count);
-    if let Checked::Refused(why) = checked {
-        return PathScore::Refused(why);
-    }
-    PathScore::Scored(score_path(labels as usize, transitions, states, path, count as usize))
+    check_path(labels, words, transitions, states, path, count)?;
+    Ok(score_path(labels as usize, transitions, states, path, count as usize))
 }

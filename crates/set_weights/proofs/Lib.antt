@@ -1,3 +1,4 @@
+pub mod Front
 pub mod Laws
 pub mod Meant
 pub mod Unique

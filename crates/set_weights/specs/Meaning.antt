@@ -1,6 +1,5 @@
 -- What `set_weights` refuses, in plain terms: each number exactly when document 01 gives it, and with which place; of the check, and of whatever satisfies the promise. The proofs are in proofs/Meant; for C in model_exports.
-use Rattle.std.specs.Prelude.{◌≡◌, List, [], ◌∷◌, ◌↔◌, ℕ, length, Float}
-use Rattle.refusals.specs.declared.Checked.TheVariants.{Accepted}
+use Rattle.std.specs.Prelude.{◌≡◌, List, [], ◌∷◌, ◌↔◌, ℕ, length, Float, Ok}
 use Rattle.refusals.specs.Refusals.{refused_at}
 use Rattle.refusal_rows.specs.Limits.{Fitting}
 use Rattle.refusal_rows.specs.Tests.{AllGood, FirstBadOf}
@@ -15,9 +14,9 @@ pub record Meaning (Refuses : ℕ → ℕ → Type 0) (Accepts : Type 0) (given 
   pub accepted : Accepts ↔ Fitting (new_counts given) (new_rooms given have) × AllGood (new_tests given)
 
 abbrev pub NewWeightsMean : Type 0
-NewWeightsMean = (given : Setting) (have : ℕ) → Meaning (λ number place. new_checked given have ≡ refused_at number place) (new_checked given have ≡ Accepted) given have
+NewWeightsMean = (given : Setting) (have : ℕ) → Meaning (λ number place. new_checked given have ≡ refused_at number place) (new_checked given have ≡ Ok tt) given have
 
 -- of whatever satisfies the promise of `set_weights`
 abbrev pub AnswersMean : Type 0
 AnswersMean = (given : Setting) (before : List Float) (outcome : Outcome) → WeightsSet given before outcome →
-    Meaning (λ number place. outcome.answer ≡ refused_at number place) (outcome.answer ≡ Accepted) given (length before)
+    Meaning (λ number place. outcome.answer ≡ refused_at number place) (outcome.answer ≡ Ok tt) given (length before)

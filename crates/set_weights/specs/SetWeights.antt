@@ -1,8 +1,6 @@
 -- What `set_weights` promises: document 01's answer, and the table's contents afterwards, for refused calls too. Assumes nothing.
-use Rattle.std.specs.Prelude.{◌≡◌, List, [], ◌∷◌, ◌++◌, ℕ, length, take, drop, Float}
-use Rattle.refusals.specs.declared.Checked.{Checked}
-use Rattle.refusals.specs.declared.Checked.TheVariants.{Accepted, Refused}
-use Rattle.refusals.specs.Refusals.{first}
+use Rattle.std.specs.Prelude.{◌≡◌, List, [], ◌∷◌, ◌++◌, ℕ, length, take, drop, Float, Ok, Err}
+use Rattle.refusals.specs.Refusals.{Checked, first}
 use Rattle.refusals.specs.Bounds.{the_features, weight_table}
 use Rattle.refusal_rows.specs.Limits.{Limit, count, room, two}
 use Rattle.refusal_rows.specs.Tests.{Test, numbers_finite, checks}
@@ -39,8 +37,8 @@ new_checked given have = first (two (new_counts given) ∷ two (new_rooms given 
 
 -- "every lent buffer holds its entry contents" where the call is refused; else the first F are the new weights, and the rest is as it was
 abbrev pub table_after : Checked → Setting → List Float → List Float
-table_after (Refused why) given before = before
-table_after Accepted given before = take given.features given.new ++ drop given.features before
+table_after (Err why) given before = before
+table_after (Ok _) given before = take given.features given.new ++ drop given.features before
 
 unfoldable pub answer_to : Setting → List Float → Said Unit
 answer_to given before = said_of (new_checked given (length before))

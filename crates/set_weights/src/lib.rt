@@ -4,43 +4,35 @@
 ghost use Rattle.std.specs.Prelude.{◌≡◌, ◌++◌, ◌≤◌, length, take, drop};
 ghost use Rattle.set_weights.specs.SetWeights.{new_checked, WeightsSet};
 
-use refusals::Checked;
+use refusals::Refusal;
 
-// The first n of a table become those of another.
+// The first n of a table become those of another. As a loop: the library's copy takes more stack than a call from C may.
 fn copy_front(n: usize, new: &[f64], weights: &mut [f64])
     requires n_in_bounds { n ≤ length new.now }
     requires n_in_bounds_2 { n ≤ length weights.old }
     ensures { weights.new ≡ take n new.now ++ drop n weights.old }
 {
-    let mut i = 0usize;
-    while i < n {
+    for i in 0..n {
         weights[i] = new[i];
-        i += 1;
     }
 }
 
 // 2 of the count, 2 of the rooms, then 6, of new weights for a table of this length.
-fn check_new(features: u32, new: &[f64], have: usize) -> Checked
+#[tactic(auto, using(refusals::proofs::Laws::handed), unfolding(refusals::specs::Refusals::or_next_of, crate::specs::SetWeights::new_checked))]
+fn check_new(features: u32, new: &[f64], have: usize) -> Result<(), Refusal>
     ensures { result ≡ new_checked (record { features = features; new = new.now }) have }
 {
     let n = features as usize;
-    let outside = feature_gen::MOST_FEATURES < features;
-    let counted = refusals::refuse_if(Checked::Accepted, 2, 0, outside);
-    let two = refusals::refuse_if(counted, 2, 0, (new.len() < n) | (have < n));
-    if let Checked::Refused(why) = two {
-        return Checked::Refused(why);
-    }
-    table_checks::check_numbers(two, new, n)
+    refusals::refuse_if(2, 0, feature_gen::MOST_FEATURES < features)?;
+    refusals::refuse_if(2, 0, (new.len() < n) | (have < n))?;
+    table_checks::check_numbers(new, n)
 }
 
 // Every feature gets a new weight. A call that is refused changes nothing.
-pub fn set_weights(features: u32, new: &[f64], weights: &mut [f64]) -> Checked
+pub fn set_weights(features: u32, new: &[f64], weights: &mut [f64]) -> Result<(), Refusal>
     ensures { WeightsSet (record { features = features; new = new.now }) weights.old (record { answer = result; weights = weights.new }) }
 {
-    let answer = check_new(features, new, weights.len());
-    if let Checked::Refused(why) = answer {
-        return Checked::Refused(why);
-    }
+    check_new(features, new, weights.len())?;
     copy_front(features as usize, new, weights);
-    Checked::Accepted
+    Ok(())
 }

@@ -1,4 +1,5 @@
 -- What `read_sheet` accepts is exactly the files of sound sheets. Assumes nothing.
+use Rattle.std.specs.Prelude.{Ok, Err}
 use mathlib.Core.Path.{◌≡◌, refl, sym, ◌∙◌, ap}
 use mathlib.Core.List.{List, [], ◌∷◌, ◌++◌, append-nil}
 use Prim.Native.Nat.{ℕ, ◌+◌, ◌*◌, ◌/◌, ◌%◌, ◌≤◌}
@@ -7,8 +8,7 @@ use lib.ListN.{length, get_or, take, drop, length-append, take-append-drop, leng
 use lib.Seq.{drop_at, drop-cons, drop-drop, take_all}
 use lib.Ieee.{Float, binary64}
 use lib.Ieee.Bits.{of_bits-fits}
-use Rattle.refusals.specs.declared.Checked.{Checked}
-use Rattle.refusals.specs.declared.Checked.TheVariants.{Accepted, Refused}
+use Rattle.refusals.specs.Refusals.{Checked}
 use Rattle.refusals.proofs.Meant.{numbers_finite}
 use Rattle.fronts.specs.Finite.{FiniteTo}
 use Rattle.score_tables.proofs.Meant.{to_finite}
@@ -78,7 +78,7 @@ module _ (s : Sheet) (sound : SoundSheet s) where
     finite_states = rw (states_back, words_back, labels_back) (finite_back _ _ sound.all_states sound.finite_states);
   }
 
-  pub file_accepted : (before : Lent) → SheetRoom s before → sheet_checked (record { bytes = encoded s }) before ≡ Accepted
+  pub file_accepted : (before : Lent) → SheetRoom s before → sheet_checked (record { bytes = encoded s }) before ≡ Ok tt
   file_accepted before room = (sheets_mean (record { bytes = encoded s }) before).accepted.1 (right_file, rw (labels_back, words_back) room)
 
   file_read : (before : Lent) → SheetRoom s before → (outcome : Outcome) → Promised (record { bytes = encoded s }) before outcome → ReadFrom s before outcome
@@ -167,19 +167,19 @@ right_files bytes all = (
 )
 
 -- what was read is the sheet that the bytes say
-read_in : (bytes : List ℕ) (before : Lent) (outcome : Outcome) → sheet_checked (record { bytes = bytes }) before ≡ Accepted → Promised (record { bytes = bytes }) before outcome → ReadFrom (sheet_in bytes) before outcome
+read_in : (bytes : List ℕ) (before : Lent) (outcome : Outcome) → sheet_checked (record { bytes = bytes }) before ≡ Ok tt → Promised (record { bytes = bytes }) before outcome → ReadFrom (sheet_in bytes) before outcome
 unfolding answer_to transitions_after states_after
 read_in bytes before outcome h p =
     record { answers = p.answers ∙ rw h; fills_transitions = p.fills_transitions ∙ rw h; fills_states = p.fills_states ∙ rw h }
 
 -- what is read was accepted
-pub accepted_if_read : (given : Given) (before : Lent) (labels words : ℕ) → answer_to given before ≡ read labels words → sheet_checked given before ≡ Accepted
+pub accepted_if_read : (given : Given) (before : Lent) (labels words : ℕ) → answer_to given before ≡ read labels words → sheet_checked given before ≡ Ok tt
 unfolding answer_to
 accepted_if_read given before labels words h = go (sheet_checked given before) h
   where
-    go : (c : Checked) → answer_by c given.bytes ≡ read labels words → c ≡ Accepted
-    go Accepted e = refl
-    go (Refused why) e = let z : ◌≡◌ {A = ℕ} 0 1 = cc in absurd (omega arith)
+    go : (c : Checked) → answer_by c given.bytes ≡ read labels words → c ≡ Ok tt
+    go (Ok _) e = refl
+    go (Err why) e = let z : ◌≡◌ {A = ℕ} 0 1 = cc in absurd (omega arith)
 
 only_files : (given : Given) → Bytes given.bytes → (before : Lent) (outcome : Outcome) → Promised given before outcome → (labels words : ℕ) → said outcome.answer ≡ read labels words → (s : Sheet) × SoundSheet s × (given.bytes ≡ encoded s) × SheetRoom s before × ReadFrom s before outcome
 only_files given all before outcome p labels words e =

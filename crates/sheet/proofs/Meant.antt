@@ -1,11 +1,10 @@
 -- What `read_sheet` answers means what its rows mean. Assumes nothing.
+use Rattle.std.specs.Prelude.{Ok}
 use mathlib.Core.Path.{◌≡◌, sym, ◌∙◌, ap}
 use mathlib.Core.List.{List}
 use mathlib.Core.Logic.{◌↔◌}
 use Prim.Native.Nat.{ℕ}
-use Rattle.refusals.specs.declared.Checked.{Checked}
-use Rattle.refusals.specs.declared.Checked.TheVariants.{Accepted}
-use Rattle.refusals.specs.Refusals.{numbered, refused_at}
+use Rattle.refusals.specs.Refusals.{Checked, numbered, refused_at}
 use Rattle.refusals.specs.Said.{Said, refused}
 use Rattle.refusals.proofs.Said.{refused_said, accepted_said}
 use Rattle.sheet.specs.Fields.{labels_in_of, words_in}
@@ -25,7 +24,7 @@ module _ (bytes : List ℕ) (said : Said LabelsAndWords) (c : Checked) (e : said
     λ h. e ∙ (refused_said sizes c (numbered number place)).1 h,
   )
 
-  read_by : said ≡ read (labels_in_of bytes) (words_in bytes) ↔ c ≡ Accepted
+  read_by : said ≡ read (labels_in_of bytes) (words_in bytes) ↔ c ≡ Ok tt
   read_by = (λ h. accepted_said sizes sizes c (sym e ∙ h), λ h. e ∙ ap (λ (c : Checked). answer_by c bytes) h)
 
 pub reading_means : ReadingMeans

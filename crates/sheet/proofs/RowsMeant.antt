@@ -1,4 +1,5 @@
 -- The rows of a sheet mean what `Meaning` says. Assumes nothing.
+use Rattle.std.specs.Prelude.{Ok, Err}
 use mathlib.Core.Path.{◌≡◌, refl, sym, ◌∙◌, ap}
 use mathlib.Core.Bool.{false, not}
 use mathlib.Core.List.{List, [], ◌∷◌, ◌++◌}
@@ -10,9 +11,7 @@ use borrow.Author.Tests.{ltb-false, le-ltb, eqb-true, eq-eqb, not-false}
 use lib.Dec.{eqb}
 use lib.ListN.{length, get_or, take}
 use lib.Seq.{get_or-take}
-use Rattle.refusals.specs.declared.Checked.{Checked}
-use Rattle.refusals.specs.declared.Checked.TheVariants.{Accepted, Refused}
-use Rattle.refusals.specs.Refusals.{refused_at, refuse, or_next_of, first_from, first}
+use Rattle.refusals.specs.Refusals.{Checked, refused_at, refuse, or_next_of, first_from, first}
 use Rattle.refusals.specs.Meaning.{AllAccepted, FirstRefused}
 use Rattle.refusals.proofs.Laws.{passes, neither, number_of_lem, place_of_lem, accepted_all, all_accepted, first_refused, refused_first}
 use Rattle.refusals.proofs.Meant.{numbers_mean}
@@ -153,7 +152,7 @@ module _ (bytes : List ℕ) {room : Checked} {Fits : Type 0} (r2 : Row room 2 Fi
   numbers_known number place (inr (_, inr (_, inr (_, inr (_, inr (_, inr (_, inl e))))))) = inl (number_of_lem ((numbers_mean (states_in_of bytes) (words * labels)).only _ e))
   numbers_known number place (inr (_, inr (_, inr (_, inr (_, inr (_, inr (_, inr (_, h)))))))) = absurd h
 
-  pub file_means : Meaning (λ number place. file_checked bytes room ≡ refused_at number place) (file_checked bytes room ≡ Accepted) bytes Fits
+  pub file_means : Meaning (λ number place. file_checked bytes room ≡ refused_at number place) (file_checked bytes room ≡ Ok tt) bytes Fits
   unfolding file_checked
   file_means = record {
     ten = ten_means;
@@ -184,7 +183,7 @@ module _ (bytes : List ℕ) {room : Checked} {Fits : Type 0} (r2 : Row room 2 Fi
     only = λ number place h. numbers_known number place (first_refused (why number place) (refuse 10 0 (wrong_head bytes) ∷ rest) h);
     accepted = (
       λ h.
-          let a = (all_accepted Accepted (head_rows bytes ++ (size_rows bytes room ++ last)) h).1 in
+          let a = (all_accepted (Ok tt) (head_rows bytes ++ (size_rows bytes room ++ last)) h).1 in
           let s = sized.0 (a.0, (a.1.0, (a.1.1.0, (a.1.1.1.0, (a.1.1.1.1.0, tt))))) in (
             record {
               in_bounds = s.0.0;
@@ -203,11 +202,11 @@ module _ (bytes : List ℕ) {room : Checked} {Fits : Type 0} (r2 : Row room 2 Fi
 -- the row of 2 is only reached where L and T are in bounds
 pub same_file : (bytes : List ℕ) (x y : Checked) → (InBounds bytes → x ≡ y) → file_checked bytes x ≡ file_checked bytes y
 unfolding file_checked or_next_of
-same_file bytes x y h = reached (first (head_rows bytes)) x y (refuse 10 0 (wrong_length bytes) ∷ entry_rows bytes) (λ e. h ((in_bounds bytes).0 (all_accepted Accepted (head_rows bytes) e).1))
+same_file bytes x y h = reached (first (head_rows bytes)) x y (refuse 10 0 (wrong_length bytes) ∷ entry_rows bytes) (λ e. h ((in_bounds bytes).0 (all_accepted (Ok tt) (head_rows bytes) e).1))
   where
-    reached : (answer x y : Checked) (after : List Checked) → (answer ≡ Accepted → x ≡ y) → first_from (or_next_of answer x) after ≡ first_from (or_next_of answer y) after
-    reached Accepted x y after e = ap (λ (c : Checked). first_from c after) (e refl)
-    reached (Refused w) x y after e = refl
+    reached : (answer x y : Checked) (after : List Checked) → (answer ≡ Ok tt → x ≡ y) → first_from (or_next_of answer x) after ≡ first_from (or_next_of answer y) after
+    reached (Ok _) x y after e = ap (λ (c : Checked). first_from c after) (e refl)
+    reached (Err w) x y after e = refl
 
 -- the same said of another answer
 pub said_so : {Is Says : ℕ → ℕ → Type 0} {Accepts Answers : Type 0} {bytes : List ℕ} {Fits : Type 0} →

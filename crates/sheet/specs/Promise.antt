@@ -1,16 +1,15 @@
 -- What `read_sheet` promises: document 01's answer to the bytes, and what the two lent tables hold afterwards. Assumes nothing.
-use Rattle.std.specs.Prelude.{◌≡◌, List, ◌++◌, ℕ, length, drop, Float}
-use Rattle.refusals.specs.declared.Checked.{Checked}
-use Rattle.refusals.specs.declared.Checked.TheVariants.{Accepted, Refused}
+use Rattle.refusals.specs.declared.Refusal.{Refusal}
+use Rattle.sheet.specs.declared.Size.{Size}
+use Rattle.std.specs.Prelude.{◌≡◌, List, ◌++◌, ℕ, length, drop, Float, Ok, Err, Result}
+use Rattle.refusals.specs.Refusals.{Checked}
 use Rattle.refusals.specs.Said.{Said, accepted, refused, or_refused}
 use Rattle.sheet.specs.Fields.{labels_in_of, words_in, transitions_in_of, states_in_of}
 use Rattle.sheet.specs.Rows.{Given, Lent, sheet_checked}
-use Rattle.sheet.specs.declared.Reading.{Reading}
-use Rattle.sheet.specs.declared.Reading.TheVariants.{Read, Refused as ReadRefused}
 
 -- the answer, and what the lent tables hold afterwards
 pub record Outcome : Type 0 where
-  pub answer : Reading
+  pub answer : Result Size Refusal
   pub transitions : List Float
   pub states : List Float
 
@@ -23,9 +22,9 @@ pub record LabelsAndWords : Type 0 where
 abbrev pub read : ℕ → ℕ → Said LabelsAndWords
 read labels words = accepted (record { labels = labels; words = words })
 
-abbrev pub said : Reading → Said LabelsAndWords
-said (Read labels words) = read labels words
-said (ReadRefused why) = refused why
+abbrev pub said : Result Size Refusal → Said LabelsAndWords
+said (Ok size) = read size.labels size.words
+said (Err why) = refused why
 
 -- the refusal of the first row that refuses, or else L and T
 abbrev pub answer_by : Checked → List ℕ → Said LabelsAndWords
@@ -33,8 +32,8 @@ answer_by checked bytes = or_refused checked (read (labels_in_of bytes) (words_i
 
 -- "After 1 to 7 and 10 every lent buffer holds its entry contents"; else a table has the file's numbers in front, and its tail is unchanged
 abbrev pub table_by : Checked → List Float → List Float → List Float
-table_by Accepted table before = table ++ drop (length table) before
-table_by (Refused why) table before = before
+table_by (Ok _) table before = table ++ drop (length table) before
+table_by (Err why) table before = before
 
 unfoldable pub answer_to : Given → Lent → Said LabelsAndWords
 answer_to given before = answer_by (sheet_checked given before) given.bytes

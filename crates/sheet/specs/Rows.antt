@@ -1,7 +1,6 @@
 -- Document 01, "Numbered refusals", row by row for a sheet, in the order of the sheet. Assumes nothing.
 use Rattle.std.specs.Prelude.{Bool, not, ◌||◌, List, [], ◌∷◌, ◌++◌, ℕ, ltb, eqb, length, get_or, Float}
-use Rattle.refusals.specs.declared.Checked.{Checked}
-use Rattle.refusals.specs.Refusals.{first, refuse}
+use Rattle.refusals.specs.Refusals.{Checked, first, refuse}
 use Rattle.score_tables.specs.Rows.{one, four, scores_short, sixes}
 use Rattle.sheet.specs.Fields.{version_in_of, labels_in_of, words_in, whole_length_of, transitions_in_of, states_in_of}
 

@@ -1,6 +1,5 @@
 -- What the rows of a sheet mean in plain terms: each number exactly when document 01 gives it, both ways. The proofs are in proofs/RowsMeant.
-use Rattle.std.specs.Prelude.{◌≡◌, List, [], ◌∷◌, ◌↔◌, ◌⊎◌, ℕ, ◌*◌, ◌≤◌, length, take}
-use Rattle.refusals.specs.declared.Checked.TheVariants.{Accepted}
+use Rattle.std.specs.Prelude.{◌≡◌, List, [], ◌∷◌, ◌↔◌, ◌⊎◌, ℕ, ◌*◌, ◌≤◌, length, take, Ok}
 use Rattle.refusals.specs.Refusals.{refused_at}
 use Rattle.score_tables.specs.Sound.{LabelsIn, WordsIn, ScoresRoom}
 use Rattle.score_tables.specs.Meaning.{SixAt}
@@ -49,5 +48,5 @@ abbrev pub SheetsMean : Type 0
 SheetsMean =
     (given : Given) (before : Lent) →
     let bytes = given.bytes in
-    Meaning (λ number place. sheet_checked given before ≡ refused_at number place) (sheet_checked given before ≡ Accepted) bytes
+    Meaning (λ number place. sheet_checked given before ≡ refused_at number place) (sheet_checked given before ≡ Ok tt) bytes
     (ScoresRoom (labels_in_of bytes) (words_in bytes) before.transitions before.states)

@@ -1,8 +1,7 @@
 // The sheet file: bytes into the score tables of one line, or a refusal that leaves the lent tables as they were.
 #![tactic(auto)]
 
-ghost use Rattle.std.specs.Prelude.{◌≡◌, [], ◌∷◌, ◌+◌, ◌*◌, ◌≤◌, ◌<◌, length, drop, get_or, take};
-ghost use Rattle.refusals.specs.Refusals.{or_next_of, first};
+ghost use Rattle.std.specs.Prelude.{◌≡◌, ◌+◌, ◌*◌, ◌≤◌, ◌<◌, length, drop, get_or, take, Ok};
 ghost use Rattle.refusals.specs.Tables.{numbers_checked};
 ghost use Rattle.sheet.specs.Fields.{numbers_in, value_of, version_in_of, labels_in_of, words_in, states_from_of, whole_length_of};
 ghost use Rattle.sheet.specs.Rows.{wrong_head, wrong_length, file_sized, tables_short, sheet_checked};
@@ -12,22 +11,16 @@ ghost use Rattle.std.specs.Float.Ieee.Scale.{finite};
 ghost use Rattle.sheet.specs.Steps.{filled};
 ghost use Rattle.sheet.specs.Promise.{Promised};
 
-use refusals::{Checked, Refusal};
+use refusals::Refusal;
 use score_tables::entries;
-
-fn wide(x: u8) -> u64
-    ensures { (result ≡ x) × (result < 256) }
-{
-    x as u64
-}
 
 // A number of 16 bits.
 pub fn half_at(bytes: &[u8], at: usize) -> u64
     requires { at + 2 ≤ length bytes.now }
     ensures { (result ≡ get_or bytes.now at 0 + 256 * get_or bytes.now (at + 1) 0) × (result < 65536) }
 {
-    let low = wide(bytes[at]);
-    low + 256 * wide(bytes[at + 1])
+    let low = bytes[at] as u64;
+    low + 256 * bytes[at + 1] as u64
 }
 
 // A number of 64 bits.
@@ -53,7 +46,11 @@ pub fn is_finite_pattern(pattern: u64) -> bool
 pub fn byte_at(bytes: &[u8], at: usize) -> u64
     ensures { (result ≡ get_or bytes.now at 0) × (result < 256) }
 {
-    if at < bytes.len() { wide(bytes[at]) } else { 0 }
+    if at < bytes.len() {
+        bytes[at] as u64
+    } else {
+        0
+    }
 }
 
 pub fn version_in(bytes: &[u8]) -> u64
@@ -111,92 +108,75 @@ fn is_wrong_length(bytes: &[u8]) -> bool
     bytes.len() != whole_length(bytes)
 }
 
-// The rows of the sizes in their order: 10 on the head, 1 and 4, 2, 10 on length.
-fn in_order(head: Checked, bounds: Checked, room: Checked, length: Checked) -> Checked
-    ensures { result ≡ first (head ∷ bounds ∷ room ∷ length ∷ []) }
-{
-    let a = refusals::or_next(head, bounds);
-    let b = refusals::or_next(a, room);
-    refusals::or_next(b, length)
-}
-
-// Every row before a number is read.
-fn check_sizes(bytes: &[u8], transitions: &[f64], states: &[f64]) -> Checked
+// Every row before a number is read: 10 on the head, 1 and 4, 2, 10 on length.
+#[tactic(auto, using(refusals::proofs::Laws::handed), unfolding(refusals::specs::Refusals::or_next_of, crate::specs::Rows::file_sized))]
+fn check_sizes(bytes: &[u8], transitions: &[f64], states: &[f64]) -> Result<(), Refusal>
     ensures { result ≡ file_sized bytes.now (tables_short bytes.now (record { transitions = transitions.now; states = states.now })) }
 {
     let labels = labels_in(bytes);
     let words = words_in(bytes);
-    let head = refusals::refuse_if(Checked::Accepted, 10, 0, is_wrong_head(bytes));
-    let bounds = score_tables::check_bounds(labels, words);
-    let room = score_tables::check_room(Checked::Accepted, labels, words, transitions, states);
-    let length = refusals::refuse_if(Checked::Accepted, 10, 0, is_wrong_length(bytes));
-    in_order(head, bounds, room, length)
+    refusals::refuse_if(10, 0, is_wrong_head(bytes))?;
+    score_tables::check_bounds(labels, words)?;
+    score_tables::check_room(labels, words, transitions, states)?;
+    refusals::refuse_if(10, 0, is_wrong_length(bytes))
 }
 
 // 6 over the n numbers from a place on.
-fn check_part(answer: Checked, bytes: &[u8], at: usize, n: usize) -> Checked
+fn check_part(bytes: &[u8], at: usize, n: usize) -> Result<(), Refusal>
     requires { at + 8 * n ≤ length bytes.now }
-    ensures { result ≡ or_next_of answer (numbers_checked (numbers_in n (drop at bytes.now)) n) }
+    ensures { result ≡ numbers_checked (numbers_in n (drop at bytes.now)) n }
 {
-    let end = refusals::to_check(answer, n);
-    let mut i = 0usize;
-    while i < end {
-        let bad = !is_finite_pattern(word_at(bytes, at + 8 * i));
-        if bad {
-            break;
+    for i in 0..n {
+        if !is_finite_pattern(word_at(bytes, at + 8 * i)) {
+            return refusals::refused(6, i);
         }
-        i += 1;
     }
-    refusals::refuse_if(answer, 6, i, i < end)
+    Ok(())
 }
 
 // Every row, before anything is stored.
-pub fn check_sheet(bytes: &[u8], transitions: &[f64], states: &[f64]) -> Checked
+#[tactic(auto, using(refusals::proofs::Laws::handed), unfolding(refusals::specs::Refusals::or_next_of, crate::specs::Rows::file_sized, crate::specs::Rows::file_checked))]
+pub fn check_sheet(bytes: &[u8], transitions: &[f64], states: &[f64]) -> Result<(), Refusal>
     ensures { result ≡ sheet_checked (record { bytes = bytes.now }) (record { transitions = transitions.now; states = states.now }) }
 {
-    let sizes = check_sizes(bytes, transitions, states);
-    if let Checked::Refused(why) = sizes {
-        return Checked::Refused(why);
-    }
+    check_sizes(bytes, transitions, states)?;
     let labels = labels_in(bytes);
     let words = words_in(bytes);
-    let first = check_part(sizes, bytes, 8, entries(labels, labels));
-    check_part(first, bytes, states_from(bytes), entries(words, labels))
+    check_part(bytes, 8, entries(labels, labels))?;
+    check_part(bytes, states_from(bytes), entries(words, labels))
 }
 
+// How many labels and words a sheet has.
 #[derive(Clone, Copy)]
-pub enum Reading {
-    Read { labels: u32, words: u32 },
-    Refused(Refusal),
+pub struct Size {
+    pub labels: u32,
+    pub words: u32,
 }
 
 // The n numbers from a place on, into the front of a table.
 fn read_part(bytes: &[u8], at: usize, n: usize, table: &mut [f64])
     requires n_in_bounds { at + 8 * n ≤ length bytes.now }
     requires n_in_bounds_2 { n ≤ length table.old }
-    requires n_value { numbers_checked (numbers_in n (drop at bytes.now)) n ≡ Checked.Accepted }
+    requires n_value { numbers_checked (numbers_in n (drop at bytes.now)) n ≡ Ok tt }
     ensures { table.new ≡ filled (numbers_in n (drop at bytes.now)) n table.old }
 {
-    let mut i = 0usize;
-    while i < n {
+    for i in 0..n {
         table[i] = f64::from_bits(word_at(bytes, at + 8 * i));
-        i += 1;
     }
 }
 
 // The whole file, or a refusal.
-pub fn read_sheet(bytes: &[u8], transitions: &mut [f64], states: &mut [f64]) -> Reading
+pub fn read_sheet(
+    bytes: &[u8],
+    transitions: &mut [f64],
+    states: &mut [f64],
+) -> Result<Size, Refusal>
     ensures { Promised (record { bytes = bytes.now }) (record { transitions = transitions.old; states = states.old }) (record { answer = result; transitions = transitions.new; states = states.new }) }
 {
-    if let Checked::Refused(why) = check_sheet(bytes, transitions, states) {
-        return Reading::Refused(why);
-    }
+    check_sheet(bytes, transitions, states)?;
     let labels = labels_in(bytes);
     let words = words_in(bytes);
     read_part(bytes, 8, entries(labels, labels), transitions);
     read_part(bytes, states_from(bytes), entries(words, labels), states);
-    Reading::Read {
-        labels: labels,
-        words: words,
-    }
+    Ok(Size { labels, words })
 }

@@ -17,9 +17,7 @@ pub fn swap(i: usize, j: usize, order: &mut [u32])
     requires { (i < length order.old) × (j < length order.old) }
     ensures { order.new ≡ swapped order.old i j }
 {
-    let a = order[i];
-    order[i] = order[j];
-    order[j] = a;
+    order.swap(i, j);
 }
 
 // The first n of an order, shuffled; the answer is the generator's state to go on with.
@@ -28,14 +26,11 @@ pub fn shuffle(state: u64, n: usize, order: &mut [u32]) -> u64
     ensures { ◌≡◌ {A = Deal} (record { state = result; order = order.new }) (shuffled n (record { state = state; order = order.old })) }
 {
     let mut s = state;
-    let mut i = n - 1;
-    while 0 < i {
+    for i in (1..n).rev() {
         let drawn = generator::draw_from(s);
-        let number = drawn.number;
-        s = drawn.state;
-        let j = choose(number, i);
+        let j = choose(drawn.number, i);
         swap(i, j, order);
-        i -= 1;
+        s = drawn.state;
     }
     s
 }

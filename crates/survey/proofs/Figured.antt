@@ -1,14 +1,16 @@
 -- The counts with one piece more. Assumes nothing.
 use mathlib.Core.Path.{◌≡◌, refl, ap}
 use mathlib.Core.Bool.{Bool, true, false, cond, ◌&&◌}
-use Prim.Native.Nat.{ℕ, ◌+◌, ◌-◌, ◌≤◌}
+use Rattle.std.specs.Prelude.{Option}
+use Prim.Native.Nat.{ℕ, zero, suc, ◌+◌, ◌-◌, ◌≤◌}
 use native.Mathlib.Omega.{arith}
-use lib.Dec.{eqb, ltb}
+use lib.Dec.{eqb, ltb, eqb-suc-zero}
 use lib.ListN.{length}
 use lib.Seq.{slice, length-slice}
 use borrow.Author.Tests.{ltb-true, ltb-false}
 use Rattle.layout.specs.Layout.{Bytes}
-use Rattle.text_tables.specs.Pieces.{Piece}
+use Rattle.text_tables.specs.Pieces.{Piece, label}
+use Rattle.text_tables.specs.Tally.{Tally, tallied}
 use Rattle.pieces.specs.declared.Span.{Span}
 use Rattle.pieces.specs.PieceText.{kept_in}
 use Rattle.pieces.specs.Standing.{Stands}
@@ -17,9 +19,20 @@ use Rattle.pieces.proofs.Bare.{bare_shorter}
 use Rattle.pieces.proofs.Spans.{kept_none, kept_length}
 use Rattle.survey.specs.declared.Figures.{Figures}
 use Rattle.survey.specs.declared.NameSums.{NameSums}
-use Rattle.survey.specs.Surveyed.{worded, grown}
+use Rattle.survey.specs.Surveyed.{number_before, first_above, figures_of, worded, grown}
 
-pub word_more : (f : Figures) (begun long : ℕ) → begun ≡ cond (eqb f.present 0) (f.sequences + 1) f.sequences → long ≡ cond (eqb f.long 0 && ltb 128 (f.present + 1)) begun f.long
+first_numbered : (long begun : ℕ) (above : Bool) → first_above (number_before long) above begun ≡ number_before (cond (eqb long 0 && above) begun long)
+first_numbered zero begun true = refl
+first_numbered zero begun false = refl
+first_numbered (suc i) begun above = rw (eqb-suc-zero i) refl
+
+pub word_tallied : (t : Tally) (n : Bytes) → worded (figures_of t) ≡ figures_of (tallied t (label n))
+word_tallied t n =
+    let begun = cond (eqb t.present 0) (t.sequences + 1) t.sequences in
+    let e = first_numbered t.long begun (ltb 128 (t.present + 1)) in
+    λ i. record { sequences = begun; words = t.words + 1; attributes = t.attributes; present = t.present + 1; scales = t.scale_bytes_of; long = e i }
+
+pub word_more : (f : Figures) (begun : ℕ) (long : Option ℕ) → begun ≡ cond (eqb f.present 0) (f.sequences + 1) f.sequences → long ≡ first_above f.long (ltb 128 (f.present + 1)) begun
     → ◌≡◌ {A = Figures} (record { sequences = begun; words = f.words + 1; attributes = f.attributes; present = f.present + 1; scales = f.scales; long = long }) (worded f)
 word_more f begun long p q = rw (q, p) refl
 

@@ -24,7 +24,7 @@ use Rattle.survey.specs.declared.Figures.{Figures}
 use Rattle.survey.specs.declared.NameSums.{NameSums}
 use Rattle.survey.specs.declared.Survey.{Survey}
 use Rattle.survey.specs.Surveyed.{untouched, blanked, worded, attributed, KnowsFront, KnowsNames, Surveys, FewFigures, Rooms, StepAsked}
-use Rattle.survey.proofs.Figured.{scale_bytes_lem}
+use Rattle.survey.proofs.Figured.{word_tallied, scale_bytes_lem}
 
 -- ---- one piece more
 
@@ -38,7 +38,7 @@ module _ {text : Bytes} {span : Span} {p : Piece} {labels slots positions : List
       → Surveys text after slots positions (record { figures = f; labels = known; names = s.names }) (tallied t p)
   step_label {f} {known} {after} k e l =
       subst (λ (q : Piece). Surveys text after slots positions (record { figures = f; labels = known; names = s.names }) (tallied t q)) (sym (is_label p (sym g.kind ∙ k)))
-      (record { counted = e ∙ ap worded before.counted; labelled = l; named = before.named })
+      (record { counted = e ∙ ap worded before.counted ∙ word_tallied t (name_in p); labelled = l; named = before.named })
 
   pub step_attribute : {f : Figures} {known : NameSums} {scale : ℕ} {slots_after after : List ℕ} → span.kind ≡ Attribute → scale ≡ span.to - span.split - 1 → f ≡ attributed s.figures scale
       → KnowsNames text slots_after after (learnt t.names (name_in p)) known → Surveys text labels slots_after after (record { figures = f; labels = s.labels; names = known }) (tallied t p)

@@ -1,5 +1,5 @@
 -- What the counting pass holds beside the tally of text_tables: the same counts, and of the names as many as there is room for. Assumes nothing.
-use Rattle.std.specs.Prelude.{◌≡◌, cond, ◌&&◌, ℕ, ◌+◌, ◌≤◌, ◌<◌, eqb, ltb, length, take}
+use Rattle.std.specs.Prelude.{◌≡◌, Bool, cond, ℕ, zero, suc, ◌+◌, ◌≤◌, ◌<◌, eqb, ltb, length, take, Some, None, Option}
 use mathlib.Core.List.{List, [], map, flatten}
 use Rattle.layout.specs.Layout.{Bytes, escaped}
 use Rattle.text_tables.specs.Pieces.{Piece}
@@ -14,12 +14,22 @@ use Rattle.survey.specs.declared.Survey.{Survey}
 
 abbrev pub untouched : Survey
 untouched = record {
-  figures = record { sequences = 0; words = 0; attributes = 0; present = 0; scales = 0; long = 0 };
+  figures = record { sequences = 0; words = 0; attributes = 0; present = 0; scales = 0; long = None };
   labels = record { count = 0; bytes = 0 };
   names = record { count = 0; bytes = 0 };
 }
 
 -- ---- the counts of a tally, and each kind of piece more
+
+-- the number of what a tally counts from 1, with 0 for none
+abbrev pub number_before : ℕ → Option ℕ
+number_before zero = None
+number_before (suc i) = Some i
+
+-- the first long sequence stays; where there was none, and the last of so many begun is long now, it is that one
+abbrev pub first_above : Option ℕ → Bool → ℕ → Option ℕ
+first_above None above begun = cond above (number_before begun) None
+first_above (Some i) above begun = Some i
 
 abbrev pub figures_of : Tally → Figures
 figures_of t = record {
@@ -28,7 +38,7 @@ figures_of t = record {
   attributes = t.attributes;
   present = t.present;
   scales = t.scale_bytes_of;
-  long = t.long;
+  long = number_before t.long;
 }
 
 -- "an empty line .. ends a sequence, and a further empty line changes nothing"
@@ -44,7 +54,7 @@ worded f =
       attributes = f.attributes;
       present = f.present + 1;
       scales = f.scales;
-      long = cond (eqb f.long 0 && ltb 128 (f.present + 1)) begun f.long;
+      long = first_above f.long (ltb 128 (f.present + 1)) begun;
     }
 
 abbrev pub attributed : Figures → ℕ → Figures

@@ -3,7 +3,7 @@
 // reader's caller is written.
 #![tactic(auto)]
 
-ghost use Rattle.std.specs.Prelude.{◌≡◌, cond, ◌&&◌, List, [], ℕ, ◌+◌, ◌-◌, ◌≤◌, eqb, ltb, length};
+ghost use Rattle.std.specs.Prelude.{◌≡◌, cond, List, [], ℕ, ◌+◌, ◌-◌, ◌≤◌, eqb, ltb, length};
 ghost use Rattle.std.proofs.Math.Seq.{slice};
 ghost use Rattle.layout.specs.Layout.{Bytes, WellFormed};
 ghost use Rattle.text_tables.specs.Pieces.{Piece, pieces_of};
@@ -11,12 +11,12 @@ ghost use Rattle.text_tables.specs.Tally.{Tally, tallied, tally_of};
 ghost use Rattle.pieces.specs.Standing.{Named, Stands};
 ghost use Rattle.pieces.specs.Unescaped.{unescaped};
 ghost use Rattle.text_tables.specs.Distinct.{learnt};
-ghost use Rattle.survey.specs.Surveyed.{untouched, blanked, worded, attributed, grown, KnowsFront, KnowsNames, FewFigures, LabelAsked, NameAsked, Surveys, StepAsked, SurveyAsked};
+ghost use Rattle.survey.specs.Surveyed.{untouched, first_above, blanked, worded, attributed, grown, KnowsFront, KnowsNames, FewFigures, LabelAsked, NameAsked, Surveys, StepAsked, SurveyAsked};
 
 use pieces::{Kind, Span};
 
-// Sequences begun, words and attributes so far, the words of the present sequence, the bytes of the scales; the first sequence
-// above 128 words, counted from 1, and 0 while there is none.
+// Sequences begun, words and attributes so far, the words of the present sequence, the bytes of the scales; the number of
+// the first sequence above 128 words, if there is one.
 #[derive(Clone, Copy)]
 pub struct Figures {
     pub sequences: usize,
@@ -24,7 +24,7 @@ pub struct Figures {
     pub attributes: usize,
     pub present: usize,
     pub scales: usize,
-    pub long: usize,
+    pub long: Option<usize>,
 }
 
 // How many names are known, and how many bytes they have.
@@ -46,15 +46,7 @@ fn with_blank(f: Figures) -> Figures
     requires { FewFigures f }
     ensures { result ≡ blanked f }
 {
-    let sequences = f.sequences;
-    Figures {
-        sequences: sequences,
-        words: f.words,
-        attributes: f.attributes,
-        present: 0,
-        scales: f.scales,
-        long: f.long,
-    }
+    Figures { present: 0, ..f }
 }
 
 // Sequences begun once a word begins: one more where none is open.
@@ -69,12 +61,12 @@ fn begun(present: usize, sequences: usize) -> usize
     }
 }
 
-// The first sequence above 128 words: this one, if there was none and it has so many now.
-fn first_long(long: usize, present: usize, sequence: usize) -> usize
-    ensures { result ≡ cond (eqb long 0 && ltb 128 present) sequence long }
+// The number of the first sequence above 128 words: that of the last begun, if there was none and it has so many now.
+fn first_long(long: Option<usize>, present: usize, sequences: usize) -> Option<usize>
+    ensures { result ≡ first_above long (ltb 128 present) sequences }
 {
-    if (long == 0) & (128 < present) {
-        sequence
+    if long.is_none() & (128 < present) {
+        sequences.checked_sub(1)
     } else {
         long
     }
@@ -88,12 +80,11 @@ fn with_word(f: Figures) -> Figures
     let sequences = begun(f.present, f.sequences);
     let present = f.present + 1;
     Figures {
-        sequences: sequences,
+        sequences,
         words: f.words + 1,
-        attributes: f.attributes,
-        present: present,
-        scales: f.scales,
+        present,
         long: first_long(f.long, present, sequences),
+        ..f
     }
 }
 
@@ -110,12 +101,9 @@ fn with_attribute(f: Figures, scale: usize) -> Figures
     ensures { result ≡ attributed f scale }
 {
     Figures {
-        sequences: f.sequences,
-        words: f.words,
         attributes: f.attributes + 1,
-        present: f.present,
         scales: f.scales + scale,
-        long: f.long,
+        ..f
     }
 }
 
@@ -191,25 +179,20 @@ fn with_piece(
         ((before : Tally) (p : Piece) → Surveys t labels.old slots.old positions.old survey before → Stands t span p
         → Surveys t labels.new slots.new positions.new result (tallied before p)) }
 {
-    let figures = survey.figures;
-    let known = survey.labels;
-    let names = survey.names;
-    let kind = span.kind;
-    match kind {
+    match span.kind {
         Kind::Blank => Survey {
-            figures: with_blank(figures),
-            labels: known,
-            names: names,
+            figures: with_blank(survey.figures),
+            ..survey
         },
         Kind::Label => Survey {
-            figures: with_word(figures),
-            labels: with_label(text, labels, known, span.from, span.split),
-            names: names,
+            figures: with_word(survey.figures),
+            labels: with_label(text, labels, survey.labels, span.from, span.split),
+            ..survey
         },
         Kind::Attribute => Survey {
-            figures: with_attribute(figures, scale_length(span.split, span.to)),
-            labels: known,
-            names: with_name(text, slots, positions, names, span.from, span.split),
+            figures: with_attribute(survey.figures, scale_length(span.split, span.to)),
+            names: with_name(text, slots, positions, survey.names, span.from, span.split),
+            ..survey
         },
     }
 }
@@ -224,7 +207,7 @@ fn nothing() -> Survey
             attributes: 0,
             present: 0,
             scales: 0,
-            long: 0,
+            long: None,
         },
         labels: NameSums { count: 0, bytes: 0 },
         names: NameSums { count: 0, bytes: 0 },
@@ -245,6 +228,7 @@ pub fn survey_text(
 {
     let mut cursor = pieces::start(text);
     let mut found = nothing();
+    // From piece to piece: how far the cursor goes is told by the piece.
     while cursor.at <= text.len() {
         let span = pieces::piece_at(text, cursor);
         found = with_piece(text, labels, slots, positions, found, span);

@@ -1,10 +1,11 @@
 -- A pass that has no way out in the middle: while its flag holds, no place that it passed is refused. Assumes nothing.
+use Rattle.std.specs.Prelude.{Ok}
 use mathlib.Core.Path.{◌≡◌, refl, sym}
-use mathlib.Core.Bool.{Bool, true, false, not, cond, ◌&&◌, ◌||◌, true≢false}
+use mathlib.Core.Bool.{Bool, true, false, not, ◌&&◌, ◌||◌, true≢false}
 use mathlib.Core.List.{List}
 use Prim.Native.Nat.{ℕ, zero, suc, ◌+◌, ◌≤◌, ◌<◌}
 use native.Mathlib.Numerals.{add-one}
-use native.Mathlib.Nat.{le_antisymm, le_refl}
+use native.Mathlib.Nat.{le_antisymm}
 use native.Mathlib.Omega.{arith}
 use borrow.Author.Tests.{ltb-true, leb-true, le-ltb, lt-leb}
 use lib.Dec.{eqb, ltb, leb}
@@ -13,8 +14,6 @@ use lib.Ieee.{Float, nan}
 use lib.Ieee.Scale.{finite}
 use Rattle.refusals.specs.Refusals.{refuse, or_next_of, lowest}
 use Rattle.refusals.specs.Tables.{not_below, bad_kind, bad_source, not_finite}
-use Rattle.refusals.specs.declared.Checked.TheVariants.{Accepted}
-use Rattle.refusals.proofs.Laws.{Passed, begin}
 use Rattle.fronts.specs.Finite.{all_finite_of}
 
 and_left : (a b : Bool) → a && b ≡ true → a ≡ true
@@ -31,7 +30,7 @@ below id bound h = lt-leb bound id (ltb-true id bound h)
 -- the invariant of such a pass
 pub record Passing (number : ℕ) (test : ℕ → Bool) (n : ℕ) (all : Bool) (i : ℕ) : Type 0 where
   pub inside : i ≤ n
-  pub accepted : all ≡ true → lowest number test i ≡ Accepted
+  pub accepted : all ≡ true → lowest number test i ≡ Ok tt
 
 module _ {number : ℕ} {test : ℕ → Bool} {n : ℕ} {all : Bool} where
   pub pass_begin : Passing number test n all 0
@@ -42,16 +41,8 @@ module _ {number : ℕ} {test : ℕ → Bool} {n : ℕ} {all : Bool} where
   unfolding lowest or_next_of refuse
   pass_step {good = good} p l g = record { inside = omega arith; accepted = λ e. rw (add-one, p.accepted (and_left all good e), g (and_right all good e)) }
 
-  pub pass_end : {i : ℕ} → Passing number test n all i → n ≤ i → all ≡ true → lowest number test n ≡ Accepted
+  pub pass_end : {i : ℕ} → Passing number test n all i → n ≤ i → all ≡ true → lowest number test n ≡ Ok tt
   pass_end {i} p l h = let e : n ≡ i = le_antisymm l p.inside in rw e (p.accepted h)
-
-  -- a search that begins at its end where all is well
-  pub begun : {i : ℕ} → (all ≡ true → lowest number test n ≡ Accepted) → i ≡ cond all n 0 → Passed number test n i
-  begun p e = rw e (go all p)
-    where
-      go : (b : Bool) → (b ≡ true → lowest number test n ≡ Accepted) → Passed number test n (cond b n 0)
-      go true p = record { inside = le_refl n; accepted = p refl }
-      go false p = begin
 
 -- the flag's tests: where one holds, the place is not bad
 pub below_step : (ids : List ℕ) (bound : ℕ) {n : ℕ} {all : Bool} {i : ℕ} → Passing 5 (not_below ids bound) n all i → i < n → Passing 5 (not_below ids bound) n (all && ltb (get_or ids i 0) bound) (i + 1)
@@ -68,7 +59,7 @@ source_step kinds sources labels {i = i} p l = pass_step p l (go (eqb (get_or ki
     go true h = below (get_or sources i 0) labels h
 
 -- a finite front has no bad number
-pub finite_passed : (numbers : List Float) (n : ℕ) → all_finite_of numbers n ≡ true → lowest 6 (not_finite numbers) n ≡ Accepted
+pub finite_passed : (numbers : List Float) (n : ℕ) → all_finite_of numbers n ≡ true → lowest 6 (not_finite numbers) n ≡ Ok tt
 unfolding all_finite_of lowest or_next_of refuse
 finite_passed numbers zero h = refl
 finite_passed numbers (suc n) h =

@@ -2,6 +2,7 @@
 use mathlib.Core.Path.{◌≡◌, refl, sym, ap, ◌∙◌}
 use mathlib.Core.Bool.{Bool, true, false}
 use mathlib.Core.List.{List, [], ◌∷◌, map}
+use Rattle.std.specs.Prelude.{Some, None, Option}
 use Prim.Native.Nat.{ℕ, zero, suc, ◌+◌, ◌-◌, ◌≤◌, ◌<◌}
 use native.Mathlib.Nat.{le_of_suc-le-suc, not-suc-le-zero}
 use native.Mathlib.Numerals.{add-one}
@@ -9,10 +10,7 @@ use native.Mathlib.Omega.{arith}
 use lib.Dec.{ltb}
 use lib.ListN.{length, get_or}
 use borrow.Author.Tests.{ltb-true, ltb-false}
-use Rattle.refusals.specs.declared.Checked.{Checked}
-use Rattle.refusals.specs.Refusals.{refused_at, or_next_of}
 use Rattle.refusals.specs.Meaning.{FirstBad}
-use Rattle.refusals.proofs.Laws.{alone}
 use Rattle.refusal_rows.specs.Tests.{lines_fit, line_length, lengths_checked, Bad}
 use Rattle.refusal_rows.proofs.Means.{test_means}
 use Rattle.layout.specs.Layout.{Word, NoneEmpty}
@@ -20,18 +18,6 @@ use Rattle.text_tables.specs.Tables.{starts_from, tables}
 use Rattle.text_tables.specs.Tally.{AboveAt}
 use Rattle.survey.specs.declared.Survey.{Survey}
 use Rattle.text_check.specs.Told.{TellsSequences, long_refused}
-
--- ---- the check
-
-pub long_none : (answer : Checked) (long : ℕ) → long ≡ 0 → answer ≡ or_next_of answer (long_refused long)
-long_none answer long e = sym (ap (λ (k : ℕ). or_next_of answer (long_refused k)) e ∙ alone answer)
-
-pub long_some : (answer next r : Checked) (long : ℕ) → (long ≡ 0 → ⊥) → next ≡ refused_at 4 (long - 1) → r ≡ or_next_of answer next → r ≡ or_next_of answer (long_refused long)
-long_some answer next r zero n e f = absurd (n refl)
-long_some answer next r (suc i) n e f = f ∙ ap (or_next_of answer) (e ∙ ap (refused_at 4) (less i))
-  where
-    less : (i : ℕ) → suc i - 1 ≡ i
-    less i = omega arith
 
 -- ---- how many words a sequence has, by the starts
 
@@ -86,8 +72,8 @@ module _ (ss : List (List Word)) (full : NoneEmpty ss) where
 pub long_same : (ss : List (List Word)) (s : Survey) → TellsSequences ss s → long_refused s.figures.long ≡ lengths_checked (tables ss).corpus.starts (length ss)
 long_same ss s g = go s.figures.long refl
   where
-    go : (long : ℕ) → s.figures.long ≡ long → long_refused long ≡ lengths_checked (tables ss).corpus.starts (length ss)
-    go zero e =
+    go : (long : Option ℕ) → s.figures.long ≡ long → long_refused long ≡ lengths_checked (tables ss).corpus.starts (length ss)
+    go None e =
         sym ((test_means (lines_fit (tables ss).corpus.starts (length ss))).accepted.1 (λ i l b. g.none_long.0 e i l (above ss g.none_empty i l b)))
-    go (suc i) e =
-        sym (((test_means (lines_fit (tables ss).corpus.starts (length ss))).refused i).1 (first_bad ss g.none_empty i ((g.first_long i).0 (e ∙ sym (add-one i)))))
+    go (Some i) e =
+        sym (((test_means (lines_fit (tables ss).corpus.starts (length ss))).refused i).1 (first_bad ss g.none_empty i ((g.first_long i).0 e)))

@@ -1,4 +1,5 @@
 -- The reader's checks mean what `Meaning` says. Assumes nothing.
+use Rattle.std.specs.Prelude.{Ok, Err}
 use mathlib.Core.Path.{◌≡◌, refl, sym, ap, ◌∙◌}
 use mathlib.Core.List.{[], ◌∷◌}
 use mathlib.Core.Logic.{◌↔◌, inl, inr}
@@ -7,9 +8,7 @@ use native.Mathlib.Omega.{arith}
 use lib.Dec.{ltb}
 use lib.ListN.{length}
 use borrow.Author.Tests.{ltb-false, le-ltb}
-use Rattle.refusals.specs.declared.Checked.{Checked}
-use Rattle.refusals.specs.declared.Checked.TheVariants.{Accepted, Refused}
-use Rattle.refusals.specs.Refusals.{refused_at}
+use Rattle.refusals.specs.Refusals.{Checked, refused_at}
 use Rattle.refusals.specs.Meaning.{FirstBad, FirstRefused}
 use Rattle.refusals.proofs.Laws.{place_of_lem, passes}
 use Rattle.score_tables.specs.Meaning.{Row}
@@ -35,8 +34,8 @@ module _ {a b c : Checked} {number : ℕ} {P Q R : Type 0} (r : Row a number P) 
       to (inr (_, h)) = let p = ((pair s t).at place).0 h in (p.0, λ f. p.1 f.1)
 
       from : AtZero (P × (Q × R)) place → (x : Checked) → a ≡ x → FirstRefused (why number place) (a ∷ b ∷ c ∷ [])
-      from p Accepted e = inr (e, ((pair s t).at place).1 (p.0, λ f. p.1 (r.accepted.0 e, f)))
-      from p (Refused w) e = inl (e ∙ r.only w e ∙ ap (refused_at number) (sym p.0))
+      from p (Ok _) e = inr (e, ((pair s t).at place).1 (p.0, λ f. p.1 (r.accepted.0 e, f)))
+      from p (Err w) e = inl (e ∙ r.only w e ∙ ap (refused_at number) (sym p.0))
 
   abbrev three : Group
   three = record {

@@ -1,4 +1,5 @@
 -- The rows in a survey's terms are those of the tables. Assumes nothing.
+use Rattle.std.specs.Prelude.{Ok}
 use mathlib.Core.Path.{◌≡◌, refl, sym, ap, ◌∙◌}
 use mathlib.Core.Bool.{Bool, true, false, ◌||◌}
 use mathlib.Core.List.{List, [], ◌∷◌, map, flatten}
@@ -9,9 +10,7 @@ use lib.ListN.{length, take, replicate, length-map, length-replicate}
 use lib.Seq.{take_all, length-take-le}
 use borrow.Author.Tests.{ltb-true, ltb-false, lt-ltb, le-ltb}
 use Rattle.binary64.specs.Numbers.{whole}
-use Rattle.refusals.specs.declared.Checked.{Checked}
-use Rattle.refusals.specs.declared.Checked.TheVariants.{Accepted}
-use Rattle.refusals.specs.Refusals.{refuse, or_next_of}
+use Rattle.refusals.specs.Refusals.{Checked, refuse, or_next_of}
 use Rattle.refusals.specs.Tables.{outside}
 use Rattle.refusal_rows.specs.Limits.{room, any_broken, two}
 use Rattle.refusal_rows.specs.Tests.{lengths_checked}
@@ -105,26 +104,26 @@ rooms_same ss s have g fine =
 
 -- ---- in order
 
-short_text : (bytes : ℕ) → bytes ≤ 4294967295 → too_long_of bytes ≡ Accepted
+short_text : (bytes : ℕ) → bytes ≤ 4294967295 → too_long_of bytes ≡ Ok tt
 unfolding refuse
 short_text bytes h = rw (le-ltb 4294967295 bytes h) refl
 
 pub sized_same : (bytes : ℕ) (ss : List (List Word)) (s : Survey) → bytes ≤ 4294967295 → TellsSequences ss s
-    → or_next_of (or_next_of Accepted (refuse 2 0 (any_broken (survey_counts s)))) (long_refused s.figures.long) ≡ text_sized bytes ss
+    → or_next_of (refuse 2 0 (any_broken (survey_counts s))) (long_refused s.figures.long) ≡ text_sized bytes ss
 unfolding text_sized
 sized_same bytes ss s h g = rw (counts_same ss s g, long_same ss s g, short_text bytes h) done
   where
-    done : or_next_of (or_next_of Accepted (refuse 2 0 (any_broken (text_counts ss)))) (lengths_checked (tables ss).corpus.starts (length ss)) ≡ or_next_of (or_next_of (or_next_of Accepted Accepted) (two (text_counts ss))) (lengths_checked (tables ss).corpus.starts (length ss))
+    done : or_next_of (refuse 2 0 (any_broken (text_counts ss))) (lengths_checked (tables ss).corpus.starts (length ss)) ≡ or_next_of (or_next_of (or_next_of (Ok tt) (Ok tt)) (two (text_counts ss))) (lengths_checked (tables ss).corpus.starts (length ss))
     done = unfold or_next_of in refl
 
 -- once the counts are refused the rooms do not matter
-second_same : (counts : Bool) (these those : Bool) → (counts ≡ false → these ≡ those) → or_next_of (or_next_of Accepted (refuse 2 0 counts)) (refuse 2 0 these) ≡ or_next_of (or_next_of (or_next_of Accepted Accepted) (refuse 2 0 counts)) (refuse 2 0 those)
+second_same : (counts : Bool) (these those : Bool) → (counts ≡ false → these ≡ those) → or_next_of (refuse 2 0 counts) (refuse 2 0 these) ≡ or_next_of (or_next_of (or_next_of (Ok tt) (Ok tt)) (refuse 2 0 counts)) (refuse 2 0 those)
 unfolding or_next_of refuse
 second_same true these those e = refl
 second_same false these those e = ap (refuse 2 0) (e refl)
 
 pub text_same : (bytes : ℕ) (ss : List (List Word)) (s : Survey) (have : Lengths) → bytes ≤ 4294967295 → TellsSequences ss s
-    → or_next_of (or_next_of (or_next_of Accepted (refuse 2 0 (any_broken (survey_counts s)))) (refuse 2 0 (any_broken (survey_rooms s have)))) (long_refused s.figures.long) ≡ text_checked bytes ss have
+    → or_next_of (or_next_of (refuse 2 0 (any_broken (survey_counts s))) (refuse 2 0 (any_broken (survey_rooms s have)))) (long_refused s.figures.long) ≡ text_checked bytes ss have
 unfolding text_checked
 text_same bytes ss s have h g =
     rw (short_text bytes h, sym (counts_same ss s g), long_same ss s g)

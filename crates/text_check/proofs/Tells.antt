@@ -1,7 +1,10 @@
 -- What a survey of a whole text tells of its sequences. Assumes nothing.
 use mathlib.Core.Path.{◌≡◌, refl, sym, ap, subst, ◌∙◌}
 use mathlib.Core.List.{List, [], ◌∷◌, flatten}
-use Prim.Native.Nat.{ℕ, zero, suc, ◌≤◌}
+use Rattle.std.specs.Prelude.{Some, None}
+use Rattle.std.proofs.lemmas.Option.{none-some}
+use native.Mathlib.Numerals.{add-one}
+use Prim.Native.Nat.{ℕ, zero, suc, ◌+◌, ◌≤◌}
 use native.Mathlib.Omega.{arith}
 use lib.ListN.{length, take, replicate, length-replicate}
 use Rattle.layout.specs.Layout.{Bytes, WellFormed, sequences}
@@ -14,7 +17,7 @@ use Rattle.text_tables.proofs.InText.{fits_in_text}
 use Rattle.survey.specs.declared.NameSums.{NameSums}
 use Rattle.survey.specs.declared.Figures.{Figures}
 use Rattle.survey.specs.declared.Survey.{Survey}
-use Rattle.survey.specs.Surveyed.{KnowsFront, Surveys, SurveyAsked}
+use Rattle.survey.specs.Surveyed.{number_before, KnowsFront, Surveys, SurveyAsked}
 use Rattle.survey.proofs.Named.{counted_in}
 use Rattle.distinct.specs.Slots.{Filed}
 use Rattle.distinct.proofs.Learning.{none_filed}
@@ -26,12 +29,20 @@ front_counted {text} {places} {names} {known} {sums} most e f k = record {
   bytes = k.bytes ∙ (λ i. length (flatten (take (e i) (f i))));
 }
 
+number_none : (k : ℕ) → number_before k ≡ None → k ≡ 0
+number_none zero e = refl
+number_none (suc i) e = absurd (none-some i (sym e))
+
+number_some : (k i : ℕ) → number_before k ≡ Some i → k ≡ i + 1
+number_some zero i e = absurd (none-some i e)
+number_some (suc k) i e = let s : k ≡ i = cc in ap suc s ∙ sym (add-one i)
+
 pub survey_tells : {text : Bytes} {labels slots positions : List ℕ} {s : Survey} (h : WellFormed text) → length labels ≡ 33 → length positions ≡ 65536 → Surveys text labels slots positions s (tally_of (pieces_of h.lines))
     → TellsSequences (sequences h.lines) s
 survey_tells {text} {labels} {slots} {positions} {s} h l p g =
     let m : Tallies (sequences h.lines) (tally_of (pieces_of h.lines)) = tally_means h.lines in
     let c = g.counted in
-    let long : s.figures.long ≡ (tally_of (pieces_of h.lines)).long = ap (λ (f : Figures). f.long) c in
+    let long : s.figures.long ≡ number_before (tally_of (pieces_of h.lines)).long = ap (λ (f : Figures). f.long) c in
     record {
       none_empty = none_empty h.lines;
       sequences = ap (λ (f : Figures). f.sequences) c ∙ m.sequences;
@@ -40,8 +51,8 @@ survey_tells {text} {labels} {slots} {positions} {s} h l p g =
       scales = ap (λ (f : Figures). f.scales) c ∙ m.scale_bytes_of;
       labels = front_counted 33 l m.labels g.labelled;
       names = front_counted 65536 p m.names g.named.listed;
-      none_long = ((λ e. m.none_long.0 (sym long ∙ e)), (λ n. long ∙ m.none_long.1 n));
-      first_long = λ i. ((λ e. (m.first_long i).0 (sym long ∙ e)), (λ f. long ∙ (m.first_long i).1 f));
+      none_long = ((λ e. m.none_long.0 (number_none _ (sym long ∙ e))), (λ n. long ∙ ap number_before (m.none_long.1 n)));
+      first_long = λ i. ((λ e. (m.first_long i).0 (number_some _ i (sym long ∙ e))), (λ f. long ∙ ap number_before ((m.first_long i).1 f ∙ add-one i)));
     }
 
 -- ---- it stays small

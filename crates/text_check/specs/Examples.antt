@@ -1,7 +1,6 @@
 -- Desk cases T3 to T6: what is refused of the sequences of a text, and in which order. Assumes nothing.
-use Rattle.std.specs.Prelude.{◌≡◌, refl, true, ℕ, replicate}
+use Rattle.std.specs.Prelude.{◌≡◌, refl, true, ℕ, replicate, Ok}
 use mathlib.Core.List.{List, [], ◌∷◌, map, flatten}
-use Rattle.refusals.specs.declared.Checked.TheVariants.{Accepted}
 use Rattle.refusals.specs.Refusals.{refused_at, refuse, or_next_of, lowest}
 use Rattle.refusal_rows.specs.Limits.{in_order_of}
 use Rattle.layout.specs.Layout.{Word}
@@ -19,12 +18,12 @@ none : text_sized 0 [] ≡ refused_at 2 0
 unfolding text_sized tables starts_from flatten learnt_all learnt id_in same lowest or_next_of refuse
 none = refl
 
-one : text_sized 1 ((bare 65 ∷ []) ∷ []) ≡ Accepted
+one : text_sized 1 ((bare 65 ∷ []) ∷ []) ≡ Ok tt
 unfolding text_sized tables starts_from flatten learnt_all learnt id_in same lowest or_next_of refuse
 one = refl
 
 -- T4: "128 times `A␊`, `␊`, 129 times `A␊`: 4/1"
-long : (text_sized 515 (replicate 128 (bare 65) ∷ replicate 129 (bare 65) ∷ []) ≡ refused_at 4 1) × (text_sized 513 (replicate 128 (bare 65) ∷ replicate 128 (bare 65) ∷ []) ≡ Accepted)
+long : (text_sized 515 (replicate 128 (bare 65) ∷ replicate 129 (bare 65) ∷ []) ≡ refused_at 4 1) × (text_sized 513 (replicate 128 (bare 65) ∷ replicate 128 (bare 65) ∷ []) ≡ Ok tt)
 unfolding text_sized tables starts_from flatten learnt_all learnt id_in same lowest or_next_of refuse
 long = (refl, refl)
 
@@ -32,7 +31,7 @@ long = (refl, refl)
 abbrev bytes : List ℕ
 bytes = 65 ∷ 66 ∷ 67 ∷ 68 ∷ 69 ∷ 70 ∷ 71 ∷ 72 ∷ 73 ∷ 74 ∷ 75 ∷ 76 ∷ 77 ∷ 78 ∷ 79 ∷ 80 ∷ 81 ∷ 82 ∷ 83 ∷ 84 ∷ 85 ∷ 86 ∷ 87 ∷ 88 ∷ 89 ∷ 90 ∷ 91 ∷ 92 ∷ 93 ∷ 94 ∷ 95 ∷ 96 ∷ []
 
-many : (text_sized 65 (map bare (97 ∷ bytes) ∷ []) ≡ refused_at 2 0) × (text_sized 63 (map bare bytes ∷ []) ≡ Accepted)
+many : (text_sized 65 (map bare (97 ∷ bytes) ∷ []) ≡ refused_at 2 0) × (text_sized 63 (map bare bytes ∷ []) ≡ Ok tt)
 unfolding text_sized tables starts_from flatten learnt_all learnt id_in same lowest or_next_of refuse
 many = (refl, refl)
 
@@ -51,7 +50,7 @@ t1 =
 abbrev room_for : ℕ → Lengths
 room_for ids = record { lines = 3; begins = 4; ids = ids; values = 3; references = 3; weights = 2; label_starts = 3; label_bytes = 2; name_starts = 3; name_bytes = 2; scale_starts = 4; scale_bytes = 5 }
 
-rooms : (text_checked 21 t1 (room_for 1) ≡ refused_at 2 0) × (text_checked 21 t1 (room_for 3) ≡ Accepted)
+rooms : (text_checked 21 t1 (room_for 1) ≡ refused_at 2 0) × (text_checked 21 t1 (room_for 3) ≡ Ok tt)
 unfolding text_checked tables starts_from flatten learnt_all learnt id_in same lowest or_next_of refuse
 rooms = (refl, refl)
 

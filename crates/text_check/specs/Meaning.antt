@@ -1,9 +1,7 @@
 -- What the reader's checks refuse, in plain terms: each number exactly when it is given, and with which place. The proofs are in proofs/Meant.
-use Rattle.std.specs.Prelude.{◌≡◌, List, [], ◌∷◌, ◌↔◌, ℕ, ◌≤◌, length}
+use Rattle.std.specs.Prelude.{◌≡◌, List, [], ◌∷◌, ◌↔◌, ℕ, ◌≤◌, length, Ok, Err}
 use Rattle.refusals.specs.declared.Refusal.{Refusal}
-use Rattle.refusals.specs.declared.Checked.{Checked}
-use Rattle.refusals.specs.declared.Checked.TheVariants.{Accepted, Refused}
-use Rattle.refusals.specs.Refusals.{refused_at}
+use Rattle.refusals.specs.Refusals.{Checked, refused_at}
 use Rattle.refusals.specs.Meaning.{FirstBad}
 use Rattle.refusal_rows.specs.Limits.{AllWithin, Fitting}
 use Rattle.refusal_rows.specs.Tests.{AllGood, FirstBadOf}
@@ -24,8 +22,8 @@ TextFits bytes ss have = (bytes ≤ 4294967295) × Fitting (text_counts ss) (tex
 pub record GivenTwoFour (check : Checked) (Fits : Type 0) (ss : List (List Word)) : Type 0 where
   pub two : (place : ℕ) → check ≡ refused_at 2 place ↔ AtZero Fits place
   pub four : (place : ℕ) → check ≡ refused_at 4 place ↔ Fits × FirstBadOf (sequence_tests ss) place
-  pub only : (why : Refusal) → check ≡ Refused why → OneOf (2 ∷ 4 ∷ []) why.number
-  pub accepted : check ≡ Accepted ↔ Fits × AllGood (sequence_tests ss)
+  pub only : (why : Refusal) → check ≡ Err why → OneOf (2 ∷ 4 ∷ []) why.number
+  pub accepted : check ≡ Ok tt ↔ Fits × AllGood (sequence_tests ss)
 
 abbrev pub TextChecksMean : Type 0
 TextChecksMean = (bytes : ℕ) (ss : List (List Word)) (have : Lengths) → GivenTwoFour (text_sized bytes ss) (SizesFit bytes ss) ss × GivenTwoFour (text_checked bytes ss have) (TextFits bytes ss have) ss

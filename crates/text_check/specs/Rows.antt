@@ -1,7 +1,6 @@
 -- What the reader of a training text refuses once the text is well-formed, and in which order: 2 of the text's length, 2 of the counts, 2 of the rooms, 4. Assumes nothing.
 use Rattle.std.specs.Prelude.{List, [], ◌∷◌, ℕ, ltb, length}
-use Rattle.refusals.specs.declared.Checked.{Checked}
-use Rattle.refusals.specs.Refusals.{refuse, first}
+use Rattle.refusals.specs.Refusals.{Checked, refuse, first}
 use Rattle.refusals.specs.Bounds.{the_labels, the_attribute_lists, the_instances, the_words, the_attributes}
 use Rattle.refusal_rows.specs.Limits.{Limit, count, at_most, room, two}
 use Rattle.refusal_rows.specs.Tests.{Test, lines_fit, checks}

@@ -1,9 +1,7 @@
 -- What a survey with room for 33 labels and 65,536 attribute names tells of a text's sequences, and the rows in its terms. Assumes nothing.
-use Rattle.std.specs.Prelude.{◌≡◌, ◌↔◌, ℕ, zero, suc, ◌+◌, ◌≤◌, ◌<◌, length, take}
+use Rattle.std.specs.Prelude.{◌≡◌, ◌↔◌, ℕ, ◌+◌, ◌≤◌, ◌<◌, length, take, Ok, Some, None, Option}
 use mathlib.Core.List.{List, [], ◌∷◌, flatten}
-use Rattle.refusals.specs.declared.Checked.{Checked}
-use Rattle.refusals.specs.declared.Checked.TheVariants.{Accepted}
-use Rattle.refusals.specs.Refusals.{refused_at}
+use Rattle.refusals.specs.Refusals.{Checked, refused_at}
 use Rattle.refusals.specs.Meaning.{FirstBad}
 use Rattle.refusal_rows.specs.Limits.{Limit, room}
 use Rattle.layout.specs.Layout.{Bytes, Word, NoneEmpty}
@@ -28,8 +26,8 @@ pub record TellsSequences (ss : List (List Word)) (s : Survey) : Type 0 where
   pub scales : s.figures.scales ≡ length (flatten (scales_of (all_attributes (all_words ss))))
   pub labels : CountsFront 33 (distinct (labels_of (all_words ss))) s.labels
   pub names : CountsFront 65536 (distinct (names_of (all_attributes (all_words ss)))) s.names
-  pub none_long : s.figures.long ≡ 0 ↔ ((i : ℕ) → i < length ss → AboveAt ss i → ⊥)
-  pub first_long : (i : ℕ) → s.figures.long ≡ i + 1 ↔ FirstBad (AboveAt ss) (length ss) i
+  pub none_long : s.figures.long ≡ None ↔ ((i : ℕ) → i < length ss → AboveAt ss i → ⊥)
+  pub first_long : (i : ℕ) → s.figures.long ≡ Some i ↔ FirstBad (AboveAt ss) (length ss) i
 
 -- ---- the rows, in its terms
 
@@ -52,10 +50,10 @@ survey_rooms s have =
     ∷ room have.scale_bytes s.figures.scales
     ∷ []
 
--- 4, at one below the count of the first long sequence
-abbrev pub long_refused : ℕ → Checked
-long_refused zero = Accepted
-long_refused (suc i) = refused_at 4 i
+-- 4, at the first long sequence
+abbrev pub long_refused : Option ℕ → Checked
+long_refused None = Ok tt
+long_refused (Some i) = refused_at 4 i
 
 -- nothing is so large that one more does not fit
 pub record FewSurvey (s : Survey) : Type 0 where

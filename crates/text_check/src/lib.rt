@@ -3,14 +3,13 @@
 #![tactic(auto)]
 
 ghost use Rattle.std.specs.Prelude.{◌≡◌, List, [], ℕ, ◌≤◌, length};
-ghost use Rattle.refusals.specs.Refusals.{or_next_of};
 ghost use Rattle.refusal_rows.specs.Limits.{any_broken};
 ghost use Rattle.layout.specs.Layout.{Word, WellFormed, sequences};
 ghost use Rattle.distinct.specs.Slots.{Filed};
 ghost use Rattle.text_check.specs.Rows.{text_sized, text_checked};
 ghost use Rattle.text_check.specs.Told.{TellsSequences, survey_counts, survey_rooms, long_refused, FewSurvey, TextSurveyed};
 
-use refusals::Checked;
+use refusals::Refusal;
 use survey::Survey;
 
 // How long the tables are that the reader is lent, in the call's order.
@@ -72,33 +71,32 @@ fn lacks_text(survey: Survey, have: Lengths) -> bool
 }
 
 // 4: the first sequence above 128 words, if there is one.
-fn check_long(answer: Checked, long: usize) -> Checked
-    ensures { result ≡ or_next_of answer (long_refused long) }
+fn check_long(long: Option<usize>) -> Result<(), Refusal>
+    ensures { result ≡ long_refused long }
 {
-    if long == 0 {
-        return answer;
+    match long {
+        Some(number) => refusals::refused(4, number),
+        None => Ok(()),
     }
-    refusals::or_next(answer, refusals::refused(4, long - 1))
 }
 
 // 2 and 4, where nothing is to be filled.
-pub fn check_sizes(survey: Survey) -> Checked
+pub fn check_sizes(survey: Survey) -> Result<(), Refusal>
     ensures { (bytes : ℕ) (ss : List (List Word)) → bytes ≤ 4294967295 → TellsSequences ss survey → result ≡ text_sized bytes ss }
 {
-    let figures = survey.figures;
-    let counted = refusals::refuse_if(Checked::Accepted, 2, 0, exceeds_text(survey));
-    check_long(counted, figures.long)
+    refusals::refuse_if(2, 0, exceeds_text(survey))?;
+    check_long(survey.figures.long)
 }
 
 // 2, 2 and 4, with tables of these lengths.
-pub fn check_text(survey: Survey, have: Lengths) -> Checked
+pub fn check_text(survey: Survey, have: Lengths) -> Result<(), Refusal>
     requires { FewSurvey survey }
     ensures { (bytes : ℕ) (ss : List (List Word)) → bytes ≤ 4294967295 → TellsSequences ss survey → result ≡ text_checked bytes ss have }
 {
     let figures = survey.figures;
-    let counted = refusals::refuse_if(Checked::Accepted, 2, 0, exceeds_text(survey));
-    let fits = refusals::refuse_if(counted, 2, 0, lacks_text(survey, have));
-    check_long(fits, figures.long)
+    refusals::refuse_if(2, 0, exceeds_text(survey))?;
+    refusals::refuse_if(2, 0, lacks_text(survey, have))?;
+    check_long(figures.long)
 }
 
 // The survey, with lists of its own for the places of names: one more than may be, so that too many are seen.

@@ -1,18 +1,17 @@
 -- What C is told of a training text means what `Meaning` says. Assumes nothing.
+use Rattle.std.specs.Prelude.{Result}
 use mathlib.Core.Path.{◌≡◌, refl, sym, ap, ◌∙◌}
 use mathlib.Core.List.{List, [], ◌∷◌}
 use Prim.Native.Nat.{ℕ, ◌<◌}
 use native.Mathlib.Omega.{arith}
 use lib.ListN.{length}
 use Rattle.refusals.specs.declared.Refusal.{Refusal}
-use Rattle.refusals.specs.declared.Checked.{Checked}
-use Rattle.refusals.specs.Refusals.{numbered, refused_at}
+use Rattle.refusals.specs.Refusals.{Checked, numbered, refused_at}
 use Rattle.refusals.specs.Said.{Said, accepted, refused}
 use Rattle.refusal_rows.proofs.Groups.{above_zero}
 use Rattle.layout.specs.Layout.{Bytes, Word}
 use Rattle.text_tables.specs.Written.{written_text}
 use Rattle.read_text.specs.declared.TextSizes.{TextSizes}
-use Rattle.read_text.specs.declared.TextReading.{TextReading}
 use Rattle.read_text.specs.Promise.{Buffers, said, sizes_for}
 use Rattle.read_text.specs.Meaning.{sequences_of, TextAnswerMeans}
 use Rattle.read_text.proofs.Meant.{promise_means, sizes_mean}
@@ -37,7 +36,7 @@ zero_taken : (s : Said TextSizes) → ((why : Refusal) → s ≡ refused why →
 zero_taken (accepted sizes) above h = (sizes, refl)
 zero_taken (refused why) above h = absurd (omega (arith, above why refl, h))
 
-tells : (text : Bytes) (Fits : List (List Word) → Type 0) (reading : TextReading) (answer : ReadText) →
+tells : (text : Bytes) (Fits : List (List Word) → Type 0) (reading : Result TextSizes Refusal) (answer : ReadText) →
     answer ≡ read_numbers (said reading) → TextAnswerMeans text Fits reading → ReadingTells text Fits answer
 tells text Fits reading answer e m =
     let s : Said TextSizes = said reading in

@@ -1,9 +1,11 @@
 -- No two different outcomes satisfy one promise. Assumes nothing.
+use Rattle.std.specs.Prelude.{Result}
+use Rattle.refusals.specs.declared.Refusal.{Refusal}
+use Rattle.read_text.specs.declared.TextSizes.{TextSizes}
 use mathlib.Core.Path.{◌≡◌, sym, ap, ◌∙◌}
 use Rattle.layout.specs.Layout.{Bytes}
 use Rattle.write_check.specs.Rows.{Unchecked}
 use Rattle.read_text.specs.Promise.{Buffers, Outcome, said}
-use Rattle.read_text.specs.declared.TextReading.{TextReading}
 use Rattle.read_text.proofs.Unique.{only_one}
 use Rattle.read_text.proofs.Sized.{one_sizes}
 use Rattle.text_exports.specs.declared.ReadText.{ReadText}
@@ -18,7 +20,7 @@ one_reading text before a b p q =
     λ i. record { answer = e i; after = t i }
 
 pub one_size : (text : Bytes) (a b : ReadText) → Sizes text a → Sizes text b → a ≡ b
-one_size text a b p q = p.answers ∙ ap (λ (r : TextReading). read_numbers (said r)) (one_sizes text p.reading q.reading p.promised q.promised) ∙ sym q.answers
+one_size text a b p q = p.answers ∙ ap (λ (r : Result TextSizes Refusal). read_numbers (said r)) (one_sizes text p.reading q.reading p.promised q.promised) ∙ sym q.answers
 
 pub one_writing : (given : Unchecked) (before : Bytes) (a b : WriteOutcome) → Writes given before a → Writes given before b → a ≡ b
 one_writing given before a b p q =

@@ -1,12 +1,13 @@
 -- What was read is written, and what was written is read back, by the calls as C has them. Assumes nothing.
+use Rattle.refusals.specs.declared.Refusal.{Refusal}
+use Rattle.std.specs.Prelude.{Ok, Result}
 use mathlib.Core.Path.{◌≡◌, refl, sym, ap, subst, ◌∙◌}
 use mathlib.Core.List.{List, [], ◌∷◌, flatten}
 use Prim.Native.Nat.{ℕ, ◌≤◌}
 use native.Mathlib.Omega.{arith}
 use lib.ListN.{length, take, drop}
 use lib.Seq.{take_at}
-use Rattle.refusals.specs.declared.Checked.{Checked}
-use Rattle.refusals.specs.declared.Checked.TheVariants.{Accepted}
+use Rattle.refusals.specs.Refusals.{Checked}
 use Rattle.refusals.specs.Said.{accepted}
 use Rattle.refusal_rows.specs.Tests.{AllGood}
 use Rattle.refusal_rows.proofs.Means.{fitting}
@@ -29,7 +30,6 @@ use Rattle.write_text.specs.Promise.{checked_of as writing_checked, answer_to, t
 use Rattle.write_text.specs.Accepts.{read_given, ReadWithin}
 use Rattle.write_text.proofs.Accepts.{accepts_the_read}
 use Rattle.read_text.specs.declared.TextSizes.{TextSizes}
-use Rattle.read_text.specs.declared.TextReading.{TextReading}
 use Rattle.read_text.specs.Promise.{Buffers, Outcome, said, sizes_for, lengths_of, checked_of, laid_over, holding}
 use Rattle.read_text.specs.Again.{lent_back}
 use Rattle.read_text.proofs.Unique.{told}
@@ -74,7 +74,7 @@ same_text : (ss : List (List Word)) (tails : Tails) → written_text (lent_with 
 same_text ss tails = ap (λ (rs : List (List Word)). text_of (all_lines rs)) (tails_unread (unwritten (tables ss)) (amounts_of ss) (tables_reached ss) tails)
 
 -- ---- an accepted writing
-module _ (given : Unchecked) (room : Bytes) (written : WriteOutcome) (fine : writing_checked given room ≡ Accepted) (w : Writes given room written) where
+module _ (given : Unchecked) (room : Bytes) (written : WriteOutcome) (fine : writing_checked given room ≡ Ok tt) (w : Writes given room written) where
   told_length : written.answer ≡ written_numbers (accepted (length (written_text given.tables)))
   unfolding answer_to
   told_length = rw fine at w.answers
@@ -86,20 +86,20 @@ module _ (given : Unchecked) (room : Bytes) (written : WriteOutcome) (fine : wri
       ap (take (length t)) (rw fine at w.text) ∙ take_at t (drop (length t) room) (length t) refl
 
 -- ---- an accepted reading: its lines, and what it left
-record Took (text : Bytes) (before : Buffers) (outcome : ReadOutcome) (reading : TextReading) : Type 0 where
+record Took (text : Bytes) (before : Buffers) (outcome : ReadOutcome) (reading : Result TextSizes Refusal) : Type 0 where
   formed : WellFormed text
   fits : TextFits (length text) (sequences formed.lines) (lengths_of before)
   good : AllGood (sequence_tests (sequences formed.lines))
   answer_is : outcome.answer ≡ read_numbers (accepted (sizes_for (sequences formed.lines)))
   after_is : outcome.after ≡ laid_over (tables (sequences formed.lines)) before
-  reading_is : reading ≡ TextReading.Read (sizes_told outcome.answer)
+  reading_is : reading ≡ Ok (sizes_told outcome.answer)
 
 took : (text : Bytes) (before : Buffers) (outcome : ReadOutcome) (kept : Reads text before outcome) → outcome.answer.number ≡ 0 → Took text before outcome kept.reading
 took text before outcome kept zero =
     let t = accepted_sizes text before outcome kept zero in
     let f = ((promise_means text before _ kept.promised).taken t.0).0 t.1 in
     let ls : List Line = f.0.lines in
-    let check : checked_of text (sequences ls) before ≡ Accepted = (text_checks_mean (length text) (sequences ls) (lengths_of before)).1.accepted.1 (f.1, f.2) in
+    let check : checked_of text (sequences ls) before ≡ Ok tt = (text_checks_mean (length text) (sequences ls) (lengths_of before)).1.accepted.1 (f.1, f.2) in
     let told_so : outcome.answer ≡ read_numbers (accepted t.0) = kept.answers ∙ ap read_numbers t.1 in
     record {
       formed = f.0;
@@ -107,11 +107,11 @@ took text before outcome kept zero =
       good = f.2;
       answer_is = told_so ∙ ap (λ (sizes : TextSizes). read_numbers (accepted sizes)) f.3;
       after_is = (kept.promised.whole ls f.0.sound f.0.made).after ∙ ap (λ (c : Checked). holding c (tables (sequences ls)) before) check;
-      reading_is = told kept.reading (TextReading.Read (sizes_told outcome.answer)) (t.1 ∙ ap accepted (sym (ap sizes_told told_so)));
+      reading_is = told kept.reading (Ok (sizes_told outcome.answer)) (t.1 ∙ ap accepted (sym (ap sizes_told told_so)));
     }
 
 -- what was written is read back to the same
-back : (text : Bytes) (before : Buffers) (outcome again : ReadOutcome) (p : Reads text before outcome) → p.reading ≡ TextReading.Read (sizes_told outcome.answer)
+back : (text : Bytes) (before : Buffers) (outcome again : ReadOutcome) (p : Reads text before outcome) → p.reading ≡ Ok (sizes_told outcome.answer)
     → let written = written_text (lent_back (sizes_told outcome.answer) outcome.after) in length written ≤ 4294967295 → Reads written before again → again ≡ outcome
 back text before outcome again p is few q =
     let same : ◌≡◌ {A = Outcome} (record { answer = q.reading; after = again.after }) (record { answer = p.reading; after = outcome.after }) =
@@ -132,7 +132,7 @@ round_trip text before outcome kept zero room enough written w =
     let made : length (text_of ls) ≡ length text = ap length t.formed.made in
     let few = few_written ls t.formed.sound in
     let within = read_within ls t.formed.sound (length text) (lengths_of before) t.fits t.good in
-    let fine : writing_checked given room ≡ Accepted = ap (λ (g : Unchecked). writing_checked g room) is ∙ accepts_the_read ls t.formed.sound within tails room (omega (arith, few, made, enough)) in
+    let fine : writing_checked given room ≡ Ok tt = ap (λ (g : Unchecked). writing_checked g room) is ∙ accepts_the_read ls t.formed.sound within tails room (omega (arith, few, made, enough)) in
     let told_so = told_length given room written fine w in
     let size : written.answer.length ≡ length (written_text given.tables) = ap (λ (a : WrittenText). a.length) told_so in
     record {

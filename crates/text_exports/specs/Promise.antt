@@ -1,9 +1,10 @@
 -- What the training text gives to C: the answers of the crates read_text and write_text, as numbers. Assumes nothing.
-use Rattle.std.specs.Prelude.{◌≡◌}
+use Rattle.refusals.specs.declared.Refusal.{Refusal}
+use Rattle.read_text.specs.declared.TextSizes.{TextSizes}
+use Rattle.std.specs.Prelude.{◌≡◌, Result}
 use Rattle.layout.specs.Layout.{Bytes}
 use Rattle.write_check.specs.Rows.{Unchecked}
 use Rattle.write_text.specs.Promise.{answer_to, text_after}
-use Rattle.read_text.specs.declared.TextReading.{TextReading}
 use Rattle.read_text.specs.Promise.{Buffers, said, Promised}
 use Rattle.read_text.specs.Sizes.{SizesPromised}
 use Rattle.text_exports.specs.declared.ReadText.{ReadText}
@@ -17,13 +18,13 @@ pub record ReadOutcome : Type 0 where
 
 -- the promise of reading: an answer that keeps the promise of read_text, as numbers
 pub record Reads (text : Bytes) (before : Buffers) (outcome : ReadOutcome) : Type 0 where
-  pub reading : TextReading
+  pub reading : Result TextSizes Refusal
   pub answers : outcome.answer ≡ read_numbers (said reading)
   pub promised : Promised text before (record { answer = reading; after = outcome.after })
 
 -- the promise of the sizes, likewise
 pub record Sizes (text : Bytes) (answer : ReadText) : Type 0 where
-  pub reading : TextReading
+  pub reading : Result TextSizes Refusal
   pub answers : answer ≡ read_numbers (said reading)
   pub promised : SizesPromised text reading
 

@@ -10,9 +10,9 @@ ghost use Rattle.text_exports.specs.Numbers.{read_numbers, written_numbers};
 ghost use Rattle.text_exports.specs.Promise.{Reads, Sizes, Writes};
 
 use lines::Totals;
-use read_text::TextReading;
+use read_text::TextSizes;
+use refusals::Refusal;
 use write_check::Names;
-use write_text::Written;
 
 // The refusal's number and place, or how many names, instances, words and attributes there are and how many bytes the names and
 // the scales have; what has no value is 0.
@@ -31,34 +31,36 @@ pub struct ReadText {
     pub scale_bytes: u32,
 }
 
-fn numbers_of_reading(answer: TextReading) -> ReadText
-    ensures { result ≡ read_numbers (reading_said answer) }
-{
-    match answer {
-        TextReading::Read(sizes) => ReadText {
-            number: 0,
-            place: 0,
-            labels: sizes.labels,
-            names: sizes.names,
-            instances: sizes.instances,
-            words: sizes.words,
-            attributes: sizes.attributes,
-            label_bytes: sizes.label_bytes,
-            name_bytes: sizes.name_bytes,
-            scale_bytes: sizes.scale_bytes,
-        },
-        TextReading::Refused(refusal) => ReadText {
-            number: refusal.number,
-            place: refusal.place,
-            labels: 0,
-            names: 0,
-            instances: 0,
-            words: 0,
-            attributes: 0,
-            label_bytes: 0,
-            name_bytes: 0,
-            scale_bytes: 0,
-        },
+impl From<Result<TextSizes, Refusal>> for ReadText {
+    ghost from_gives = { λ answer told. told ≡ read_numbers (reading_said answer) };
+
+    fn from(answer: Result<TextSizes, Refusal>) -> ReadText {
+        match answer {
+            Ok(sizes) => ReadText {
+                number: 0,
+                place: 0,
+                labels: sizes.labels,
+                names: sizes.names,
+                instances: sizes.instances,
+                words: sizes.words,
+                attributes: sizes.attributes,
+                label_bytes: sizes.label_bytes,
+                name_bytes: sizes.name_bytes,
+                scale_bytes: sizes.scale_bytes,
+            },
+            Err(refusal) => ReadText {
+                number: refusal.number,
+                place: refusal.place,
+                labels: 0,
+                names: 0,
+                instances: 0,
+                words: 0,
+                attributes: 0,
+                label_bytes: 0,
+                name_bytes: 0,
+                scale_bytes: 0,
+            },
+        }
     }
 }
 
@@ -83,7 +85,7 @@ pub extern "C" fn bodkinbloom_read_text(
         let after = buffers_of line_starts.new word_starts.new ids.new values.new references.new instance_weights.new label_name_starts.new label_names.new attribute_name_starts.new attribute_names.new scale_starts.new scales.new in
         Reads text.now before (record { answer = result; after = after }) }
 {
-    let reading = read_text::read_text(
+    ReadText::from(read_text::read_text(
         text,
         line_starts,
         word_starts,
@@ -97,8 +99,7 @@ pub extern "C" fn bodkinbloom_read_text(
         attribute_names,
         scale_starts,
         scales,
-    );
-    numbers_of_reading(reading)
+    ))
 }
 
 // The sizes of a text: what reading it answers where every table is long enough.
@@ -106,7 +107,7 @@ pub extern "C" fn bodkinbloom_read_text(
 pub extern "C" fn bodkinbloom_text_sizes(text: &[u8]) -> ReadText
     ensures { Sizes text.now result }
 {
-    numbers_of_reading(read_text::text_sizes(text))
+    ReadText::from(read_text::text_sizes(text))
 }
 
 // The refusal's number and place, or how many bytes were written; what has no value is 0.
@@ -118,20 +119,22 @@ pub struct WrittenText {
     pub length: u64,
 }
 
-fn numbers_of_writing(answer: Written) -> WrittenText
-    ensures { result ≡ written_numbers (writing_said answer) }
-{
-    match answer {
-        Written::Length(length) => WrittenText {
-            number: 0,
-            place: 0,
-            length: length as u64,
-        },
-        Written::Refused(why) => WrittenText {
-            number: why.number,
-            place: why.place,
-            length: 0,
-        },
+impl From<Result<usize, Refusal>> for WrittenText {
+    ghost from_gives = { λ answer told. told ≡ written_numbers (writing_said answer) };
+
+    fn from(answer: Result<usize, Refusal>) -> WrittenText {
+        match answer {
+            Ok(length) => WrittenText {
+                number: 0,
+                place: 0,
+                length: length as u64,
+            },
+            Err(why) => WrittenText {
+                number: why.number,
+                place: why.place,
+                length: 0,
+            },
+        }
     }
 }
 
@@ -156,7 +159,7 @@ pub extern "C" fn bodkinbloom_write_text(
     ensures { let given = unchecked_was labels totals names line_starts word_starts ids references label_name_starts label_names attribute_name_starts attribute_names scale_starts scales in
         Writes given text.old (record { answer = result; text = text.new }) }
 {
-    let answer = write_text::write_text(
+    WrittenText::from(write_text::write_text(
         labels,
         totals,
         names,
@@ -171,6 +174,5 @@ pub extern "C" fn bodkinbloom_write_text(
         scale_starts,
         scales,
         text,
-    );
-    numbers_of_writing(answer)
+    ))
 }

@@ -1,17 +1,18 @@
 -- The parts of names, scales and lists one by one. Assumes nothing.
 use mathlib.Core.Path.{◌≡◌, refl, sym, ap, ◌∙◌}
-use mathlib.Core.Bool.{Bool, true, false, ◌||◌}
+use mathlib.Core.Bool.{Bool, true, false, cond, ◌||◌}
 use mathlib.Core.List.{List, [], ◌∷◌, ◌++◌, map, flatten, append_assoc}
 use Prim.Native.Nat.{ℕ, suc, ◌+◌, ◌-◌, ◌≤◌, ◌<◌}
 use native.Mathlib.Omega.{arith}
 use lib.Dec.{eqb}
-use lib.ListN.{length, get_or}
+use lib.ListN.{length, get_or, drop, drop_of_length-le}
 use lib.Seq.{slice, length-slice}
+use Rattle.std.specs.Prelude.{count_by}
+use Rattle.std.proofs.lemmas.List.Sums.{sum_by-cons}
 use Rattle.lines.specs.Passes.{start, size}
 use Rattle.layout.specs.Layout.{Bytes, escaped, scale_text}
 use Rattle.byte_buffers.specs.Stored.{RoomFor}
-use Rattle.byte_buffers.proofs.Onto.{part_next, part_over}
-use Rattle.pieces.proofs.Parts.{slice_lent}
+use Rattle.pieces.proofs.Parts.{here, slice_lent}
 use Rattle.text_tables.specs.Tables.{Strings}
 use Rattle.text_tables.specs.Written.{Unwritten, string_at, places_from, places_in, attribute_from, attribute_text, label_from, written_text}
 use Rattle.text_tables.proofs.Places.{word_by_places, sequence_by_places, text_by_places}
@@ -54,16 +55,24 @@ no_name = refl
 abbrev pub special : ℕ → Bool
 special b = eqb b 58 || eqb b 92
 
-pub name_special : (bytes : Bytes) (i to : ℕ) → i < to → to ≤ length bytes → special (get_or bytes i 0) ≡ true
-    → escaped (slice i to bytes) ≡ 92 ∷ get_or bytes i 0 ∷ escaped (slice (i + 1) to bytes)
-name_special bytes i to h k s = ap escaped (part_next bytes i to h k) ∙ marked (get_or bytes i 0) (slice (i + 1) to bytes) s
+pub name_special : (name : Bytes) (i : ℕ) → i < length name → special (get_or name i 0) ≡ true → escaped (drop i name) ≡ 92 ∷ get_or name i 0 ∷ escaped (drop (i + 1) name)
+name_special name i h s = ap escaped (here name i h) ∙ marked (get_or name i 0) (drop (i + 1) name) s
 
-pub name_plain : (bytes : Bytes) (i to : ℕ) → i < to → to ≤ length bytes → special (get_or bytes i 0) ≡ false
-    → escaped (slice i to bytes) ≡ get_or bytes i 0 ∷ escaped (slice (i + 1) to bytes)
-name_plain bytes i to h k s = ap escaped (part_next bytes i to h k) ∙ unmarked (get_or bytes i 0) (slice (i + 1) to bytes) s
+pub name_plain : (name : Bytes) (i : ℕ) → i < length name → special (get_or name i 0) ≡ false → escaped (drop i name) ≡ get_or name i 0 ∷ escaped (drop (i + 1) name)
+name_plain name i h s = ap escaped (here name i h) ∙ unmarked (get_or name i 0) (drop (i + 1) name) s
 
-pub name_over : (bytes : Bytes) (i to : ℕ) → i ≤ to → to ≤ i → escaped (slice i to bytes) ≡ []
-name_over bytes i to h k = ap escaped (part_over bytes i to h k) ∙ no_name
+pub name_over : (name : Bytes) (i : ℕ) → length name ≤ i → escaped (drop i name) ≡ []
+name_over name i h = ap escaped (drop_of_length-le name {i = i} h) ∙ no_name
+
+-- a name with its backslashes has so many bytes more
+pub escaped_count : (name : Bytes) → length name + count_by special name ≡ length (escaped name)
+escaped_count [] = sym (ap length no_name)
+escaped_count (b ∷ name) = go (special b) refl (sum_by-cons (λ (x : ℕ). cond (special x) 1 0) b name) (escaped_count name)
+  where
+    go : (x : Bool) → special b ≡ x → count_by special (b ∷ name) ≡ cond (special b) 1 0 + count_by special name → length name + count_by special name ≡ length (escaped name)
+        → length (b ∷ name) + count_by special (b ∷ name) ≡ length (escaped (b ∷ name))
+    go true s e f = omega (arith, ap length (marked b name s), ap {B = ℕ} (λ (x : Bool). cond x 1 0) s, e, f)
+    go false s e f = omega (arith, ap length (unmarked b name s), ap {B = ℕ} (λ (x : Bool). cond x 1 0) s, e, f)
 
 -- ---- the text of a kept scale
 

@@ -1,43 +1,18 @@
 -- Lengths counted place by place. Assumes nothing.
 use mathlib.Core.Path.{◌≡◌, sym, ap, ◌∙◌}
-use mathlib.Core.Bool.{true, false}
 use Prim.Native.Nat.{ℕ, ◌+◌, ◌*◌, ◌-◌, ◌≤◌, ◌<◌}
 use native.Mathlib.Nat.{zero-add, add-mul, one-mul, zero-mul}
 use native.Mathlib.Omega.{arith}
 use lib.ListN.{length, get_or}
-use lib.Seq.{slice, length-slice}
+use lib.Seq.{length-slice}
 use Rattle.refusals.specs.Meaning.{Starts}
-use Rattle.layout.specs.Layout.{Bytes, escaped, scale_text}
+use Rattle.layout.specs.Layout.{escaped, scale_text}
 use Rattle.text_tables.specs.Tables.{Strings}
 use Rattle.text_tables.specs.Written.{Unwritten, string_at, written_text}
 use Rattle.text_tables.proofs.Places.{lengths_none, lengths_more, length_of_tables}
 use Rattle.text_writing.specs.Ready.{StringStands}
-use Rattle.text_writing.proofs.Laws.{special, name_special, name_plain, name_over, part_stands, scale_none, scale_some}
+use Rattle.text_writing.proofs.Laws.{part_stands, scale_none, scale_some}
 use Rattle.text_writing.specs.Sums.{sum_to, label_bytes_of, attribute_size}
-
--- ---- a name: so many so far, and what is left makes all
-pub record Counting (bytes : Bytes) (from to i count : ℕ) : Type 0 where
-  pub inside : i ≤ to
-  pub whole : to ≤ length bytes
-  pub begun : from ≤ i
-  pub few : count + 2 * from ≤ 2 * i
-  pub same : count + length (escaped (slice i to bytes)) ≡ length (escaped (slice from to bytes))
-
-pub counting_starts : {bytes : Bytes} {from to : ℕ} → from ≤ to → to ≤ length bytes → Counting bytes from to from 0
-counting_starts h k = record { inside = h; whole = k; begun = omega arith; few = omega arith; same = omega arith }
-
-pub counting_two : {bytes : Bytes} {from to i count : ℕ} → Counting bytes from to i count → i < to → special (get_or bytes i 0) ≡ true → Counting bytes from to (i + 1) (count + 2)
-counting_two {bytes} {from} {to} {i} g h s =
-    let l = ap length (name_special bytes i to h g.whole s) in
-    record { inside = omega (arith, h); whole = g.whole; begun = omega (arith, g.begun); few = omega (arith, g.few); same = omega (arith, l, g.same) }
-
-pub counting_one : {bytes : Bytes} {from to i count : ℕ} → Counting bytes from to i count → i < to → special (get_or bytes i 0) ≡ false → Counting bytes from to (i + 1) (count + 1)
-counting_one {bytes} {from} {to} {i} g h s =
-    let l = ap length (name_plain bytes i to h g.whole s) in
-    record { inside = omega (arith, h); whole = g.whole; begun = omega (arith, g.begun); few = omega (arith, g.few); same = omega (arith, l, g.same) }
-
-pub counting_over : {bytes : Bytes} {from to i count : ℕ} → Counting bytes from to i count → to ≤ i → count ≡ length (escaped (slice from to bytes))
-counting_over {bytes} {from} {to} {i} g h = let l = ap length (name_over bytes i to g.inside h) in omega (arith, l, g.same)
 
 -- ---- a kept text
 pub no_scale_length : {s : Strings} {i from to : ℕ} → StringStands s i → from ≡ get_or s.starts i 0 → to ≡ get_or s.starts (i + 1) 0 → from ≡ to → 0 ≡ length (scale_text (string_at s i))

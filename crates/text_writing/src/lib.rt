@@ -16,7 +16,7 @@ ghost use Rattle.text_writing.specs.Sums.{sum_to, label_bytes_of, attribute_size
 fn needs_slash(b: u8) -> bool
     ensures { result ≡ (eqb b 58 || eqb b 92) }
 {
-    (b == 58) | (b == 92)
+    matches!(b, b':' | b'\\')
 }
 
 // The bytes of a name, a backslash before each colon and each backslash.
@@ -25,19 +25,14 @@ fn put_escaped(text: &mut [u8], at: usize, bytes: &[u8], from: usize, to: usize)
     requires room_for { RoomFor (escaped (slice from to bytes.now)) text.old at }
     ensures { Put (escaped (slice from to bytes.now)) text.old at result text.new }
 {
-    let mut i = from;
     let mut k = at;
-    while i < to {
-        let b = bytes[i];
-        i += 1;
-        if needs_slash(b) {
-            text[k] = 92;
-            text[k + 1] = b;
-            k += 2;
-        } else {
-            text[k] = b;
+    for b in &bytes[from..to] {
+        if needs_slash(*b) {
+            text[k] = b'\\';
             k += 1;
         }
+        text[k] = *b;
+        k += 1;
     }
     k
 }
@@ -64,7 +59,7 @@ fn put_scale(text: &mut [u8], at: usize, starts: &[u32], bytes: &[u8], i: usize)
     if from == to {
         return at;
     }
-    let colon = byte_buffers::put_byte(text, at, 58);
+    let colon = byte_buffers::put_byte(text, at, b':');
     byte_buffers::put_bytes(text, colon, bytes, from, to)
 }
 
@@ -84,7 +79,7 @@ fn put_attribute(
     ensures { let bytes = attribute_bytes ids.now (strings name_starts.now names.now) (strings scale_starts.now scales.now) a in
         Put bytes text.old at result text.new }
 {
-    let tab = byte_buffers::put_byte(text, at, 9);
+    let tab = byte_buffers::put_byte(text, at, b'\t');
     let id = lines::at(ids, a);
     let name = put_name(text, tab, name_starts, names, id);
     put_scale(text, name, scale_starts, scales, a)
@@ -107,11 +102,9 @@ fn put_attributes(
     ensures { let f = attribute_bytes ids.now (strings name_starts.now names.now) (strings scale_starts.now scales.now) in
         Put (each_from f first (end - first)) text.old at result text.new }
 {
-    let mut a = first;
     let mut k = at;
-    while a < end {
+    for a in first..end {
         k = put_attribute(text, k, ids, name_starts, names, scale_starts, scales, a);
-        a += 1;
     }
     k
 }
@@ -151,7 +144,7 @@ fn put_word(
         first,
         end,
     );
-    byte_buffers::put_byte(text, last, 10)
+    byte_buffers::put_byte(text, last, b'\n')
 }
 
 // The words from one place up to another.
@@ -175,9 +168,8 @@ fn put_words(
     ensures { let t = word_tables begins.now ids.now references.now (strings label_starts.now labels.now) (strings name_starts.now names.now) (strings scale_starts.now scales.now) in
         Put (each_from (word_bytes t) first (end - first)) text.old at result text.new }
 {
-    let mut w = first;
     let mut k = at;
-    while w < end {
+    for w in first..end {
         k = put_word(
             text,
             k,
@@ -192,7 +184,6 @@ fn put_words(
             scales,
             w,
         );
-        w += 1;
     }
     k
 }
@@ -202,7 +193,7 @@ fn end_sequence(text: &mut [u8], at: usize) -> usize
     requires { RoomFor (10 ∷ []) text.old at }
     ensures { Put (10 ∷ []) text.old at result text.new }
 {
-    byte_buffers::put_byte(text, at, 10)
+    byte_buffers::put_byte(text, at, b'\n')
 }
 
 // All sequences, each with one more line feed behind it.
@@ -227,9 +218,8 @@ pub fn put_sequences(
         (strings label_starts.now labels.now) (strings name_starts.now names.now) (strings scale_starts.now scales.now) in
         Put (each_from (sequence_bytes t) 0 instances) text.old 0 result text.new }
 {
-    let mut i = 0usize;
     let mut k = 0usize;
-    while i < instances {
+    for i in 0..instances {
         let first = lines::at(lines, i);
         let end = lines::at(lines, i + 1);
         let last = put_words(
@@ -248,7 +238,6 @@ pub fn put_sequences(
             end,
         );
         k = end_sequence(text, last);
-        i += 1;
     }
     k
 }
@@ -259,24 +248,8 @@ fn escaped_length(bytes: &[u8], from: usize, to: usize) -> usize
     ensures value { result ≡ length (escaped (slice from to bytes.now)) }
     ensures upper_bound { result ≤ 8589934590 }
 {
-    let mut i = from;
-    let mut count = 0usize;
-    while i < to {
-        let b = bytes[i];
-        i += 1;
-        if needs_slash(b) {
-            count += 2;
-        } else {
-            count += 1;
-        }
-    }
-    count
-}
-
-fn wide(x: u32) -> usize
-    ensures { (result ≡ x) × (result ≤ 4294967295) }
-{
-    x as usize
+    let slashes = bytes[from..to].iter().filter(|b| needs_slash(**b)).count();
+    to - from + slashes
 }
 
 // String i of a list of names.
@@ -285,8 +258,8 @@ fn name_length(starts: &[u32], bytes: &[u8], i: usize) -> usize
     ensures value { result ≡ length (escaped (string_at (strings starts.now bytes.now) i)) }
     ensures upper_bound { result ≤ 8589934590 }
 {
-    let from = wide(starts[i]);
-    let to = wide(starts[i + 1]);
+    let from = starts[i] as usize;
+    let to = starts[i + 1] as usize;
     escaped_length(bytes, from, to)
 }
 
@@ -296,8 +269,8 @@ fn scale_length(starts: &[u32], bytes: &[u8], i: usize) -> usize
     ensures value { result ≡ length (scale_text (string_at (strings starts.now bytes.now) i)) }
     ensures upper_bound { result ≤ 4294967296 }
 {
-    let from = wide(starts[i]);
-    let to = wide(starts[i + 1]);
+    let from = starts[i] as usize;
+    let to = starts[i + 1] as usize;
     if from == to {
         return 0;
     }
@@ -311,12 +284,10 @@ fn labels_length(references: &[u32], starts: &[u32], bytes: &[u8], words: usize)
     ensures value { result ≡ sum_to (label_bytes_of references.now (strings starts.now bytes.now)) words }
     ensures upper_bound { result ≤ words * 8589934591 }
 {
-    let mut w = 0usize;
     let mut total = 0usize;
-    while w < words {
+    for w in 0..words {
         let label = lines::at(references, w);
         total += name_length(starts, bytes, label) + 1;
-        w += 1;
     }
     total
 }
@@ -352,11 +323,9 @@ fn attributes_length(
     ensures value { result ≡ sum_to (attribute_size ids.now (strings name_starts.now names.now) (strings scale_starts.now scales.now)) attributes }
     ensures upper_bound { result ≤ attributes * 12884901887 }
 {
-    let mut a = 0usize;
     let mut total = 0usize;
-    while a < attributes {
+    for a in 0..attributes {
         total += attribute_length(ids, name_starts, names, scale_starts, scales, a);
-        a += 1;
     }
     total
 }

@@ -1,87 +1,61 @@
-// What is printed: numbers parted by commas, binary64 as sixteen hexadecimal digits each, parted likewise, bytes as two each. A
-// blank stands before a table, and nothing at all is `-`.
+// What is printed of a table: numbers parted by commas, binary64 as sixteen hexadecimal digits each, parted likewise, bytes as two
+// each, and nothing at all as `-`.
+use refusals::Refusal;
+use std::fmt;
 use std::io::{self, Write};
+use std::num::f64_to_bits_with_nan;
 
-pub(crate) fn word<W: Write>(out: &mut W, text: &[u8]) -> io::Result<()> {
-    out.write_all(text)
-}
+#[derive(Clone, Copy)]
+pub(crate) struct Numbers<'a>(pub &'a [u32]);
 
-pub(crate) fn decimal<W: Write>(out: &mut W, n: u64) -> io::Result<()> {
-    write!(out, "{n}")
-}
+#[derive(Clone, Copy)]
+pub(crate) struct Values<'a>(pub &'a [f64]);
 
-// What stands before a table without entries, and before an entry.
-fn none<W: Write>(out: &mut W, n: usize) -> io::Result<()> {
-    if n == 0 {
-        word(out, b" -")?;
-    }
-    Ok(())
-}
+#[derive(Clone, Copy)]
+pub(crate) struct Bytes<'a>(pub &'a [u8]);
 
-fn before<W: Write>(out: &mut W, i: usize) -> io::Result<()> {
-    if i == 0 {
-        word(out, b" ")
-    } else {
-        word(out, b",")
+impl fmt::Display for Numbers<'_> {
+    fn fmt<W: fmt::Write>(&self, f: &mut fmt::Formatter<W>) -> fmt::Result {
+        if self.0.is_empty() {
+            return f.write_str("-");
+        }
+        for (i, number) in self.0.iter().enumerate() {
+            write!(f, "{}{number}", before(i))?;
+        }
+        Ok(())
     }
 }
 
-pub(crate) fn numbers<W: Write>(out: &mut W, table: &[u32], n: usize) -> io::Result<()> {
-    none(out, n)?;
-    for i in 0..n {
-        before(out, i)?;
-        decimal(out, number_at(table, i))?;
-    }
-    Ok(())
-}
-
-fn number_at(table: &[u32], i: usize) -> u64 {
-    if i < table.len() { wide(table[i]) } else { 0 }
-}
-
-fn wide(x: u32) -> u64 {
-    x as u64
-}
-
-pub(crate) fn floats<W: Write>(out: &mut W, table: &[f64], n: usize) -> io::Result<()> {
-    none(out, n)?;
-    for i in 0..n {
-        before(out, i)?;
-        let pattern = bits_at(table, i);
-        write!(out, "{pattern:016x}")?;
-    }
-    Ok(())
-}
-
-fn bits_at(table: &[f64], i: usize) -> u64 {
-    if i < table.len() { bits(table[i]) } else { 0 }
-}
-
-// The language gives a NaN no pattern.
-fn bits(x: f64) -> u64 {
-    if x == x {
-        f64::to_bits(x)
-    } else {
-        9221120237041090560
+impl fmt::Display for Values<'_> {
+    fn fmt<W: fmt::Write>(&self, f: &mut fmt::Formatter<W>) -> fmt::Result {
+        if self.0.is_empty() {
+            return f.write_str("-");
+        }
+        for (i, value) in self.0.iter().enumerate() {
+            write!(f, "{}{:016x}", before(i), f64_to_bits_with_nan(*value))?;
+        }
+        Ok(())
     }
 }
 
-pub(crate) fn bytes<W: Write>(out: &mut W, table: &[u8], n: usize) -> io::Result<()> {
-    none(out, n)?;
-    if 0 < n {
-        word(out, b" ")?;
+impl fmt::Display for Bytes<'_> {
+    fn fmt<W: fmt::Write>(&self, f: &mut fmt::Formatter<W>) -> fmt::Result {
+        if self.0.is_empty() {
+            return f.write_str("-");
+        }
+        for byte in self.0 {
+            write!(f, "{byte:02x}")?;
+        }
+        Ok(())
     }
-    for i in 0..n {
-        let value = byte_at(table, i);
-        write!(out, "{value:02x}")?;
-    }
-    Ok(())
 }
 
-fn byte_at(table: &[u8], i: usize) -> u64 {
-    if i < table.len() { byte(table[i]) } else { 0 }
+// What stands before an entry.
+fn before(i: usize) -> &'static str {
+    if i == 0 { "" } else { "," }
 }
 
-fn byte(x: u8) -> u64 {
-    x as u64
+// A refusal, of a text or of its tables.
+pub(crate) fn refused<W: Write>(out: &mut W, why: Refusal) -> io::Result<()> {
+    write!(out, "REFUSED {} {}", why.number, why.place)
 }

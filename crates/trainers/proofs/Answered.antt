@@ -1,4 +1,5 @@
 -- What a trainer answers, each number both ways, as `AnswersMean` says. Assumes nothing.
+use Rattle.std.specs.Prelude.{Ok, Err}
 use mathlib.Core.Path.{◌≡◌, refl, sym, ◌∙◌, ap}
 use mathlib.Core.List.{[], ◌∷◌}
 use mathlib.Core.Logic.{◌↔◌, ◌⊎◌, inl, inr}
@@ -6,11 +7,9 @@ use Prim.Native.Nat.{ℕ, ◌≤◌, ◌<◌}
 use native.Mathlib.Omega.{arith}
 use lib.Dec.{T}
 use lib.Ieee.Scale.{finite}
-use Rattle.refusals.specs.declared.Checked.TheVariants.{Accepted}
 use Rattle.refusals.specs.Refusals.{numbered, refused_at}
 use Rattle.refusals.specs.Said.{Said, accepted, refused}
 use Rattle.refusal_rows.specs.Given.{OneOf}
-use Rattle.training.specs.declared.Training.{Training}
 use Rattle.training.specs.declared.Trained.{Trained}
 use Rattle.training.specs.Rules.{beside_at_first}
 use Rattle.training.specs.Reached.{TrainingEnds}
@@ -39,23 +38,23 @@ module _ (method : Method) (given : Given) (before : Buffers) where
   means = training_means (input_of given before) (own_of method)
 
   -- 8 and 9
-  ends_so : checked_of method given before ≡ Accepted → TrainingEnds (rule_for method) (settings_for method) given.model given.corpus
+  ends_so : checked_of method given before ≡ Ok tt → TrainingEnds (rule_for method) (settings_for method) given.model given.corpus
   ends_so h = refused_exactly (rule_for method) (settings_for method) given.model given.corpus (starts_finite method (means.sound h).1)
 
   -- a refusal is the checks' or, where they accept, the training's
   abbrev By : ℕ → ℕ → Type 0
-  By number place = (checked_of method given before ≡ refused_at number place) ⊎ ((checked_of method given before ≡ Accepted) × ((trained_of method given).answer ≡ Training.Refused (numbered number place)))
+  By number place = (checked_of method given before ≡ refused_at number place) ⊎ ((checked_of method given before ≡ Ok tt) × ((trained_of method given).answer ≡ Err (numbered number place)))
 
   by : (number place : ℕ) → answer_to method given before ≡ refused (numbered number place) → By number place
   unfolding answer_to
   by number place h = go (refuses (checked_of method given before) _ number place h)
     where
-      go : (checked_of method given before ≡ refused_at number place) ⊎ ((checked_of method given before ≡ Accepted) × (said (trained_of method given).answer ≡ refused (numbered number place))) → By number place
+      go : (checked_of method given before ≡ refused_at number place) ⊎ ((checked_of method given before ≡ Ok tt) × (said (trained_of method given).answer ≡ refused (numbered number place))) → By number place
       go (inl c) = inl c
       go (inr t) = inr (t.0, trained_not (trained_of method given).answer number place t.1)
 
   -- 1 to 7 are the checks', 8 and 9 the training's
-  late_one : (number place : ℕ) → (trained_of method given).answer ≡ Training.Refused (numbered number place) → OneOf (8 ∷ 9 ∷ []) number
+  late_one : (number place : ℕ) → (trained_of method given).answer ≡ Err (numbered number place) → OneOf (8 ∷ 9 ∷ []) number
   late_one number place t = trained_late (rule_for method) (settings_for method) given.model given.corpus _ t
 
   early : (number place : ℕ) → number ≤ 7 → answer_to method given before ≡ refused (numbered number place) → checked_of method given before ≡ refused_at number place
@@ -65,10 +64,10 @@ module _ (method : Method) (given : Given) (before : Buffers) where
       go (inl c) = c
       go (inr t) = absurd (omega (arith, above number (late_one number place t.1)))
 
-  late : (number place : ℕ) → 7 < number → answer_to method given before ≡ refused (numbered number place) → (checked_of method given before ≡ Accepted) × ((trained_of method given).answer ≡ Training.Refused (numbered number place))
+  late : (number place : ℕ) → 7 < number → answer_to method given before ≡ refused (numbered number place) → (checked_of method given before ≡ Ok tt) × ((trained_of method given).answer ≡ Err (numbered number place))
   late number place l h = go (by number place h)
     where
-      go : By number place → (checked_of method given before ≡ Accepted) × ((trained_of method given).answer ≡ Training.Refused (numbered number place))
+      go : By number place → (checked_of method given before ≡ Ok tt) × ((trained_of method given).answer ≡ Err (numbered number place))
       go (inl c) = absurd (omega (arith, at_most number (means.only _ c)))
       go (inr t) = t
 
@@ -84,11 +83,11 @@ module _ (method : Method) (given : Given) (before : Buffers) where
   by_checks : (number : ℕ) → number ≤ 7 → {At : ℕ → Type 0} → ((place : ℕ) → checked_of method given before ≡ refused_at number place ↔ At place) → (place : ℕ) → answer_to method given before ≡ refused (numbered number place) ↔ At place
   by_checks number l e place = (λ h. (e place).0 (early number place l h), λ f. early_given number place ((e place).1 f))
 
-  training_given : checked_of method given before ≡ Accepted → answer_to method given before ≡ said (trained_of method given).answer
+  training_given : checked_of method given before ≡ Ok tt → answer_to method given before ≡ said (trained_of method given).answer
   unfolding answer_to
   training_given c = rw c
 
-  accepted_so : (t : Trained) → answer_to method given before ≡ accepted t → (checked_of method given before ≡ Accepted) × ((trained_of method given).answer ≡ Training.Accepted t)
+  accepted_so : (t : Trained) → answer_to method given before ≡ accepted t → (checked_of method given before ≡ Ok tt) × ((trained_of method given).answer ≡ Ok t)
   unfolding answer_to
   accepted_so t h =
       let a = accepts (checked_of method given before) _ t.epochs t.visits t.updates h in

@@ -1,8 +1,8 @@
 -- What the fronts of the buffers hold after a call to which nothing of 1 to 7 applies. Assumes nothing.
+use Rattle.std.specs.Prelude.{Ok}
 use mathlib.Core.Path.{◌≡◌}
 use lib.ListN.{take, drop, replicate, length-replicate}
 use lib.Seq.{take_at}
-use Rattle.refusals.specs.declared.Checked.TheVariants.{Accepted}
 use Rattle.binary64.specs.Numbers.{nought}
 use Rattle.parameters.specs.declared.Method.{Method}
 use Rattle.parameters.specs.Trainers.{rule_for, settings_for}
@@ -17,7 +17,7 @@ pub record Fronts (method : Method) (given : Given) (after : Buffers) : Type 0 w
   pub order : take given.corpus.instances after.order ≡ replicate given.corpus.instances 0
 
 module _ (method : Method) (given : Given) (before : Buffers) where
-  held : Fronts method given (holding Accepted given (trained_of method given).weights before)
+  held : Fronts method given (holding (Ok tt) given (trained_of method given).weights before)
   held =
       let f = given.model.features.count in
       let n = given.corpus.instances in
@@ -29,9 +29,9 @@ module _ (method : Method) (given : Given) (before : Buffers) where
         order = take_at (replicate n 0) (drop n before.order) n (length-replicate n 0);
       }
 
-  pub after_is : (outcome : Outcome) → Promised method given before outcome → checked_of method given before ≡ Accepted → outcome.after ≡ holding Accepted given (trained_of method given).weights before
+  pub after_is : (outcome : Outcome) → Promised method given before outcome → checked_of method given before ≡ Ok tt → outcome.after ≡ holding (Ok tt) given (trained_of method given).weights before
   unfolding buffers_after
   after_is outcome kept h = rw h at kept.after
 
-  pub fronts : (outcome : Outcome) → Promised method given before outcome → checked_of method given before ≡ Accepted → Fronts method given outcome.after
+  pub fronts : (outcome : Outcome) → Promised method given before outcome → checked_of method given before ≡ Ok tt → Fronts method given outcome.after
   fronts outcome kept h = rw (after_is outcome kept h) held

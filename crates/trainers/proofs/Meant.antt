@@ -1,4 +1,6 @@
 -- What a trainer answers means what `Meaning` says. Assumes nothing.
+use Rattle.refusals.specs.declared.Refusal.{Refusal}
+use Rattle.std.specs.Prelude.{Ok, Err, Result}
 use mathlib.Core.Path.{◌≡◌, refl, sym, ◌∙◌, ap}
 use mathlib.Core.List.{List, [], ◌∷◌, ◌++◌}
 use mathlib.Core.Logic.{◌⊎◌, inl, inr}
@@ -6,13 +8,10 @@ use Prim.Native.Nat.{ℕ, ◌≤◌, ◌<◌}
 use native.Mathlib.Omega.{arith}
 use lib.ListN.{drop, get_or-append}
 use lib.Ieee.{nan}
-use Rattle.refusals.specs.declared.Checked.{Checked}
-use Rattle.refusals.specs.declared.Checked.TheVariants.{Accepted, Refused}
-use Rattle.refusals.specs.Refusals.{numbered, refused_at}
+use Rattle.refusals.specs.Refusals.{Checked, numbered, refused_at}
 use Rattle.refusals.specs.Said.{Said, refused, or_refused}
 use Rattle.refusals.proofs.Said.{same_given, same_refusal}
 use Rattle.refusal_rows.specs.Given.{OneOf}
-use Rattle.training.specs.declared.Training.{Training}
 use Rattle.training.specs.declared.Trained.{Trained}
 use Rattle.training.proofs.Accepted.{answers_true}
 use Rattle.parameters.specs.Parameters.{AllFit, own_of}
@@ -25,13 +24,13 @@ use Rattle.trainers.proofs.Trained.{trained_late, trained_zero}
 use Rattle.trainers.proofs.Fronts.{after_is, fronts}
 
 -- an answer that is accepted comes from the training
-pub accepts : (checked : Checked) (next : Said Trained) (epochs visits updates : ℕ) → or_refused checked next ≡ trained_with epochs visits updates → (checked ≡ Accepted) × (next ≡ trained_with epochs visits updates)
-accepts Accepted next epochs visits updates h = (refl, h)
-accepts (Refused why) next epochs visits updates h = let z : ◌≡◌ {A = ℕ} 0 1 = cc in absurd (omega arith)
+pub accepts : (checked : Checked) (next : Said Trained) (epochs visits updates : ℕ) → or_refused checked next ≡ trained_with epochs visits updates → (checked ≡ Ok tt) × (next ≡ trained_with epochs visits updates)
+accepts (Ok _) next epochs visits updates h = (refl, h)
+accepts (Err why) next epochs visits updates h = let z : ◌≡◌ {A = ℕ} 0 1 = cc in absurd (omega arith)
 
-pub trained_so : (a : Training) (epochs visits updates : ℕ) → said a ≡ trained_with epochs visits updates → a ≡ Training.Accepted (record { epochs = epochs; visits = visits; updates = updates })
-trained_so (Training.Accepted t) epochs visits updates h = ap Training.Accepted (same_given h)
-trained_so (Training.Refused why) epochs visits updates h = let z : ◌≡◌ {A = ℕ} 0 1 = cc in absurd (omega arith)
+pub trained_so : (a : Result Trained Refusal) (epochs visits updates : ℕ) → said a ≡ trained_with epochs visits updates → a ≡ Ok (record { epochs = epochs; visits = visits; updates = updates })
+trained_so (Ok t) epochs visits updates h = ap Ok (same_given h)
+trained_so (Err why) epochs visits updates h = let z : ◌≡◌ {A = ℕ} 0 1 = cc in absurd (omega arith)
 
 -- 7 has seen to it that an epoch is allowed
 some_epochs : (method : Method) → AllFit (own_of method) → 1 ≤ (settings_for method).epochs
@@ -61,13 +60,13 @@ accepted_true method given before outcome kept epochs visits updates answer =
 
 -- ---- refusals
 
-pub trained_not : (a : Training) (number place : ℕ) → said a ≡ refused (numbered number place) → a ≡ Training.Refused (numbered number place)
-trained_not (Training.Accepted t) number place h = let z : ◌≡◌ {A = ℕ} 0 1 = cc in absurd (omega arith)
-trained_not (Training.Refused why) number place h = ap Training.Refused (same_refusal h)
+pub trained_not : (a : Result Trained Refusal) (number place : ℕ) → said a ≡ refused (numbered number place) → a ≡ Err (numbered number place)
+trained_not (Ok t) number place h = let z : ◌≡◌ {A = ℕ} 0 1 = cc in absurd (omega arith)
+trained_not (Err why) number place h = ap Err (same_refusal h)
 
-pub refuses : (checked : Checked) (next : Said Trained) (number place : ℕ) → or_refused checked next ≡ refused (numbered number place) → (checked ≡ refused_at number place) ⊎ ((checked ≡ Accepted) × (next ≡ refused (numbered number place)))
-refuses Accepted next number place h = inr (refl, h)
-refuses (Refused why) next number place h = inl (ap Refused (same_refusal h))
+pub refuses : (checked : Checked) (next : Said Trained) (number place : ℕ) → or_refused checked next ≡ refused (numbered number place) → (checked ≡ refused_at number place) ⊎ ((checked ≡ Ok tt) × (next ≡ refused (numbered number place)))
+refuses (Ok _) next number place h = inr (refl, h)
+refuses (Err why) next number place h = inl (ap Err (same_refusal h))
 
 -- 1 to 7 are not 8 and 9
 pub at_most : (number : ℕ) → OneOf (1 ∷ 2 ∷ 3 ∷ 4 ∷ 5 ∷ 6 ∷ 7 ∷ []) number → number ≤ 7
@@ -108,7 +107,7 @@ module _ (method : Method) (given : Given) (before : Buffers) (outcome : Outcome
         late = λ l. absurd (omega (arith, at_most number one));
       }
 
-  late_means : checked_of method given before ≡ Accepted → said (trained_of method given).answer ≡ refused (numbered number place) → RefusedMeans method given before outcome.after number place
+  late_means : checked_of method given before ≡ Ok tt → said (trained_of method given).answer ≡ refused (numbered number place) → RefusedMeans method given before outcome.after number place
   late_means h t =
       let e = trained_not (trained_of method given).answer number place t in
       let one = trained_late (rule_for method) (settings_for method) given.model given.corpus _ e in
@@ -128,7 +127,7 @@ module _ (method : Method) (given : Given) (before : Buffers) (outcome : Outcome
         );
       }
 
-  refused_means : (checked_of method given before ≡ refused_at number place) ⊎ ((checked_of method given before ≡ Accepted) × (said (trained_of method given).answer ≡ refused (numbered number place))) → RefusedMeans method given before outcome.after number place
+  refused_means : (checked_of method given before ≡ refused_at number place) ⊎ ((checked_of method given before ≡ Ok tt) × (said (trained_of method given).answer ≡ refused (numbered number place))) → RefusedMeans method given before outcome.after number place
   refused_means (inl h) = early_means h
   refused_means (inr h) = late_means h.0 h.1
 

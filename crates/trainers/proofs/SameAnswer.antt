@@ -1,6 +1,6 @@
 -- What the buffers held when they were lent has no part in what a trainer gives. Assumes nothing.
 use mathlib.Core.Path.{◌≡◌, sym, ◌∙◌, ap}
-use Rattle.refusals.specs.declared.Checked.{Checked}
+use Rattle.refusals.specs.Refusals.{Checked}
 use Rattle.refusals.specs.Said.{or_refused}
 use Rattle.training_check.specs.Rows.{training_checked}
 use Rattle.parameters.specs.declared.Method.{Method}

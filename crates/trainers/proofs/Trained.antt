@@ -1,4 +1,5 @@
 -- What a training gives, whatever it answers: as many weights as there are features, and no number but 8 and 9. Assumes nothing.
+use Rattle.std.specs.Prelude.{Ok, Err, Result}
 use mathlib.Core.Path.{◌≡◌, refl, ap}
 use mathlib.Core.Bool.{Bool, true, false, cond, ◌&&◌, true≢false}
 use mathlib.Core.List.{List, [], ◌∷◌}
@@ -17,13 +18,12 @@ use Rattle.lines.specs.Scored.{states_of, transitions_of}
 use Rattle.lines.specs.Counted.{counts_of}
 use Rattle.training.specs.declared.Visit.{Visit}
 use Rattle.training.specs.declared.Visit.TheVariants.{Unchanged, Updated, Refused}
-use Rattle.training.specs.declared.Training.{Training}
 use Rattle.training.specs.declared.Trained.{Trained}
 use Rattle.lines.specs.Data.{Data, first_word, words_of, reference_of}
 use Rattle.fronts.specs.Finite.{all_finite_of}
 use Rattle.training.specs.Rules.{Rule, Update, stops, averaged_by}
 use Rattle.training.specs.Visits.{TrainingState, refused_as, unchanged, changed_to, finite_state, held_to, corrected, compared, visited}
-use Rattle.training.specs.Epochs.{Settings, Run, Result, is_refused, opened, visited_at, epoch_over, epoch, epoch_unless_over, begun, ran, refused_with, averaged, finished, trained}
+use Rattle.training.specs.Epochs.{Settings, Run, TrainingResult, is_refused, opened, visited_at, epoch_over, epoch, epoch_unless_over, begun, ran, refused_with, averaged, finished, trained}
 use Rattle.training.specs.OneVisit.{predicted_for}
 use Rattle.training.proofs.OneVisit.{wrong_in}
 use Rattle.training.proofs.Weights.{Long, through_keeps, average_long, visit_long, run_long}
@@ -77,10 +77,10 @@ module _ (visit : ℕ → TrainingState → TrainingState) (late : (i : ℕ) (s 
 
 module _ (rule : Rule) (set : Settings) (m : Model) (d : Data) where
   -- no number but 8 and 9, and as many weights as there are features, which are zero after them
-  record Told (r : Result) : Type 0 where
+  record Told (r : TrainingResult) : Type 0 where
     long : length r.weights ≡ m.features.count
-    late : (why : Refusal) → r.answer ≡ Training.Refused why → OneOf (8 ∷ 9 ∷ []) why.number
-    zero : (why : Refusal) → r.answer ≡ Training.Refused why → r.weights ≡ replicate m.features.count nought
+    late : (why : Refusal) → r.answer ≡ Err why → OneOf (8 ∷ 9 ∷ []) why.number
+    zero : (why : Refusal) → r.answer ≡ Err why → r.weights ≡ replicate m.features.count nought
 
   refused_told : (w : Refusal) → OneOf (8 ∷ 9 ∷ []) w.number → Told (refused_with rule set m d w)
   unfolding refused_with
@@ -90,11 +90,11 @@ module _ (rule : Rule) (set : Settings) (m : Model) (d : Data) where
     zero = λ why e. refl;
   }
 
-  abbrev is_accepted : Training → Bool
-  is_accepted (Training.Accepted t) = true
-  is_accepted (Training.Refused why) = false
+  abbrev is_accepted : Result Trained Refusal → Bool
+  is_accepted (Ok t) = true
+  is_accepted (Err why) = false
 
-  accepted_told : (t : Trained) (w : List Float) → length w ≡ m.features.count → Told (record { answer = Training.Accepted t; weights = w })
+  accepted_told : (t : Trained) (w : List Float) → length w ≡ m.features.count → Told (record { answer = Ok t; weights = w })
   accepted_told t w l = record {
     long = l;
     late = λ why e. absurd (true≢false (ap is_accepted e));
@@ -127,8 +127,8 @@ module _ (rule : Rule) (set : Settings) (m : Model) (d : Data) where
   pub trained_long : length (trained rule set m d).weights ≡ m.features.count
   trained_long = trained_told.long
 
-  pub trained_late : (why : Refusal) → (trained rule set m d).answer ≡ Training.Refused why → OneOf (8 ∷ 9 ∷ []) why.number
+  pub trained_late : (why : Refusal) → (trained rule set m d).answer ≡ Err why → OneOf (8 ∷ 9 ∷ []) why.number
   trained_late = trained_told.late
 
-  pub trained_zero : (why : Refusal) → (trained rule set m d).answer ≡ Training.Refused why → (trained rule set m d).weights ≡ replicate m.features.count nought
+  pub trained_zero : (why : Refusal) → (trained rule set m d).answer ≡ Err why → (trained rule set m d).weights ≡ replicate m.features.count nought
   trained_zero = trained_told.zero

@@ -1,15 +1,14 @@
 -- What a trainer promises, whichever it is: document 01's answer to what a call is given, and what the lent buffers hold afterwards. Assumes nothing.
-use Rattle.std.specs.Prelude.{◌≡◌, List, ◌++◌, ℕ, length, drop, Float}
-use Rattle.refusals.specs.declared.Checked.{Checked}
-use Rattle.refusals.specs.declared.Checked.TheVariants.{Accepted, Refused}
+use Rattle.refusals.specs.declared.Refusal.{Refusal}
+use Rattle.std.specs.Prelude.{◌≡◌, List, ◌++◌, ℕ, length, drop, Float, Ok, Err, Result}
+use Rattle.refusals.specs.Refusals.{Checked}
 use Rattle.refusals.specs.Said.{Said, or_refused}
 use Rattle.binary64.specs.Numbers.{nought}
 use Rattle.lines.specs.Tables.{Model}
 use Rattle.fronts.specs.Cleared.{cleared}
-use Rattle.training.specs.declared.Training.{Training}
 use Rattle.training.specs.declared.Trained.{Trained}
 use Rattle.lines.specs.Data.{Data}
-use Rattle.training.specs.Epochs.{Result, trained}
+use Rattle.training.specs.Epochs.{TrainingResult, trained}
 pub use Rattle.training.specs.Said.{trained_with, said}
 use Rattle.parameters.specs.declared.Method.{Method}
 use Rattle.parameters.specs.Trainers.{rule_for, settings_for}
@@ -31,7 +30,7 @@ pub record Buffers : Type 0 where
 
 -- the answer, and what the buffers hold afterwards
 pub record Outcome : Type 0 where
-  pub answer : Training
+  pub answer : Result Trained Refusal
   pub after : Buffers
 
 -- 1 to 7
@@ -52,13 +51,13 @@ abbrev pub checked_of : Method → Given → Buffers → Checked
 checked_of method given before = training_checked (input_of given before) (own_of method)
 
 -- 8 and 9 are training's own, and its weights are zero after them
-abbrev pub trained_of : Method → Given → Result
+abbrev pub trained_of : Method → Given → TrainingResult
 trained_of method given = trained (rule_for method) (settings_for method) given.model given.corpus
 
 -- "After 1 to 7 .. every lent buffer holds its entry contents"; else the trained weights stand in the result's front, and "work buffers' needed fronts are zero": F entries, and N of the order; "only the needed front is touched"
 abbrev pub holding : Checked → Given → List Float → Buffers → Buffers
-holding (Refused why) given weights before = before
-holding Accepted given weights before =
+holding (Err why) given weights before = before
+holding (Ok _) given weights before =
     let features = given.model.features.count in
     record {
       weights = weights ++ drop features before.weights;

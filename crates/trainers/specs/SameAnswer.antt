@@ -1,6 +1,5 @@
 -- What the buffers held when they were lent has no part in what a trainer gives. The proof, from the promise, is in proofs/SameAnswer.
-use Rattle.std.specs.Prelude.{◌≡◌, length, take}
-use Rattle.refusals.specs.declared.Checked.TheVariants.{Accepted}
+use Rattle.std.specs.Prelude.{◌≡◌, length, take, Ok}
 use Rattle.parameters.specs.declared.Method.{Method}
 use Rattle.trainers.specs.Promise.{Given, Buffers, Outcome, checked_of, Promised}
 
@@ -23,7 +22,7 @@ pub record SameFronts (given : Given) (a b : Buffers) : Type 0 where
 -- two calls alike but for the contents of what they are lent: the same answer and, unless a number of 1 to 7 was given, the same needed fronts
 pub record Same (method : Method) (given : Given) (before : Buffers) (a b : Outcome) : Type 0 where
   pub answers : a.answer ≡ b.answer
-  pub fronts : checked_of method given before ≡ Accepted → SameFronts given a.after b.after
+  pub fronts : checked_of method given before ≡ Ok tt → SameFronts given a.after b.after
 
 abbrev pub SameAnswer : Type 0
 SameAnswer =

@@ -11,8 +11,8 @@ use feature_gen::Counts;
 use lines::Totals;
 use parameters::Method;
 use prediction::Sizes;
-use refusals::Checked;
-use training::Training;
+use refusals::Refusal;
+use training::Trained;
 use training_check::Lent;
 
 // The counts of the call, as they are used inside.
@@ -56,7 +56,7 @@ pub fn train(
     truly: &mut [f64],
     predicted: &mut [f64],
     order: &mut [u32],
-) -> Training
+) -> Result<Trained, Refusal>
     ensures { let given : Given = record {
       model = model_was labels counts kinds destinations sources attribute_starts attribute_entries label_starts label_entries;
       corpus = data_was totals lines begins ids values references shares;
@@ -91,10 +91,7 @@ pub fn train(
         shares,
         lent,
     );
-    let checked = parameters::check_parameters(input, method);
-    if let Checked::Refused(why) = checked {
-        return Training::Refused(why);
-    }
+    parameters::check_parameters(input, method)?;
     let trainer = parameters::trainer_of(method);
     let settings = parameters::settings_of(method);
     let sizes = sizes_of(labels, counts, totals);

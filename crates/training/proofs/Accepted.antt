@@ -1,4 +1,6 @@
 -- An accepted training answers what its visits show: epochs, visits and updates, and as many finite weights as there are features. Assumes nothing.
+use Rattle.std.specs.Prelude.{Ok, Err, Result}
+use Rattle.refusals.specs.declared.Refusal.{Refusal}
 use mathlib.Core.Path.{◌≡◌, refl, sym, ap, ◌∙◌}
 use mathlib.Core.Bool.{Bool, true, false, cond, ◌||◌, true≢false}
 use mathlib.Core.List.{List, [], ◌∷◌, ◌++◌}
@@ -10,8 +12,6 @@ use lib.Ieee.{Float}
 use Rattle.training.specs.declared.Visit.{Visit}
 use Rattle.training.specs.declared.Visit.TheVariants.{Unchanged, Updated, Refused}
 use Rattle.training.specs.declared.Trained.{Trained}
-use Rattle.training.specs.declared.Training.{Training}
-use Rattle.training.specs.declared.Training.TheVariants.{Accepted, Refused as NotTrained}
 use Rattle.shuffle.specs.Shuffle.{shuffled}
 use Rattle.lines.specs.Passes.{through}
 use Rattle.binary64.specs.Numbers.{nought, whole}
@@ -21,7 +21,7 @@ use Rattle.fronts.specs.Finite.{all_finite_of}
 use Rattle.fronts.proofs.Finite.{all_finite_at}
 use Rattle.training.specs.Rules.{Rule, stops, averaged_by}
 use Rattle.training.specs.Visits.{TrainingState, refused_as, unchanged, changed_to, visited}
-use Rattle.training.specs.Epochs.{Settings, Run, Result, is_refused, opened, visited_at, epoch_over, epoch, epoch_unless_over, begun, ran, refused_with, averaged, finished, trained}
+use Rattle.training.specs.Epochs.{Settings, Run, TrainingResult, is_refused, opened, visited_at, epoch_over, epoch, epoch_unless_over, begun, ran, refused_with, averaged, finished, trained}
 use Rattle.training.specs.Accepted.{is_updated, how_many, ends_over, ends_within, ends, AcceptedWith, AnswersTrue}
 use Rattle.training.proofs.OneVisit.{visit_cases}
 use Rattle.training.proofs.Weights.{Long, average_long, visit_long, run_long}
@@ -139,23 +139,23 @@ module _ (rule : Rule) (set : Settings) (m : Model) (d : Data) where
     sound : all_finite_of (last r) m.features.count ≡ true
 
   -- an answer that is accepted is not refused
-  abbrev is_accepted : Training → Bool
-  is_accepted (Accepted t) = true
-  is_accepted (NotTrained why) = false
+  abbrev is_accepted : Result Trained Refusal → Bool
+  is_accepted (Ok t) = true
+  is_accepted (Err why) = false
 
   -- accepted by that test
-  abbrev tested : Run → Bool → Result
-  tested r b = cond b (record { answer = Accepted (record { epochs = r.epochs; visits = r.state.progress.visits; updates = r.state.progress.updates }); weights = last r }) (refused_with rule set m d (record { number = 9; place = r.state.progress.visits }))
+  abbrev tested : Run → Bool → TrainingResult
+  tested r b = cond b (record { answer = Ok (record { epochs = r.epochs; visits = r.state.progress.visits; updates = r.state.progress.updates }); weights = last r }) (refused_with rule set m d (record { number = 9; place = r.state.progress.visits }))
 
-  averaged_so : (r : Run) (t : Trained) → (averaged rule set m d r).answer ≡ Accepted t → Finished r t (averaged rule set m d r).weights
+  averaged_so : (r : Run) (t : Trained) → (averaged rule set m d r).answer ≡ Ok t → Finished r t (averaged rule set m d r).weights
   unfolding averaged refused_with
   averaged_so r t = go (all_finite_of (last r) m.features.count) refl
     where
-      go : (b : Bool) → all_finite_of (last r) m.features.count ≡ b → (tested r b).answer ≡ Accepted t → Finished r t (tested r b).weights
+      go : (b : Bool) → all_finite_of (last r) m.features.count ≡ b → (tested r b).answer ≡ Ok t → Finished r t (tested r b).weights
       go true f e = record { told = cc; kept = refl; sound = f }
       go false f e = absurd (true≢false (sym (ap is_accepted e)))
 
-  finished_so : (v : Visit) (r : Run) (t : Trained) → (finished rule set m d v r).answer ≡ Accepted t → (is_refused v ≡ false) × Finished r t (finished rule set m d v r).weights
+  finished_so : (v : Visit) (r : Run) (t : Trained) → (finished rule set m d v r).answer ≡ Ok t → (is_refused v ≡ false) × Finished r t (finished rule set m d v r).weights
   unfolding finished refused_with
   finished_so Unchanged r t e = (refl, averaged_so r t e)
   finished_so Updated r t e = (refl, averaged_so r t e)

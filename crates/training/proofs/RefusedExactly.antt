@@ -1,4 +1,5 @@
 -- 8 and 9 are given exactly when `Reached` says. Assumes nothing.
+use Rattle.std.specs.Prelude.{Ok, Err}
 use mathlib.Core.Path.{◌≡◌, refl, sym, ap, ◌∙◌}
 use mathlib.Core.Bool.{true, false, true≢false}
 use mathlib.Core.Logic.{◌⊎◌, inl, inr}
@@ -11,7 +12,6 @@ use Rattle.refusals.specs.declared.Refusal.{Refusal}
 use Rattle.training.specs.declared.Visit.{Visit}
 use Rattle.training.specs.declared.Visit.TheVariants.{Unchanged, Updated, Refused}
 use Rattle.training.specs.declared.Trained.{Trained}
-use Rattle.training.specs.declared.Training.TheVariants.{Accepted, Refused as NotTrained}
 use Rattle.lines.specs.Tables.{Model}
 use Rattle.lines.specs.Data.{Data}
 use Rattle.fronts.specs.Finite.{all_finite_of}
@@ -28,11 +28,11 @@ use Rattle.training.proofs.Reached.{visits_before, ran_refused, ran_found, none_
 module _ (rule : Rule) (set : Settings) (m : Model) (d : Data) where
   -- ---- the answer: from a refused visit, from the averaging, or accepted
   data Answered : Type 0 where
-    by_visit : (why : Refusal) → (ran rule set m d).state.progress.visit ≡ Refused why → (trained rule set m d).answer ≡ NotTrained why → Answered
-    by_averaging : is_refused (ran rule set m d).state.progress.visit ≡ false → all_finite_of (averaged_weights rule set m d) m.features.count ≡ false → (trained rule set m d).answer ≡ NotTrained (record { number = 9; place = (ran rule set m d).epochs * d.instances }) → Answered
-    by_success : (t : Trained) → (trained rule set m d).answer ≡ Accepted t → Answered
+    by_visit : (why : Refusal) → (ran rule set m d).state.progress.visit ≡ Refused why → (trained rule set m d).answer ≡ Err why → Answered
+    by_averaging : is_refused (ran rule set m d).state.progress.visit ≡ false → all_finite_of (averaged_weights rule set m d) m.features.count ≡ false → (trained rule set m d).answer ≡ Err (record { number = 9; place = (ran rule set m d).epochs * d.instances }) → Answered
+    by_success : (t : Trained) → (trained rule set m d).answer ≡ Ok t → Answered
 
-  refused_so : (why : Refusal) → (ran rule set m d).state.progress.visit ≡ Refused why → (trained rule set m d).answer ≡ NotTrained why
+  refused_so : (why : Refusal) → (ran rule set m d).state.progress.visit ≡ Refused why → (trained rule set m d).answer ≡ Err why
   unfolding trained finished refused_with
   refused_so why e = rw e
 
@@ -42,12 +42,12 @@ module _ (rule : Rule) (set : Settings) (m : Model) (d : Data) where
   averages Updated r e = refl
   averages (Refused why) r e = absurd (true≢false e)
 
-  averaging_refused : is_refused (ran rule set m d).state.progress.visit ≡ false → all_finite_of (averaged_weights rule set m d) m.features.count ≡ false → (trained rule set m d).answer ≡ NotTrained (record { number = 9; place = (ran rule set m d).epochs * d.instances })
+  averaging_refused : is_refused (ran rule set m d).state.progress.visit ≡ false → all_finite_of (averaged_weights rule set m d) m.features.count ≡ false → (trained rule set m d).answer ≡ Err (record { number = 9; place = (ran rule set m d).epochs * d.instances })
   unfolding trained averaged refused_with
   averaging_refused h e = rw (averages (ran rule set m d).state.progress.visit (ran rule set m d) h, e, all_visits rule set m d h)
 
   averaging_accepted : is_refused (ran rule set m d).state.progress.visit ≡ false → all_finite_of (averaged_weights rule set m d) m.features.count ≡ true →
-      (trained rule set m d).answer ≡ Accepted (record { epochs = (ran rule set m d).epochs; visits = (ran rule set m d).state.progress.visits; updates = (ran rule set m d).state.progress.updates })
+      (trained rule set m d).answer ≡ Ok (record { epochs = (ran rule set m d).epochs; visits = (ran rule set m d).state.progress.visits; updates = (ran rule set m d).state.progress.updates })
   unfolding trained averaged
   averaging_accepted h e = rw (averages (ran rule set m d).state.progress.visit (ran rule set m d) h, e)
 
@@ -76,19 +76,19 @@ averaging_lost (arow variance gamma) features counter s f h = absurd (true≢fal
 -- ---- what is claimed
 module _ (rule : Rule) (set : Settings) (m : Model) (d : Data) (start : T (finite (beside_at_first rule))) where
   -- a visit that is reached answers for the training where it is refused so
-  visit_answers : (e j n number : ℕ) → Reached rule set m d e j n → visited rule m d (instance_at rule set m d e j) (state_before rule set m d e j) ≡ refused_as number (state_before rule set m d e j) → (trained rule set m d).answer ≡ NotTrained (record { number = number; place = n })
+  visit_answers : (e j n number : ℕ) → Reached rule set m d e j n → visited rule m d (instance_at rule set m d e j) (state_before rule set m d e j) ≡ refused_as number (state_before rule set m d e j) → (trained rule set m d).answer ≡ Err (record { number = number; place = n })
   unfolding refused_as
   visit_answers e j n number r q =
       let t : is_refused (end_at rule set m d e j) ≡ true = ap (λ (s : TrainingState). is_refused s.progress.visit) q in
       let l = ran_refused rule set m d e j n r t ∙ q in
       refused_so rule set m d _ (ap (λ (s : TrainingState). s.progress.visit) l)
-      ∙ ap (λ (p : ℕ). NotTrained (record { number = number; place = p })) (visits_before rule set m d e j n r)
+      ∙ ap (λ (p : ℕ). Err (record { number = number; place = p })) (visits_before rule set m d e j n r)
 
-  eight_answers : (place : ℕ) → EightAtVisit rule set m d place → (trained rule set m d).answer ≡ NotTrained (record { number = 8; place = place })
+  eight_answers : (place : ℕ) → EightAtVisit rule set m d place → (trained rule set m d).answer ≡ Err (record { number = 8; place = place })
   eight_answers place h =
       visit_answers h.epoch h.turn place 8 h.reached (eight_so rule m d (instance_at rule set m d h.epoch h.turn) (state_before rule set m d h.epoch h.turn) h.found)
 
-  nine_answers : (place : ℕ) → NineAt rule set m d place → (trained rule set m d).answer ≡ NotTrained (record { number = 9; place = place })
+  nine_answers : (place : ℕ) → NineAt rule set m d place → (trained rule set m d).answer ≡ Err (record { number = 9; place = place })
   nine_answers place (in_visit e j r c h) = visit_answers e j place 9 r (nine_so rule m d (instance_at rule set m d e j) (state_before rule set m d e j) c h)
   nine_answers place (in_averaging n p k h) = rw p (averaging_refused rule set m d (none_refused_so rule set m d n) (none_of (averaged_weights rule set m d) m.features.count h))
 
@@ -133,15 +133,15 @@ module _ (rule : Rule) (set : Settings) (m : Model) (d : Data) (start : T (finit
       let lost = some_of (averaged_weights rule set m d) m.features.count e in
       in_averaging (so_none_refused rule set m d h) refl (averaging_lost rule m.features.count _ (ran rule set m d).state (ran_finite rule set m d start set.epochs) lost) lost
 
-  same_refusal : {why : Refusal} {n p : ℕ} → (trained rule set m d).answer ≡ NotTrained why → (trained rule set m d).answer ≡ NotTrained (record { number = n; place = p }) → why ≡ record { number = n; place = p }
+  same_refusal : {why : Refusal} {n p : ℕ} → (trained rule set m d).answer ≡ Err why → (trained rule set m d).answer ≡ Err (record { number = n; place = p }) → why ≡ record { number = n; place = p }
   same_refusal a b = cc
 
-  eight_told : (place : ℕ) → Answered rule set m d → (trained rule set m d).answer ≡ NotTrained (record { number = 8; place = place }) → EightAtVisit rule set m d place
+  eight_told : (place : ℕ) → Answered rule set m d → (trained rule set m d).answer ≡ Err (record { number = 8; place = place }) → EightAtVisit rule set m d place
   eight_told place (by_visit why e a) b = visit_eight place (e ∙ ap Refused (same_refusal a b))
   eight_told place (by_averaging h f a) b = absurd (omega (arith, ap (λ (w : Refusal). w.number) (same_refusal a b)))
   eight_told place (by_success t a) b = let z : ◌≡◌ {A = ℕ} 0 1 = cc in absurd (omega arith)
 
-  nine_told : (place : ℕ) → Answered rule set m d → (trained rule set m d).answer ≡ NotTrained (record { number = 9; place = place }) → NineAt rule set m d place
+  nine_told : (place : ℕ) → Answered rule set m d → (trained rule set m d).answer ≡ Err (record { number = 9; place = place }) → NineAt rule set m d place
   nine_told place (by_visit why e a) b = visit_nine place (e ∙ ap Refused (same_refusal a b))
   nine_told place (by_averaging h f a) b =
       let p : (ran rule set m d).epochs * d.instances ≡ place = ap (λ (w : Refusal). w.place) (same_refusal a b) in
@@ -149,7 +149,7 @@ module _ (rule : Rule) (set : Settings) (m : Model) (d : Data) (start : T (finit
   nine_told place (by_success t a) b = let z : ◌≡◌ {A = ℕ} 0 1 = cc in absurd (omega arith)
 
   -- a training for which neither 8 nor 9 is there is accepted
-  accepted_so : Answered rule set m d → ((place : ℕ) → EightAtVisit rule set m d place → ⊥) → ((place : ℕ) → NineAt rule set m d place → ⊥) → (t : Trained) × ((trained rule set m d).answer ≡ Accepted t)
+  accepted_so : Answered rule set m d → ((place : ℕ) → EightAtVisit rule set m d place → ⊥) → ((place : ℕ) → NineAt rule set m d place → ⊥) → (t : Trained) × ((trained rule set m d).answer ≡ Ok t)
   accepted_so (by_success t a) no_eight no_nine = (t, a)
   accepted_so (by_averaging h f a) no_eight no_nine = absurd (no_nine _ (averaging_nine h f))
   accepted_so (by_visit why e a) no_eight no_nine = absurd (go ((refused_for why e).means.only _ (refused_for why e).ended).0)
@@ -158,7 +158,7 @@ module _ (rule : Rule) (set : Settings) (m : Model) (d : Data) (start : T (finit
       go (inl n) = no_eight why.place (visit_eight why.place (e ∙ ap (λ (z : ℕ). Refused (record { number = z; place = why.place })) n))
       go (inr n) = no_nine why.place (visit_nine why.place (e ∙ ap (λ (z : ℕ). Refused (record { number = z; place = why.place })) n))
 
-  not_both : {why : Refusal} {t : Trained} → (trained rule set m d).answer ≡ Accepted t → (trained rule set m d).answer ≡ NotTrained why → ⊥
+  not_both : {why : Refusal} {t : Trained} → (trained rule set m d).answer ≡ Ok t → (trained rule set m d).answer ≡ Err why → ⊥
   not_both a b = let z : ◌≡◌ {A = ℕ} 0 1 = cc in omega arith
 
 pub refused_exactly : RefusedExactly

@@ -1,11 +1,10 @@
 -- What is claimed of a training that is accepted: "The answer gives epochs run, visits and updates", each equal to what the visits themselves show. The proof is in proofs/Accepted.
-use Rattle.std.specs.Prelude.{◌≡◌, Bool, true, false, cond, List, [], ◌∷◌, ◌++◌, ℕ, zero, suc, ◌+◌, ◌*◌, ◌≤◌, ◌<◌, T, length, get_or, Float}
+use Rattle.std.specs.Prelude.{◌≡◌, Bool, true, false, cond, List, [], ◌∷◌, ◌++◌, ℕ, zero, suc, ◌+◌, ◌*◌, ◌≤◌, ◌<◌, T, length, get_or, Float, Ok}
 use Rattle.std.specs.Float.{nan}
 use Rattle.std.specs.Float.Ieee.Scale.{finite}
 use Rattle.training.specs.declared.Visit.{Visit}
 use Rattle.training.specs.declared.Visit.TheVariants.{Unchanged, Updated, Refused}
 use Rattle.training.specs.declared.Trained.{Trained}
-use Rattle.training.specs.declared.Training.TheVariants.{Accepted}
 use Rattle.shuffle.specs.Shuffle.{shuffled}
 use Rattle.lines.specs.Passes.{through}
 use Rattle.lines.specs.Tables.{Model}
@@ -60,4 +59,4 @@ module _ (rule : Rule) (set : Settings) (m : Model) (d : Data) where
     pub all_finite : (i : ℕ) → i < m.features.count → T (finite (get_or (trained rule set m d).weights i nan))
 
 abbrev pub AnswersTrue : Type 0
-AnswersTrue = (rule : Rule) (set : Settings) (m : Model) (d : Data) (t : Trained) → 1 ≤ set.epochs → (trained rule set m d).answer ≡ Accepted t → AcceptedWith rule set m d t
+AnswersTrue = (rule : Rule) (set : Settings) (m : Model) (d : Data) (t : Trained) → 1 ≤ set.epochs → (trained rule set m d).answer ≡ Ok t → AcceptedWith rule set m d t

@@ -1,12 +1,11 @@
 -- Epochs, the stop, the final averaging and the result, from document 01's section on training. Assumes nothing.
-use Rattle.std.specs.Prelude.{Bool, true, false, cond, ◌||◌, List, [], ◌∷◌, ℕ, zero, suc, ◌+◌, get_or, replicate, Float}
+use Rattle.training.specs.declared.Trained.{Trained}
+use Rattle.std.specs.Prelude.{Bool, true, false, cond, ◌||◌, List, [], ◌∷◌, ℕ, zero, suc, ◌+◌, get_or, replicate, Float, Result, Ok, Err}
 use Rattle.refusals.specs.Refusals.{numbered}
 use Rattle.refusals.specs.declared.Refusal.{Refusal}
 use Rattle.training.specs.declared.Visit.{Visit}
 use Rattle.training.specs.declared.Visit.TheVariants.{Unchanged, Updated, Refused}
 use Rattle.training.specs.declared.Progress.{Progress}
-use Rattle.training.specs.declared.Training.{Training}
-use Rattle.training.specs.declared.Training.TheVariants.{Accepted, Refused as NotTrained}
 use Rattle.shuffle.specs.Shuffle.{Deal, shuffled}
 use Rattle.lines.specs.Passes.{through}
 use Rattle.binary64.specs.Numbers.{nought, whole}
@@ -29,8 +28,8 @@ pub record Run : Type 0 where
   pub over : Bool
 
 -- what a trainer gives: the answer, and the weights
-pub record Result : Type 0 where
-  pub answer : Training
+pub record TrainingResult : Type 0 where
+  pub answer : Result Trained Refusal
   pub weights : List Float
 
 abbrev pub is_refused : Visit → Bool
@@ -99,23 +98,23 @@ module _ (rule : Rule) (set : Settings) (m : Model) (d : Data) where
   ran = through (epoch_unless_over (visited rule m d) (stops rule set.epsilon) d.instances) 0 set.epochs begun
 
   -- "After 8 and 9 the needed front of every result and work buffer is zero"
-  unfoldable pub refused_with : Refusal → Result
-  refused_with why = record { answer = NotTrained why; weights = replicate m.features.count nought }
+  unfoldable pub refused_with : Refusal → TrainingResult
+  refused_with why = record { answer = Err why; weights = replicate m.features.count nought }
 
   -- the final averaging; 9 has "all visits for the averaging" as place
-  unfoldable pub averaged : Run → Result
+  unfoldable pub averaged : Run → TrainingResult
   averaged r =
       let progress = r.state.progress in
       let w = averaged_by rule m.features.count (whole (progress.visits + 1)) r.state.learned in
       cond (all_finite_of w m.features.count)
-      (record { answer = Accepted (record { epochs = r.epochs; visits = progress.visits; updates = progress.updates }); weights = w })
+      (record { answer = Ok (record { epochs = r.epochs; visits = progress.visits; updates = progress.updates }); weights = w })
       (refused_with (numbered 9 progress.visits))
 
-  unfoldable pub finished : Visit → Run → Result
+  unfoldable pub finished : Visit → Run → TrainingResult
   finished Unchanged r = averaged r
   finished Updated r = averaged r
   finished (Refused why) r = refused_with why
 
   -- what is trained on tables that are not refused under 1 to 7
-  unfoldable pub trained : Result
+  unfoldable pub trained : TrainingResult
   trained = let r = ran in finished r.state.progress.visit r

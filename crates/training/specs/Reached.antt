@@ -1,10 +1,9 @@
 -- Which visit of a training is refused with 8 or 9, and for what, in plain terms, both ways. Epochs and their visits are counted from 0. The proofs are in proofs/AlwaysFinite, proofs/Reached and proofs/RefusedExactly.
-use Rattle.std.specs.Prelude.{◌≡◌, false, List, ◌↔◌, ℕ, ◌+◌, ◌*◌, ◌<◌, T, get_or, Float}
+use Rattle.std.specs.Prelude.{◌≡◌, false, List, ◌↔◌, ℕ, ◌+◌, ◌*◌, ◌<◌, T, get_or, Float, Ok, Err}
 use Rattle.std.specs.Float.Ieee.Scale.{finite}
 use Rattle.refusals.specs.Refusals.{numbered}
 use Rattle.training.specs.declared.Visit.{Visit}
 use Rattle.training.specs.declared.Trained.{Trained}
-use Rattle.training.specs.declared.Training.TheVariants.{Accepted, Refused}
 use Rattle.shuffle.specs.Shuffle.{shuffled}
 use Rattle.lines.specs.Passes.{through}
 use Rattle.lines.specs.Tables.{Model}
@@ -82,9 +81,9 @@ module _ (rule : Rule) (set : Settings) (m : Model) (d : Data) where
 
   -- 8 and 9 "given exactly when", and a training accepted exactly when neither is
   pub record TrainingEnds : Type 0 where
-    pub eight : (place : ℕ) → (trained rule set m d).answer ≡ Refused (numbered 8 place) ↔ EightAtVisit place
-    pub nine : (place : ℕ) → (trained rule set m d).answer ≡ Refused (numbered 9 place) ↔ NineAt place
-    pub accepted : ((t : Trained) × ((trained rule set m d).answer ≡ Accepted t)) ↔ ((place : ℕ) → EightAtVisit place → ⊥) × ((place : ℕ) → NineAt place → ⊥)
+    pub eight : (place : ℕ) → (trained rule set m d).answer ≡ Err (numbered 8 place) ↔ EightAtVisit place
+    pub nine : (place : ℕ) → (trained rule set m d).answer ≡ Err (numbered 9 place) ↔ NineAt place
+    pub accepted : ((t : Trained) × ((trained rule set m d).answer ≡ Ok t)) ↔ ((place : ℕ) → EightAtVisit place → ⊥) × ((place : ℕ) → NineAt place → ⊥)
 
   -- before every visit, whatever became of those before it, 9 would find nothing, and so after a visit that ends as unchanged: "after a visit" 9 need only be looked for where there was an update
   pub record FiniteThroughout : Type 0 where

@@ -26,9 +26,3 @@ pub struct Trained {
     pub visits: u64,
     pub updates: u64,
 }
-
-#[derive(Clone, Copy)]
-pub enum Training {
-    Accepted(Trained),
-    Refused(refusals::Refusal),
-}

@@ -1,4 +1,5 @@
 -- What the sizes give a trainer that accepts them, the parts that its input is checked in, and when so many words are no line. Assumes nothing.
+use Rattle.std.specs.Prelude.{Ok}
 use mathlib.Core.Path.{◌≡◌, refl, ◌∙◌}
 use mathlib.Core.Bool.{true}
 use mathlib.Core.List.{List, [], ◌∷◌, ◌++◌}
@@ -6,16 +7,13 @@ use Prim.Native.Nat.{ℕ, ◌+◌, ◌-◌, ◌<◌, ◌≤◌}
 use native.Mathlib.Omega.{arith}
 use borrow.Author.Tests.{lt-ltb}
 use lib.ListN.{length}
-use Rattle.refusals.specs.declared.Refusal.{Refusal}
-use Rattle.refusals.specs.declared.Checked.{Checked}
-use Rattle.refusals.specs.declared.Checked.TheVariants.{Accepted, Refused}
-use Rattle.refusals.specs.Refusals.{or_next_of, sooner, first_from}
-use Rattle.refusals.specs.Bounds.{the_line_words, outside_its, word_table, reference_table, instance_weight_table}
+use Rattle.refusals.specs.Refusals.{Checked, or_next_of, sooner, first_from}
+use Rattle.refusals.specs.Bounds.{the_line_words, outside_its, reference_table, instance_weight_table}
 use Rattle.score_tables.specs.Rows.{one}
 use Rattle.refusal_rows.specs.Limits.{Limit, room, any_broken, AllWithin, Fitting}
-use Rattle.refusal_rows.specs.Tests.{starts_rise, lines_fit, ids_below, numbers_finite, checks}
+use Rattle.refusal_rows.specs.Tests.{ids_below, numbers_finite}
 use Rattle.refusal_rows.proofs.Means.{within_parts}
-use Rattle.refusal_rows.proofs.Parts.{ordered, joined, same_limits, as_rows, part_stopped, part_within, part_answered}
+use Rattle.refusal_rows.proofs.Parts.{ordered, joined, same_limits, as_rows, part_within}
 use Rattle.feature_gen.specs.Rows.{model_counts, model_rooms}
 use Rattle.feature_gen.specs.Parts.{table_limits, table_tests, tables_checked, weights_checked}
 use Rattle.feature_gen.proofs.Laws.{sized}
@@ -35,20 +33,11 @@ no_line start next h = let z : next - start < 1 = omega arith in rw (lt-ltb (nex
 -- ---- the instances
 
 module _ (instances words : ℕ) (starts : List ℕ) where
-  pub instances_stopped : {sizes : Checked} (why : Refusal) → sizes ≡ instances_sized instances words starts → sizes ≡ Refused why → Refused why ≡ instances_checked instances words starts
-  unfolding instances_sized instances_checked
-  instances_stopped why e h = part_stopped (instance_limits instances words starts) (instance_tests instances words starts) why e h
-
-  pub instances_room : {sizes : Checked} → sizes ≡ instances_sized instances words starts → sizes ≡ Accepted → instances < length starts
+  pub instances_room : {sizes : Checked} → sizes ≡ instances_sized instances words starts → sizes ≡ Ok tt → instances < length starts
   unfolding instances_sized
   instances_room e h =
       let w = part_within (instance_limits instances words starts) (instance_tests instances words starts) e h in
       omega (arith, w.1.1.0)
-
-  pub instances_answered : {sizes three r : Checked} → sizes ≡ instances_sized instances words starts → three ≡ first_from sizes (checks (starts_rise word_table starts instances words ∷ [])) →
-      r ≡ first_from three (checks (lines_fit starts instances ∷ [])) → r ≡ instances_checked instances words starts
-  unfolding instances_sized instances_checked
-  instances_answered a b c = part_answered (instance_limits instances words starts) (instance_tests instances words starts) a (rw (c, b))
 
 -- with their words, labels and weights
 pub data_joined : (labels : ℕ) (d : Data) {instances line words labelled both weighted r : Checked} →

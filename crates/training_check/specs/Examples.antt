@@ -1,8 +1,7 @@
 -- Decided points of a trainer's checks, computed over P9's model: what is accepted, and which number comes first. Assumes nothing.
-use Rattle.std.specs.Prelude.{◌≡◌, refl, true, List, [], ◌∷◌, ℕ, pos, Float}
+use Rattle.std.specs.Prelude.{◌≡◌, refl, true, List, [], ◌∷◌, ℕ, pos, Float, Ok}
 use Rattle.std.specs.Float.{nan, inf, fin}
 use Rattle.std.specs.Float.Ieee.{of_int, lt}
-use Rattle.refusals.specs.declared.Checked.TheVariants.{Accepted}
 use Rattle.refusals.specs.Refusals.{refused_at, refuse, or_next_of, lowest}
 use Rattle.refusal_rows.specs.Limits.{in_order_of}
 use Rattle.refusal_rows.specs.Tests.{in_table_order}
@@ -43,7 +42,7 @@ abbrev minus_zero : Float
 minus_zero = fin true 0 (pos 0)
 
 -- P9, and "Epsilon of −0 is zero"
-accepted : training_checked (p9 1 (0 ∷ 1 ∷ []) (whole 1)) (perceptron 1 minus_zero) ≡ Accepted
+accepted : training_checked (p9 1 (0 ∷ 1 ∷ []) (whole 1)) (perceptron 1 minus_zero) ≡ Ok tt
 unfolding training_checked lowest or_next_of refuse of_int lt
 accepted = refl
 

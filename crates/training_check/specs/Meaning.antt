@@ -1,7 +1,6 @@
 -- What a trainer refuses under 1 to 7, in plain terms: each number exactly when document 01 gives it, and with which place. The proofs are in proofs/Meant.
-use Rattle.std.specs.Prelude.{◌≡◌, List, [], ◌∷◌, ◌↔◌, ℕ}
+use Rattle.std.specs.Prelude.{◌≡◌, List, [], ◌∷◌, ◌↔◌, ℕ, Ok, Err}
 use Rattle.refusals.specs.declared.Refusal.{Refusal}
-use Rattle.refusals.specs.declared.Checked.TheVariants.{Accepted, Refused}
 use Rattle.refusals.specs.Refusals.{refused_at}
 use Rattle.score_tables.specs.Sound.{LabelsIn}
 use Rattle.refusal_rows.specs.Limits.{Fitting}
@@ -39,9 +38,9 @@ pub record Meaning (g : Input) (parameters : List Parameter) : Type 0 where
   pub five : (place : ℕ) → training_checked g parameters ≡ refused_at 5 place ↔ Before5 g × FirstBadOf (input_ids g) place
   pub six : (place : ℕ) → training_checked g parameters ≡ refused_at 6 place ↔ Before6 g × FirstBadOf (input_numbers g.corpus) place
   pub seven : (place : ℕ) → training_checked g parameters ≡ refused_at 7 place ↔ Before7 g × FirstUnfit parameters place
-  pub only : (why : Refusal) → training_checked g parameters ≡ Refused why → OneOf (1 ∷ 2 ∷ 3 ∷ 4 ∷ 5 ∷ 6 ∷ 7 ∷ []) why.number
-  pub accepted : training_checked g parameters ≡ Accepted ↔ AllIsFine g parameters
-  pub sound : training_checked g parameters ≡ Accepted → SoundInput g × AllFit parameters
+  pub only : (why : Refusal) → training_checked g parameters ≡ Err why → OneOf (1 ∷ 2 ∷ 3 ∷ 4 ∷ 5 ∷ 6 ∷ 7 ∷ []) why.number
+  pub accepted : training_checked g parameters ≡ Ok tt ↔ AllIsFine g parameters
+  pub sound : training_checked g parameters ≡ Ok tt → SoundInput g × AllFit parameters
 
 abbrev pub TrainingMeans : Type 0
 TrainingMeans = (g : Input) (parameters : List Parameter) → Meaning g parameters

@@ -1,7 +1,6 @@
 -- The rows of a trainer in the parts that are checked apart: the model's tables, the instances with what they are made of, the buffers. Assumes nothing.
 use Rattle.std.specs.Prelude.{List, [], ◌∷◌, ◌++◌, ℕ, ◌+◌, length}
-use Rattle.refusals.specs.declared.Checked.{Checked}
-use Rattle.refusals.specs.Refusals.{first}
+use Rattle.refusals.specs.Refusals.{Checked, first}
 use Rattle.refusals.specs.Bounds.{the_instances, the_words, word_table, attribute_table, reference_table}
 use Rattle.refusal_rows.specs.Limits.{Limit, count, room, two}
 use Rattle.refusal_rows.specs.Tests.{Test, starts_rise, lines_fit, ids_below}

@@ -1,7 +1,6 @@
 -- Document 01, "Numbered refusals", the rows of a trainer, and their order: 1, 2, 3, 4, 5, 6, 7. Assumes nothing.
 use Rattle.std.specs.Prelude.{List, [], ◌∷◌, ◌++◌, ℕ, ◌+◌, length}
-use Rattle.refusals.specs.declared.Checked.{Checked}
-use Rattle.refusals.specs.Refusals.{first}
+use Rattle.refusals.specs.Refusals.{Checked, first}
 use Rattle.refusals.specs.Bounds.{the_instances, the_words, the_attributes, word_table, attribute_table, reference_table, instance_weight_table}
 use Rattle.score_tables.specs.Rows.{one}
 use Rattle.refusal_rows.specs.Limits.{Limit, count, room, two}

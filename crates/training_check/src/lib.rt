@@ -4,7 +4,6 @@
 #![tactic(auto)]
 
 ghost use Rattle.std.specs.Prelude.{◌≡◌, ◌-◌, ◌<◌, length};
-ghost use Rattle.refusals.specs.Refusals.{or_next_of};
 ghost use Rattle.refusals.specs.Bounds.{the_line_words, outside_its};
 ghost use Rattle.refusal_rows.specs.Tests.{lengths_checked};
 ghost use Rattle.feature_gen.specs.Lent.{model_was};
@@ -13,7 +12,7 @@ ghost use Rattle.training_check.specs.Parts.{instances_sized, instances_checked,
 
 use feature_gen::Counts;
 use lines::Totals;
-use refusals::Checked;
+use refusals::Refusal;
 
 pub const MOST_INSTANCES: u32 = 16384;
 
@@ -42,43 +41,37 @@ fn is_bad_length(start: u32, next: u32) -> bool
 }
 
 // 4: an instance has 1 to 128 words.
-pub fn check_lengths(answer: Checked, lines: &[u32], n: usize) -> Checked
+pub fn check_lengths(lines: &[u32], n: usize) -> Result<(), Refusal>
     requires { n < length lines.now }
-    ensures { result ≡ or_next_of answer (lengths_checked lines.now n) }
+    ensures { result ≡ lengths_checked lines.now n }
 {
-    let end = refusals::to_check(answer, n);
-    let mut i = 0usize;
-    while i < end {
+    for i in 0..n {
         let bad = is_bad_length(lines[i], lines[i + 1]);
-        if bad {
-            break;
-        }
-        i += 1;
+        refusals::refuse_if(4, i, bad)?;
     }
-    refusals::refuse_if(answer, 4, i, i < end)
+    Ok(())
 }
 
 // 2 of the instances: what can be said of them before any table is read.
-fn check_sizes(totals: Totals, lines: &[u32]) -> Checked
+#[tactic(auto, unfolding(crate::specs::Parts::instances_sized))]
+fn check_sizes(totals: Totals, lines: &[u32]) -> Result<(), Refusal>
     ensures { result ≡ instances_sized totals.instances totals.words lines.now }
 {
     let broken = refusals::is_outside(1, MOST_INSTANCES, totals.instances)
         | (MOST_WORDS_IN_ALL < totals.words)
         | (lines.len() < totals.instances as usize + 1);
-    refusals::refuse_if(Checked::Accepted, 2, 0, broken)
+    refusals::refuse_if(2, 0, broken)
 }
 
 // 2, 3 and 4 of the instances: how many there are, where each begins, and how many words it has.
-fn check_instances(totals: Totals, lines: &[u32]) -> Checked
+#[tactic(auto, using(refusals::proofs::Laws::handed), unfolding(refusals::specs::Refusals::or_next_of, refusal_rows::specs::Parts::part_checked, crate::specs::Parts::instances_sized, crate::specs::Parts::instances_checked))]
+fn check_instances(totals: Totals, lines: &[u32]) -> Result<(), Refusal>
     ensures { result ≡ instances_checked totals.instances totals.words lines.now }
 {
-    let sizes = check_sizes(totals, lines);
-    if let Checked::Refused(why) = sizes {
-        return Checked::Refused(why);
-    }
+    check_sizes(totals, lines)?;
     let n = totals.instances as usize;
-    let three = table_checks::check_starts(sizes, lines, n, totals.words);
-    check_lengths(three, lines, n)
+    table_checks::check_starts(lines, n, totals.words)?;
+    check_lengths(lines, n)
 }
 
 // 2 to 6 of the instances, their words, a reference label for each word and a weight for each instance.
@@ -91,7 +84,7 @@ fn check_data(
     values: &[f64],
     references: &[u32],
     shares: &[f64],
-) -> Checked
+) -> Result<(), Refusal>
     ensures { result ≡ data_checked labels (data_was totals lines begins ids values references shares) }
 {
     let instances = check_instances(totals, lines);
@@ -103,7 +96,8 @@ fn check_data(
 }
 
 // 2 of the result and work buffers.
-fn check_lent(features: u32, instances: u32, lent: Lent) -> Checked
+#[tactic(auto, unfolding(refusals::specs::Refusals::or_next_of, refusal_rows::specs::Parts::part_checked, crate::specs::Parts::lent_checked))]
+fn check_lent(features: u32, instances: u32, lent: Lent) -> Result<(), Refusal>
     ensures { result ≡ lent_checked features instances lent }
 {
     let short = (lent.weights < features as usize)
@@ -111,7 +105,7 @@ fn check_lent(features: u32, instances: u32, lent: Lent) -> Checked
         | (lent.truly < features as usize)
         | (lent.predicted < features as usize)
         | (lent.order < instances as usize);
-    refusals::refuse_if(Checked::Accepted, 2, 0, short)
+    refusals::refuse_if(2, 0, short)
 }
 
 // Whether a trainer can learn from these tables, into buffers of these lengths.
@@ -133,11 +127,11 @@ pub fn check_input(
     references: &[u32],
     shares: &[f64],
     lent: Lent,
-) -> Checked
+) -> Result<(), Refusal>
     ensures { let m = model_was labels counts kinds destinations sources attribute_starts attribute_entries label_starts label_entries in
         result ≡ input_checked (record { model = m; corpus = data_was totals lines begins ids values references shares; lent = lent }) }
 {
-    let one = score_tables::check_labels(labels);
+    score_tables::check_labels(labels)?;
     let tables = feature_gen::check_tables(
         labels,
         counts,
@@ -154,6 +148,5 @@ pub fn check_input(
     );
     let both = refusals::sooner(tables, data);
     let room = check_lent(counts.features, totals.instances, lent);
-    let input = refusals::sooner(both, room);
-    refusals::or_next(one, input)
+    refusals::sooner(both, room)
 }

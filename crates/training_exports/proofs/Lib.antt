@@ -1,3 +1,2 @@
 mod OnlyOne
-mod Kept
 mod Meant

@@ -47,7 +47,7 @@ pub extern "C" fn bodkinbloom_averaged_perceptron(
         let after = buffers_of weights.new running_sums.new true_counts.new predicted_counts.new order.new in
         Trains (Method.AveragedPerceptron parameters) given before (record { answer = result; after = after }) }
 {
-    let answer = trainers::train(
+    Trained::from(trainers::train(
         Method::AveragedPerceptron(parameters),
         labels,
         counts,
@@ -70,8 +70,7 @@ pub extern "C" fn bodkinbloom_averaged_perceptron(
         true_counts,
         predicted_counts,
         order,
-    );
-    answers::trainings::numbers_of_training(answer)
+    ))
 }
 
 // Passive-aggressive, of the variant and with the switches of its parameters.
@@ -108,7 +107,7 @@ pub extern "C" fn bodkinbloom_passive_aggressive(
         let after = buffers_of weights.new running_sums.new true_counts.new predicted_counts.new order.new in
         Trains (Method.PassiveAggressive parameters) given before (record { answer = result; after = after }) }
 {
-    let answer = trainers::train(
+    Trained::from(trainers::train(
         Method::PassiveAggressive(parameters),
         labels,
         counts,
@@ -131,8 +130,7 @@ pub extern "C" fn bodkinbloom_passive_aggressive(
         true_counts,
         predicted_counts,
         order,
-    );
-    answers::trainings::numbers_of_training(answer)
+    ))
 }
 
 // AROW, adaptive regularization of weights.
@@ -193,5 +191,5 @@ pub extern "C" fn bodkinbloom_arow(
         predicted_counts,
         order,
     );
-    answers::trainings::numbers_of_training(trained)
+    Trained::from(trained)
 }

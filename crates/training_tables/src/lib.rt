@@ -17,10 +17,8 @@ pub fn count_up(order: &mut [u32], n: u32)
     requires { n ≤ length order.old }
     ensures { order.new ≡ up_to n ++ drop n order.old }
 {
-    let mut i = 0u32;
-    while i < n {
+    for i in 0..n {
         order[i as usize] = i;
-        i += 1;
     }
 }
 
@@ -30,12 +28,10 @@ pub fn average(features: usize, counter: f64, sums: &[f64], weights: &mut [f64])
     ensures { Averaged features counter sums.now weights.old weights.new result }
 {
     let mut all = true;
-    let mut i = 0usize;
-    while i < features {
+    for i in 0..features {
         let w = weights[i] - sums[i] / counter;
         weights[i] = w;
-        all = all & binary64::is_finite(w);
-        i += 1;
+        all &= binary64::is_finite(w);
     }
     all
 }

@@ -53,25 +53,18 @@ pub fn unchanged(s: Progress) -> Progress
     }
 }
 
-// What a visit finds before it learns: it ends there, or labels differ.
-#[derive(Clone, Copy)]
-pub enum Found {
-    Ended(Progress),
-    Differ,
-}
-
-// 8 for the scores, then whether the labels agree.
-fn look_at(scored: bool, agree: bool, s: Progress) -> Found
+// 8 for the scores, then whether the labels agree: the end of the visit, where it ends there.
+fn look_at(scored: bool, agree: bool, s: Progress) -> Option<Progress>
     requires { (s.visits < 2 ^ 53) × (s.updates ≤ s.visits) }
     ensures { (learned : Learned) → result ≡ looked scored agree (record { progress = s; learned = learned }) }
 {
     if !scored {
-        return Found::Ended(refuse(8, s));
+        return Some(refuse(8, s));
     }
     if agree {
-        return Found::Ended(unchanged(s));
+        return Some(unchanged(s));
     }
-    Found::Differ
+    None
 }
 
 // The labels agree where none is wrong, whichever the epoch.
@@ -81,8 +74,8 @@ fn agree(wrong: u32) -> bool
     wrong == 0
 }
 
-// What a visit finds.
-pub fn look(scored: bool, wrong: u32, s: Progress) -> Found
+// What a visit finds before it learns: that it ends there, or that labels differ.
+pub fn look(scored: bool, wrong: u32, s: Progress) -> Option<Progress>
     requires { (s.visits < 2 ^ 53) × (s.updates ≤ s.visits) }
     ensures { (learned : Learned) → result ≡ looked scored (eqb wrong 0) (record { progress = s; learned = learned }) }
 {
@@ -99,11 +92,7 @@ pub fn holds(tables: bool, loss: f64) -> bool
 pub fn is_refused(v: Visit) -> bool
     ensures { result ≡ is_refused v }
 {
-    match v {
-        Visit::Refused(_) => true,
-        Visit::Updated => false,
-        Visit::Unchanged => false,
-    }
+    matches!(v, Visit::Refused(_))
 }
 
 // Whether an epoch's rate of loss ends training: below epsilon, with AROW also at it.

@@ -1,4 +1,5 @@
 -- The ways through a visit: how its code's tests pick a case of the definition. Assumes nothing.
+use Rattle.std.specs.Prelude.{Some, None}
 use mathlib.Core.Path.{◌≡◌, sym, ap, ◌∙◌, subst}
 use mathlib.Core.Bool.{Bool, true, false}
 use mathlib.Core.List.{List, [], ◌++◌}
@@ -27,7 +28,6 @@ use Rattle.judging.specs.declared.Prediction.{Prediction}
 use Rattle.training_check.specs.Sound.{SoundData}
 use Rattle.prediction.specs.Tables.{SoundInstance}
 use Rattle.judging.specs.Judged.{Judged}
-use Rattle.updates.specs.declared.Found.TheVariants.{Ended, Differ}
 use Rattle.updates.specs.Looked.{looked}
 use Rattle.updates.proofs.Looked.{never, same_step, ended, differs}
 use Rattle.updates.specs.Updating.{Agreed, VisitCounted, settled}
@@ -35,7 +35,7 @@ use Rattle.updates.proofs.Laws.{exactly, refused, refused_counted, unchanged_cou
 use Rattle.visits.specs.Visitable.{mistake_of}
 
 -- a visit that ends before it learns is counted once at most
-pub ended_counted : (s r : Progress) (scored agree : Bool) → ((l : Learned) → looked scored agree (record { progress = s; learned = l }) ≡ Ended r) → s.updates ≤ s.visits → VisitCounted s r
+pub ended_counted : (s r : Progress) (scored agree : Bool) → ((l : Learned) → looked scored agree (record { progress = s; learned = l }) ≡ Some r) → s.updates ≤ s.visits → VisitCounted s r
 unfolding looked
 ended_counted s r false agree e h = refused_counted 8 s r (λ l. same_step (e l)) h
 ended_counted s r true true e h = unchanged_counted s r (λ l. same_step (e l)) h
@@ -122,11 +122,11 @@ module _ (d : Data) (i first end : ℕ) (f : first ≡ get_or d.starts i 0) (g :
     other t h {made} a = subst (λ (w : TrainingState). Agreed made w) (ap (λ (k : Mistake). settled rule m.features.count k s) (seen_meant t h) ∙ sym (visited_settled t h)) a
 
     -- what the look before learning found: the visit ends there
-    pub ended_there : {r : Progress} → looked p.finite (eqb p.wrong 0) s ≡ Ended r → Agreed (record { progress = r; learned = s.learned }) (visited rule m d i s)
+    pub ended_there : {r : Progress} → looked p.finite (eqb p.wrong 0) s ≡ Some r → Agreed (record { progress = r; learned = s.learned }) (visited rule m d i s)
     ended_there e = ⊎_elim (λ w. unscored w.0 w.1) (λ w. same w.0 (eqb-true _ _ w.1) w.2) (ended s p.finite (eqb p.wrong 0) e)
 
     -- or labels differ, and the path stands in the front of an array
-    pub other_front : {made : TrainingState} → looked p.finite (eqb p.wrong 0) s ≡ Differ → length after ≡ end - first → (rest : List ℕ) →
+    pub other_front : {made : TrainingState} → looked p.finite (eqb p.wrong 0) s ≡ None → length after ≡ end - first → (rest : List ℕ) →
         (let k = mistake_of m d.words first (end - first) (take (end - first) (drop first d.references)) (take (end - first) (after ++ rest)) p (get_or d.weights i nan) s.progress.visits in
         Agreed made (settled rule m.features.count k s)) → Agreed made (visited rule m d i s)
     other_front e n rest a =

@@ -12,7 +12,6 @@ use judging::Prediction;
 use parameters::Trainer;
 use prediction::Sizes;
 use training::Progress;
-use updates::Found;
 
 // The labels differ: the true counts, the predicted counts, then the update.
 fn correct(
@@ -159,8 +158,7 @@ pub fn visit(
         reference,
         &mut path[..words],
     );
-    let found = updates::look(p.finite, p.wrong, s);
-    if let Found::Ended(progress) = found {
+    if let Some(progress) = updates::look(p.finite, p.wrong, s) {
         return progress;
     }
     correct(

@@ -11,8 +11,7 @@ use Rattle.refusal_rows.proofs.Groups.{Group, single, given_first, given_after, 
 use Rattle.refusal_rows.proofs.TableGroups.{pair, table_sixes}
 use Rattle.viterbi.specs.Rows.{decode_checked}
 use Rattle.viterbi.specs.Meaning.{Meaning, DecodingMeans, AnswersMean}
-use Rattle.refusals.specs.declared.Checked.{Checked}
-use Rattle.refusals.specs.Refusals.{numbered}
+use Rattle.refusals.specs.Refusals.{Checked, numbered}
 use Rattle.refusals.specs.Said.{or_refused}
 use Rattle.refusals.proofs.Said.{refused_said, accepted_said}
 use Rattle.best_path.specs.Decoded.{decoded_sum}

@@ -1,6 +1,5 @@
 -- What decoding a line answers, in plain terms: each number exactly when document 01 gives it, and with which place; of the check, and of whatever satisfies the promise. The proofs are in proofs/Meant; for C in decoding_exports.
-use Rattle.std.specs.Prelude.{◌≡◌, List, [], ◌∷◌, ◌↔◌, ℕ, ◌≤◌, length, Float}
-use Rattle.refusals.specs.declared.Checked.TheVariants.{Accepted}
+use Rattle.std.specs.Prelude.{◌≡◌, List, [], ◌∷◌, ◌↔◌, ℕ, ◌≤◌, length, Float, Ok}
 use Rattle.refusals.specs.Refusals.{refused_at, numbered}
 use Rattle.score_tables.specs.Sound.{LabelsIn, WordsIn, ScoresRoom, SoundScores}
 use Rattle.score_tables.specs.Meaning.{SixAt}
@@ -27,7 +26,7 @@ abbrev pub DecodingMeans : Type 0
 DecodingMeans =
     (labels words : ℕ) (transitions states : List Float) (path : List ℕ) →
     Meaning (λ number place. decode_checked labels words transitions states path ≡ refused_at number place)
-    (decode_checked labels words transitions states path ≡ Accepted)
+    (decode_checked labels words transitions states path ≡ Ok tt)
     labels words transitions states path
 
 -- of the call: a decoded line exactly when no number is given

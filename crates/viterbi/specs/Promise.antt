@@ -1,12 +1,13 @@
 -- What decoding a line promises: document 01's answer to what the call is given, and what the lent buffer holds afterwards. Assumes nothing.
-use Rattle.std.specs.Prelude.{◌≡◌, List, ◌++◌, ℕ, drop, Float}
-use Rattle.refusals.specs.declared.Checked.{Checked}
+use Rattle.refusals.specs.declared.Refusal.{Refusal}
+use Rattle.viterbi_end.specs.declared.Found.{Found}
+use Rattle.std.specs.Prelude.{◌≡◌, List, ◌++◌, ℕ, drop, Float, Ok, Err, Result}
+use Rattle.refusals.specs.Refusals.{Checked}
 use Rattle.refusals.specs.Said.{Said, accepted, refused, or_refused}
 use Rattle.best_path.specs.Scores.{Scores, tabled}
 use Rattle.best_path.specs.Decoded.{decoded_path, decoded_sum}
 use Rattle.best_path.specs.Lead.{Lead, lead}
 use Rattle.viterbi_end.specs.Ends.{lead_said}
-use Rattle.viterbi.specs.declared.Decoding.{Decoding}
 use Rattle.viterbi.specs.Rows.{decode_checked}
 
 -- what the call is given: the numbers and tables that it reads
@@ -18,7 +19,7 @@ pub record Given : Type 0 where
 
 -- the answer, and what the lent buffer holds afterwards
 pub record Outcome : Type 0 where
-  pub answer : Decoding
+  pub answer : Result Found Refusal
   pub path : List ℕ
 
 -- what an accepted call gives beside the path
@@ -30,9 +31,9 @@ pub record SumAndLead : Type 0 where
 abbrev pub decoded : Float → Lead → Said SumAndLead
 decoded sum lead = accepted (record { sum = sum; lead = lead })
 
-abbrev pub said : Decoding → Said SumAndLead
-said (Decoding.Decoded found) = decoded found.sum (lead_said found.lead)
-said (Decoding.Refused why) = refused why
+abbrev pub said : Result Found Refusal → Said SumAndLead
+said (Ok found) = decoded found.sum (lead_said found.lead)
+said (Err why) = refused why
 
 -- the scores of the line
 abbrev pub scores_of : Given → Scores
@@ -48,8 +49,8 @@ answer_to given before =
     or_refused (checked_of given before) (decoded (decoded_sum (scores_of given) given.words) (lead (scores_of given) given.words))
 
 abbrev pub or_entry : Checked → List ℕ → List ℕ → List ℕ
-or_entry Checked.Accepted before after = after
-or_entry (Checked.Refused why) before after = before
+or_entry (Ok _) before after = after
+or_entry (Err why) before after = before
 
 -- the path at the front of its buffer, "only the needed front is touched"; its entry contents where the call is refused
 unfoldable pub path_after : Given → List ℕ → List ℕ

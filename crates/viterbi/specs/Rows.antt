@@ -1,7 +1,6 @@
 -- Document 01, "Numbered refusals", row by row for decoding a line, and their order. Assumes nothing.
 use Rattle.std.specs.Prelude.{List, ◌∷◌, ℕ, Float}
-use Rattle.refusals.specs.declared.Checked.{Checked}
-use Rattle.refusals.specs.Refusals.{first}
+use Rattle.refusals.specs.Refusals.{Checked, first}
 use Rattle.score_tables.specs.Rows.{one, four, scores_short, path_short, sixes}
 
 -- "The lowest number wins, but a call that takes T as a number tests 4 right after 1": 1, 4, 2, 6

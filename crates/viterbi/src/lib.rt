@@ -6,30 +6,25 @@ ghost use Rattle.viterbi.specs.Rows.{decode_checked};
 ghost use Rattle.viterbi.specs.Answered.{Ready, Answered};
 ghost use Rattle.viterbi.specs.Promise.{Promised};
 
-use refusals::{Checked, Refusal};
+use refusals::Refusal;
 use viterbi_end::Found;
 use viterbi_steps::{ROW_ROOM, Row};
 
 // Every refusal of the call.
+#[tactic(auto, using(refusals::proofs::Laws::handed, score_tables::proofs::Laws::room), unfolding(refusals::specs::Refusals::or_next_of, crate::specs::Rows::decode_checked))]
 pub fn check_decode(
     labels: u32,
     words: u32,
     transitions: &[f64],
     states: &[f64],
     path: &[u32],
-) -> Checked
+) -> Result<(), Refusal>
     ensures { result ≡ decode_checked labels words transitions.now states.now path.now }
 {
-    let bounds = score_tables::check_bounds(labels, words);
-    let tables = score_tables::check_room(bounds, labels, words, transitions, states);
-    let room = refusals::refuse_if(tables, 2, 0, refusals::is_short(path.len(), words as usize));
-    score_tables::check_finite(room, labels, words, transitions, states)
-}
-
-#[derive(Clone, Copy)]
-pub enum Decoding {
-    Decoded(Found),
-    Refused(Refusal),
+    score_tables::check_bounds(labels, words)?;
+    score_tables::check_room(labels, words, transitions, states)?;
+    refusals::refuse_if(2, 0, refusals::is_short(path.len(), words as usize))?;
+    score_tables::check_finite(labels, words, transitions, states)
 }
 
 // Two rows take turns: at each word the row of the word before is read, and the other is replaced.
@@ -52,6 +47,7 @@ fn decode_rows(
         width: n,
     };
     let mut word: usize = 0;
+    // Two words a turn, so that neither row is copied.
     while word + 2 < words {
         viterbi_steps::next_row(
             &row.best,
@@ -92,8 +88,11 @@ fn decode_rows(
 // So many steps back make a line a short one.
 const SHORT: usize = 256;
 
-// The steps back of a short line, in a small array: clearing a large one would take longer than the line.
-fn decode_short(
+// The steps back of any line: the most words, with the most labels each, are 128·32.
+const MOST: usize = 4096;
+
+// The steps back of a short line are in a small array: clearing a large one would take longer than the line.
+fn decode_within<const STEPS: usize>(
     n: usize,
     words: usize,
     transitions: &[f64],
@@ -101,25 +100,11 @@ fn decode_short(
     path: &mut [u32],
 ) -> Found
     requires ready { Ready n words transitions.now states.now path.old }
-    requires n_bound { words * n ≤ 256 }
+    requires n_bound { words * n ≤ STEPS }
+    requires steps_bound { STEPS ≤ MOST }
     ensures { Answered n words transitions.now states.now path.old result path.new }
 {
-    let mut steps = [0u8; SHORT];
-    decode_rows(n, words, transitions, states, path, &mut steps)
-}
-
-// The steps back of any line: the most words, with the most labels each, are 128·32.
-fn decode_long(
-    n: usize,
-    words: usize,
-    transitions: &[f64],
-    states: &[f64],
-    path: &mut [u32],
-) -> Found
-    requires { Ready n words transitions.now states.now path.old }
-    ensures { Answered n words transitions.now states.now path.old result path.new }
-{
-    let mut steps = [0u8; 4096];
+    let mut steps = [0u8; STEPS];
     decode_rows(n, words, transitions, states, path, &mut steps)
 }
 
@@ -135,9 +120,9 @@ pub fn decode_tables(
     ensures { Answered n words transitions.now states.now path.old result path.new }
 {
     if words * n <= SHORT {
-        decode_short(n, words, transitions, states, path)
+        decode_within::<SHORT>(n, words, transitions, states, path)
     } else {
-        decode_long(n, words, transitions, states, path)
+        decode_within::<MOST>(n, words, transitions, states, path)
     }
 }
 
@@ -148,12 +133,9 @@ pub fn viterbi_decode(
     transitions: &[f64],
     states: &[f64],
     path: &mut [u32],
-) -> Decoding
+) -> Result<Found, Refusal>
     ensures { Promised (record { labels = labels; words = words; transitions = transitions.now; states = states.now }) path.old (record { answer = result; path = path.new }) }
 {
-    let checked = check_decode(labels, words, transitions, states, path);
-    if let Checked::Refused(why) = checked {
-        return Decoding::Refused(why);
-    }
-    Decoding::Decoded(decode_tables(labels as usize, words as usize, transitions, states, path))
+    check_decode(labels, words, transitions, states, path)?;
+    Ok(decode_tables(labels as usize, words as usize, transitions, states, path))
 }

@@ -1,4 +1,5 @@
 -- The laws of `walked` that the walk back leans on, and that it is the decoded path where the steps are the steps back. Assumes nothing.
+use Rattle.std.specs.Prelude.{Option}
 use mathlib.Core.Path.{◌≡◌, sym, ap, ◌∙◌}
 use mathlib.Core.List.{List, ◌∷◌, ◌++◌}
 use Prim.Native.Nat.{ℕ, zero, suc, ◌+◌, ◌-◌, ◌*◌, ◌≤◌, ◌<◌}
@@ -11,7 +12,6 @@ use Rattle.best_path.specs.Scores.{Scores}
 use Rattle.best_path.specs.Decoded.{back, path_to}
 use Rattle.best_path.proofs.Laws.{back_within, path_first, path_more}
 use Rattle.viterbi_steps.specs.Rows.{StepsTo}
-use Rattle.viterbi_end.specs.declared.Lead as code
 use Rattle.viterbi_end.specs.Rival.{score_at}
 use Rattle.viterbi_end.specs.Ends.{lead_said, last_of, lead_in_row, Ended}
 use Rattle.viterbi_end.specs.Walked.{walked, StepsWithin, Walk}
@@ -41,7 +41,7 @@ pub step_within : {n words : ℕ} {steps path : List ℕ} → Walk n words steps
 step_within walk word label any h k e = let b : word - 1 + 1 ≡ word = omega arith in rw e (rw b at (walk.within (word - 1) label (rw b h) k))
 
 -- the end of a line, its last label by name
-pub ended : {row : List Float} {n words last : ℕ} {steps before after : List ℕ} {lead : code.Lead} → last ≡ last_of row n → lead_said lead ≡ lead_in_row row n last → after ≡ walked steps n (words - 1) last ++ drop words before → Ended row n words steps before (record { sum = score_at row last; lead = lead }) after
+pub ended : {row : List Float} {n words last : ℕ} {steps before after : List ℕ} {lead : Option Float} → last ≡ last_of row n → lead_said lead ≡ lead_in_row row n last → after ≡ walked steps n (words - 1) last ++ drop words before → Ended row n words steps before (record { sum = score_at row last; lead = lead }) after
 ended e l p = record { sum = rw e; lead = rw e at l; path = rw e at p }
 
 -- the steps back of the definition lead along its path

@@ -1,16 +1,15 @@
 -- The end of decoding, over the last row of best scores and the steps back: the path walked, the last label, its sum and its lead. Assumes nothing.
-use Rattle.std.specs.Prelude.{◌≡◌, cond, List, ◌++◌, ℕ, ◌-◌, ltb, drop, Float}
+use Rattle.std.specs.Prelude.{◌≡◌, cond, List, ◌++◌, ℕ, ◌-◌, ltb, drop, Float, Some, None, Option}
 use Rattle.best_path.specs.Decoded.{last_largest}
 use Rattle.best_path.specs.Lead.{Lead, none, by, lead_between}
 use Rattle.viterbi_end.specs.Rival.{score_at, rival_of}
 use Rattle.viterbi_end.specs.Walked.{walked}
-use Rattle.viterbi_end.specs.declared.Lead as code
 use Rattle.viterbi_end.specs.declared.Found.{Found}
 
 -- what the code's lead says: "no lead", or a lead by so much
-abbrev pub lead_said : code.Lead → Lead
-lead_said code.Lead.NoLead = none
-lead_said (code.Lead.By x) = by x
+abbrev pub lead_said : Option Float → Lead
+lead_said None = none
+lead_said (Some x) = by x
 
 -- the last label that a row of so many labels gives
 abbrev pub last_of : List Float → ℕ → ℕ

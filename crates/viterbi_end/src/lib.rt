@@ -10,18 +10,11 @@ ghost use Rattle.viterbi_end.specs.Ends.{lead_said, last_of, lead_in_row, Ended}
 
 use viterbi_steps::ROW_ROOM;
 
-// By how much the best final score is above that of every other last label.
-#[derive(Clone, Copy)]
-pub enum Lead {
-    NoLead,
-    By(f64),
-}
-
-// What is found of a line beside its path.
+// What is found of a line beside its path: the rounded sum, and by how much it is above that of every other last label.
 #[derive(Clone, Copy)]
 pub struct Found {
     pub sum: f64,
-    pub lead: Lead,
+    pub lead: Option<f64>,
 }
 
 // The last of the labels with the largest score.
@@ -31,12 +24,10 @@ fn last_largest(row: &[f64; ROW_ROOM], n: usize) -> usize
 {
     let mut score = row[0];
     let mut last: u64 = 0;
-    let mut label: usize = 1;
-    while label < n {
+    for label in 1..n {
         let next = row[label];
         last = viterbi_steps::whence(score, next, last, label as u64);
         score = viterbi_steps::better(score, next);
-        label += 1;
     }
     last as usize
 }
@@ -56,11 +47,9 @@ pub fn rival(row: &[f64; ROW_ROOM], n: usize, last: usize) -> f64
 {
     let first = other_label(last, 0);
     let mut score = row[first];
-    let mut k: usize = 1;
-    while k + 1 < n {
+    for k in 1..n - 1 {
         let label = other_label(last, k);
         score = viterbi_steps::better(score, row[label]);
-        k += 1;
     }
     score
 }
@@ -73,25 +62,25 @@ pub fn positive_zero(x: f64) -> f64
 }
 
 // "no lead .. when either score is not finite".
-fn lead_by(best: f64, rival: f64) -> Lead
+fn lead_by(best: f64, rival: f64) -> Option<f64>
     ensures { lead_said result ≡ lead_between best rival }
 {
     if binary64::is_finite(best) & binary64::is_finite(rival) {
-        Lead::By(positive_zero(best - rival))
+        Some(positive_zero(best - rival))
     } else {
-        Lead::NoLead
+        None
     }
 }
 
 // "no lead" with L = 1.
-fn lead_of(row: &[f64; ROW_ROOM], n: usize, last: usize) -> Lead
+fn lead_of(row: &[f64; ROW_ROOM], n: usize, last: usize) -> Option<f64>
     requires { (last < n) × (n ≤ most the_labels) }
     ensures { lead_said result ≡ lead_in_row row.now n last }
 {
     if 1 < n {
         lead_by(row[last], rival(row, n, last))
     } else {
-        Lead::NoLead
+        None
     }
 }
 
@@ -118,11 +107,9 @@ pub fn walk_back(path: &mut [u32], words: usize, n: usize, last: usize, steps: &
     ensures { path.new ≡ walked steps.now n (words - 1) last ++ drop words path.old }
 {
     let mut label = last;
-    let mut word = words - 1;
-    while 0 < word {
+    for word in (1..words).rev() {
         put_label(path, word, label);
         label = step_back(steps, word * n + label);
-        word -= 1;
     }
     put_label(path, 0, label);
 }

@@ -45,20 +45,15 @@ pub fn best_step(
     ensures { result ≡ choice_of (candidate n transitions.now row.now label state) n }
 {
     let mut score = row[0] + transitions[label] + state;
-    let mut from: u64 = 0;
-    let mut tried: usize = 1;
+    let mut previous: u64 = 0;
     let mut at = n + label;
-    while tried < n {
+    for tried in 1..n {
         let next = row[tried] + transitions[at] + state;
-        from = whence(score, next, from, tried as u64);
+        previous = whence(score, next, previous, tried as u64);
         score = better(score, next);
         at += n;
-        tried += 1;
     }
-    Choice {
-        score: score,
-        previous: from,
-    }
+    Choice { score, previous }
 }
 
 // One row of best scores, with room for the most labels; `width` of them count.
@@ -77,10 +72,8 @@ pub fn first_row(n: usize, states: &[f64]) -> Row
         best: [0.0; ROW_ROOM],
         width: n,
     };
-    let mut label: usize = 0;
-    while label < n {
+    for label in 0..n {
         row.best[label] = states[label];
-        label += 1;
     }
     row
 }
@@ -99,12 +92,10 @@ fn next_by_label(
     ensures { After n word transitions.now states.now next.old steps.old next.new steps.new }
 {
     let at = (word + 1) * n;
-    let mut label: usize = 0;
-    while label < n {
+    for label in 0..n {
         let choice = best_step(row, n, transitions, label, states[at + label]);
         next[label] = choice.score;
         steps[at + label] = choice.previous as u8;
-        label += 1;
     }
 }
 
@@ -120,10 +111,8 @@ fn seed_row(
     requires { (n ≤ most the_labels) × (n ≤ length transitions.now) × (at + n ≤ length states.now) }
     ensures { next.new ≡ written 0 (onward score transitions.now 0 states.now at) n next.old }
 {
-    let mut label: usize = 0;
-    while label < n {
+    for label in 0..n {
         next[label] = score + transitions[label] + states[at + label];
-        label += 1;
     }
 }
 
@@ -143,13 +132,11 @@ fn fold_previous(
     ensures next_after { next.new ≡ written 0 (score_tried (onward score transitions.now base states.now at) next.old) n next.old }
     ensures from_after { from.new ≡ written 0 (mark_tried (onward score transitions.now base states.now at) next.old mark from.old) n from.old }
 {
-    let mut label: usize = 0;
-    while label < n {
+    for label in 0..n {
         let sum = score + transitions[base + label] + states[at + label];
         let old = next[label];
         from[label] = whence(old, sum, from[label], mark);
         next[label] = better(old, sum);
-        label += 1;
     }
 }
 
@@ -158,10 +145,8 @@ fn keep_steps(steps: &mut [u8], at: usize, from: &[u64; ROW_ROOM], n: usize)
     requires { (n ≤ most the_labels) × (at + n ≤ length steps.old) × ((label : ℕ) → label < n → get_or from.now label 0 < 256) }
     ensures { steps.new ≡ written at (λ label. get_or from.now label 0) n steps.old }
 {
-    let mut label: usize = 0;
-    while label < n {
+    for label in 0..n {
         steps[at + label] = from[label] as u8;
-        label += 1;
     }
 }
 
@@ -181,9 +166,8 @@ fn next_by_previous(
     let at = (word + 1) * n;
     let mut from = [0u64; ROW_ROOM];
     seed_row(next, n, row[0], transitions, states, at);
-    let mut previous: usize = 1;
     let mut base = n;
-    while previous < n {
+    for previous in 1..n {
         let score = row[previous];
         fold_previous(
             next,
@@ -197,7 +181,6 @@ fn next_by_previous(
             at,
         );
         base += n;
-        previous += 1;
     }
     keep_steps(steps, at, &from, n);
 }

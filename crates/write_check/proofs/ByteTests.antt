@@ -2,20 +2,40 @@
 use mathlib.Core.Path.{◌≡◌, refl, sym, ap, ◌∙◌}
 use mathlib.Core.Bool.{Bool, true, false, cond, not, ◌&&◌, ◌||◌}
 use mathlib.Core.List.{[], ◌∷◌}
-use Prim.Native.Nat.{ℕ, suc, ◌+◌, ◌≤◌, ◌<◌}
+use Prim.Native.Nat.{ℕ, suc, ◌+◌, ◌-◌, ◌≤◌, ◌<◌}
 use native.Mathlib.Omega.{arith}
 use borrow.Author.Tests.{eq-eqb, ne_eqb, eqb-true, eqb-false}
 use lib.Dec.{eqb, ltb, leb}
-use lib.ListN.{length, get_or}
-use lib.Seq.{slice, length-slice}
+use lib.ListN.{length, get_or, take, drop, drop_of_length-le}
+use lib.Seq.{slice, length-slice, slice-cons, slice_empty, drop-cons}
+use native.Mathlib.Nat.{le_antisymm}
+use native.Mathlib.Numerals.{add-one}
 use Rattle.refusals.specs.Tables.{outside}
 use Rattle.layout.specs.Layout.{Bytes}
 use Rattle.text_tables.specs.Tables.{Strings}
 use Rattle.text_tables.specs.Written.{string_at}
 use Rattle.text_writing.specs.Ready.{StringStands}
-use Rattle.byte_buffers.proofs.Onto.{part_next, part_over}
+use Rattle.std.proofs.lemmas.List.{drop-take}
+use Rattle.std.proofs.lemmas.Bool.Decides.{nat_tests}
 use Rattle.text_writing.proofs.Laws.{part_is, part_stands}
-use Rattle.write_check.specs.Carry.{unclean, nothing, no_name, no_scale_from, behind_minus, no_scale, not_kept}
+use Rattle.write_check.specs.Carry.{unclean, nothing, no_name, no_scale_from, behind_minus, no_scale, not_kept, Digitwise}
+
+-- ---- bytes from one place up to another
+part_next : (bytes : Bytes) (i to : ℕ) → i < to → to ≤ length bytes → slice i to bytes ≡ get_or bytes i 0 ∷ slice (i + 1) to bytes
+part_next bytes i to h k = slice-cons i to bytes 0 h k ∙ ap (λ (j : ℕ). get_or bytes i 0 ∷ slice j to bytes) (sym (add-one i))
+
+part_over : (bytes : Bytes) (i to : ℕ) → i ≤ to → to ≤ i → slice i to bytes ≡ []
+part_over bytes i to h k = ap (λ (j : ℕ). slice j to bytes) (le_antisymm h k) ∙ slice_empty to bytes
+
+next : (part : Bytes) (i : ℕ) → i < length part → drop i part ≡ get_or part i 0 ∷ drop (i + 1) part
+next part i h = drop-cons part i 0 h ∙ ap (λ (k : ℕ). get_or part i 0 ∷ drop k part) (sym (add-one i))
+
+-- as a slice of a slice is lent
+pub part_lent : (bytes : Bytes) (from to : ℕ) → from ≤ to → slice from to bytes ≡ take (to - from) (drop from bytes)
+part_lent bytes from to h = ap (λ (k : ℕ). drop from (take k bytes)) e ∙ drop-take from (to - from) bytes
+  where
+    e : to ≡ from + (to - from)
+    e = omega (arith, h)
 
 -- ---- tabs and line feeds
 unclean_next : (b : ℕ) (t : Bytes) → unclean (b ∷ t) ≡ (eqb b 9 || eqb b 10 || unclean t)
@@ -24,16 +44,18 @@ unclean_next b t = unfold unclean in refl
 unclean_none : unclean [] ≡ false
 unclean_none = unfold unclean in refl
 
-pub unclean_here : (bytes : Bytes) (i to : ℕ) {all : Bool} → i < to → to ≤ length bytes → unclean (slice i to bytes) ≡ all → eqb (get_or bytes i 0) 9 || eqb (get_or bytes i 0) 10 ≡ true → true ≡ all
-unclean_here bytes i to h k e s =
-    ap (λ (x : Bool). x || unclean (slice (i + 1) to bytes)) (sym s) ∙ sym (ap unclean (part_next bytes i to h k) ∙ unclean_next (get_or bytes i 0) (slice (i + 1) to bytes)) ∙ e
+-- what is left of a name is as unclean as all of it
+unclean_drop : (name : Bytes) (i : ℕ) → i < length name → unclean (drop i name) ≡ (eqb (get_or name i 0) 9 || eqb (get_or name i 0) 10 || unclean (drop (i + 1) name))
+unclean_drop name i h = ap unclean (next name i h) ∙ unclean_next (get_or name i 0) (drop (i + 1) name)
 
-pub unclean_on : (bytes : Bytes) (i to : ℕ) {all : Bool} → i < to → to ≤ length bytes → unclean (slice i to bytes) ≡ all → eqb (get_or bytes i 0) 9 || eqb (get_or bytes i 0) 10 ≡ false → unclean (slice (i + 1) to bytes) ≡ all
-unclean_on bytes i to h k e s =
-    ap (λ (x : Bool). x || unclean (slice (i + 1) to bytes)) (sym s) ∙ sym (ap unclean (part_next bytes i to h k) ∙ unclean_next (get_or bytes i 0) (slice (i + 1) to bytes)) ∙ e
+pub unclean_here : (name : Bytes) (i : ℕ) → i < length name → unclean (drop i name) ≡ unclean name → eqb (get_or name i 0) 9 || eqb (get_or name i 0) 10 ≡ true → true ≡ unclean name
+unclean_here name i h e s = ap (λ (x : Bool). x || unclean (drop (i + 1) name)) (sym s) ∙ sym (unclean_drop name i h) ∙ e
 
-pub unclean_over : (bytes : Bytes) (i to : ℕ) {all : Bool} → i ≤ to → to ≤ i → unclean (slice i to bytes) ≡ all → false ≡ all
-unclean_over bytes i to h k e = sym unclean_none ∙ ap unclean (sym (part_over bytes i to h k)) ∙ e
+pub unclean_on : (name : Bytes) (i : ℕ) → i < length name → unclean (drop i name) ≡ unclean name → eqb (get_or name i 0) 9 || eqb (get_or name i 0) 10 ≡ false → unclean (drop (i + 1) name) ≡ unclean name
+unclean_on name i h e s = ap (λ (x : Bool). x || unclean (drop (i + 1) name)) (sym s) ∙ sym (unclean_drop name i h) ∙ e
+
+pub unclean_over : (name : Bytes) (i : ℕ) → length name ≤ i → unclean (drop i name) ≡ unclean name → false ≡ unclean name
+unclean_over name i h e = sym unclean_none ∙ ap unclean (sym (drop_of_length-le name {i = i} h)) ∙ e
 
 -- ---- a scale
 scale_step : (p d b : ℕ) (t : Bytes) → no_scale_from p d (b ∷ t) ≡ cond (eqb b 46) (no_scale_from (p + 1) d t) (cond (leb 48 b && leb b 57) (no_scale_from p (d + 1) t) true)
@@ -61,40 +83,41 @@ pub minus_none : behind_minus [] ≡ []
 minus_none = unfold behind_minus in refl
 
 -- so many points and digits up to place i, and what is left decides
-pub record Sorting (bytes : Bytes) (to i points digits : ℕ) (all : Bool) : Type 0 where
-  pub inside : i ≤ to
-  pub whole : to ≤ length bytes
+pub record Sorting (kept : Bytes) (i points digits : ℕ) : Type 0 where
   pub few_points : points ≤ i
   pub few_digits : digits ≤ i
-  pub same : no_scale_from points digits (slice i to bytes) ≡ all
+  pub same : no_scale_from points digits (drop i kept) ≡ no_scale_from 0 0 kept
 
-module _ {bytes : Bytes} {to i points digits : ℕ} {all : Bool} (g : Sorting bytes to i points digits all) where
-  first_of : i < to → no_scale_from points digits (get_or bytes i 0 ∷ slice (i + 1) to bytes) ≡ all
-  first_of h = ap (no_scale_from points digits) (sym (part_next bytes i to h g.whole)) ∙ g.same
+module _ {kept : Bytes} {i points digits : ℕ} (g : Sorting kept i points digits) where
+  first_of : i < length kept → no_scale_from points digits (get_or kept i 0 ∷ drop (i + 1) kept) ≡ no_scale_from 0 0 kept
+  first_of h = ap (no_scale_from points digits) (sym (next kept i h)) ∙ g.same
 
-  pub sorting_point : i < to → eqb (get_or bytes i 0) 46 ≡ true → Sorting bytes to (i + 1) (points + 1) digits all
+  pub sorting_point : i < length kept → get_or kept i 0 ≡ 46 → Sorting kept (i + 1) (points + 1) digits
   sorting_point h s = record {
-    inside = omega (arith, h);
-    whole = g.whole;
     few_points = omega (arith, g.few_points);
     few_digits = omega (arith, g.few_digits);
-    same = sym (scale_point points digits (get_or bytes i 0) (slice (i + 1) to bytes) s) ∙ first_of h;
+    same = sym (scale_point points digits (get_or kept i 0) (drop (i + 1) kept) (eq-eqb _ 46 s)) ∙ first_of h;
   }
 
-  pub sorting_digit : i < to → eqb (get_or bytes i 0) 46 ≡ false → leb 48 (get_or bytes i 0) && leb (get_or bytes i 0) 57 ≡ true → Sorting bytes to (i + 1) points (digits + 1) all
+  pub sorting_digit : i < length kept → 48 ≤ get_or kept i 0 → get_or kept i 0 ≤ 57 → Sorting kept (i + 1) points (digits + 1)
   sorting_digit h s k = record {
-    inside = omega (arith, h);
-    whole = g.whole;
     few_points = omega (arith, g.few_points);
     few_digits = omega (arith, g.few_digits);
-    same = sym (scale_digit points digits (get_or bytes i 0) (slice (i + 1) to bytes) s k) ∙ first_of h;
+    same = sym (scale_digit points digits (get_or kept i 0) (drop (i + 1) kept) (ne_eqb _ 46 (λ e. omega (arith, e, s))) (grind (arith, nat_tests))) ∙ first_of h;
   }
 
-  pub sorting_other : i < to → eqb (get_or bytes i 0) 46 ≡ false → leb 48 (get_or bytes i 0) && leb (get_or bytes i 0) 57 ≡ false → true ≡ all
-  sorting_other h s k = sym (scale_other points digits (get_or bytes i 0) (slice (i + 1) to bytes) s k) ∙ first_of h
+  pub sorting_other : i < length kept → (get_or kept i 0 ≡ 46 → ⊥) → (48 ≤ get_or kept i 0 → get_or kept i 0 ≤ 57 → ⊥) → true ≡ no_scale_from 0 0 kept
+  sorting_other h s k =
+      sym (scale_other points digits (get_or kept i 0) (drop (i + 1) kept) (ne_eqb _ 46 s) (no_digit (get_or kept i 0) k)) ∙ first_of h
+    where
+      no_digit : (b : ℕ) → (48 ≤ b → b ≤ 57 → ⊥) → leb 48 b && leb b 57 ≡ false
+      no_digit b n = grind (arith, nat_tests)
 
-  pub sorting_over : to ≤ i → (outside 1 15 digits || ltb 1 points) ≡ all
-  sorting_over h = sym (scale_end points digits) ∙ ap (no_scale_from points digits) (sym (part_over bytes i to g.inside h)) ∙ g.same
+  pub sorting_over : length kept ≤ i → (outside 1 15 digits || ltb 1 points) ≡ no_scale_from 0 0 kept
+  sorting_over h = sym (scale_end points digits) ∙ ap (no_scale_from points digits) (sym (drop_of_length-le kept {i = i} h)) ∙ g.same
+
+pub kept_is : {bytes : Bytes} {from to first : ℕ} → Digitwise bytes from to first → no_scale_from 0 0 (take (to - first) (drop first bytes)) ≡ no_scale (slice from to bytes)
+kept_is {bytes} {from} {to} {first} d = ap (no_scale_from 0 0) (sym (part_lent bytes first to d.inside) ∙ d.same)
 
 -- where the digits begin
 pub begins_here : (bytes : Bytes) (from to : ℕ) → from < to → to ≤ length bytes → eqb (get_or bytes from 0) 45 ≡ true → slice (from + 1) to bytes ≡ behind_minus (slice from to bytes)

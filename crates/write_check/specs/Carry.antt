@@ -2,8 +2,7 @@
 -- and is no scale". As tests that compute, and in plain terms; that both are the same is proved in proofs/Carried. Assumes nothing.
 use Rattle.std.specs.Prelude.{◌≡◌, Bool, true, false, cond, not, ◌&&◌, ◌||◌, List, [], ◌∷◌, ◌↔◌, ◌⊎◌, ℕ, ◌+◌, ◌≤◌, ◌<◌, eqb, ltb, leb}
 use Rattle.std.proofs.Math.Seq.{slice}
-use Rattle.refusals.specs.declared.Checked.{Checked}
-use Rattle.refusals.specs.Refusals.{lowest}
+use Rattle.refusals.specs.Refusals.{Checked, lowest}
 use Rattle.refusals.specs.Tables.{outside}
 use Rattle.refusals.specs.Meaning.{FirstBad}
 use Rattle.layout.specs.Layout.{Bytes, Name, KeptText}

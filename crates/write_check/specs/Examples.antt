@@ -1,7 +1,6 @@
 -- Desk case T7, computed: the writer's answers to the tables of T1, and to tables that differ from them in one place. Assumes nothing.
-use Rattle.std.specs.Prelude.{◌≡◌, refl, true, ℕ, length}
+use Rattle.std.specs.Prelude.{◌≡◌, refl, true, ℕ, length, Ok}
 use mathlib.Core.List.{List, [], ◌∷◌, flatten}
-use Rattle.refusals.specs.declared.Checked.TheVariants.{Accepted}
 use Rattle.refusals.specs.Refusals.{refused_at, refuse, or_next_of, lowest}
 use Rattle.refusal_rows.specs.Limits.{in_order_of}
 use Rattle.refusal_rows.specs.Tests.{in_table_order}
@@ -42,7 +41,7 @@ short_text : write_checked (t1_with ids1 labels1 names1 scales1) 20 ≡ refused_
 unfolding write_checked lowest or_next_of refuse unclean no_scale_from behind_minus string_at places_from all_lines text_of more_lines line_text attributes_text escaped scale_text flatten
 short_text = refl
 
-long_text : write_checked (t1_with ids1 labels1 names1 scales1) 21 ≡ Accepted
+long_text : write_checked (t1_with ids1 labels1 names1 scales1) 21 ≡ Ok tt
 unfolding write_checked lowest or_next_of refuse unclean no_scale_from behind_minus string_at places_from all_lines text_of more_lines line_text attributes_text escaped scale_text flatten
 long_text = refl
 

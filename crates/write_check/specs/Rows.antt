@@ -1,8 +1,7 @@
 -- The writer's refusals row by row, and their order: 1, 2, 3, 4, 5, 2 of the text, 11. Assumes nothing.
 use Rattle.std.specs.Prelude.{List, [], ◌∷◌, ◌++◌, ℕ, ◌+◌, length}
 use denote.Triple.Both.{Both}
-use Rattle.refusals.specs.declared.Checked.{Checked}
-use Rattle.refusals.specs.Refusals.{first}
+use Rattle.refusals.specs.Refusals.{Checked, first}
 use Rattle.refusals.specs.Bounds.{the_attribute_lists, the_instances, the_words, the_attributes, word_table, attribute_table, reference_table, label_name_table, attribute_name_table, scale_table}
 use Rattle.score_tables.specs.Rows.{one}
 use Rattle.refusal_rows.specs.Limits.{Limit, count, room, two}

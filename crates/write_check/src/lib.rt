@@ -4,7 +4,7 @@
 
 ghost use Rattle.std.specs.Prelude.{◌≡◌, ◌||◌, ◌++◌, ℕ, ◌+◌, ◌≤◌, ◌<◌, ltb, length};
 ghost use Rattle.std.proofs.Math.Seq.{slice};
-ghost use Rattle.refusals.specs.Refusals.{or_next_of, first_from};
+ghost use Rattle.refusals.specs.Refusals.{first};
 ghost use Rattle.refusals.specs.Tables.{outside};
 ghost use Rattle.refusal_rows.specs.Limits.{any_broken};
 ghost use Rattle.refusal_rows.specs.Tests.{checks};
@@ -15,7 +15,7 @@ ghost use Rattle.write_check.specs.Rows.{unchecked_of, unchecked_was, count_limi
 ghost use Rattle.write_check.specs.Sound.{WriteFits, SoundUnwritten};
 
 use lines::Totals;
-use refusals::Checked;
+use refusals::Refusal;
 
 pub const MOST_ATTRIBUTE_NAMES: u32 = 65535;
 
@@ -79,6 +79,7 @@ fn lacks_strings(
 }
 
 // 1, then 2 of the counts, then 2 of the rooms: what can be said before any table is read.
+#[tactic(auto, using(refusals::proofs::Laws::handed), unfolding(refusals::specs::Refusals::or_next_of, crate::specs::Rows::write_sized_of))]
 fn written_sizes(
     labels: u32,
     totals: Totals,
@@ -93,13 +94,11 @@ fn written_sizes(
     attribute_names: &[u8],
     scale_starts: &[u32],
     scales: &[u8],
-) -> Checked
+) -> Result<(), Refusal>
     ensures { result ≡ write_sized_of (unchecked_was labels totals names lines begins ids references label_name_starts label_names attribute_name_starts attribute_names scale_starts scales) }
 {
-    let outside = refusals::is_outside(1, score_tables::MOST_LABELS, labels);
-    let one = refusals::refuse_if(Checked::Accepted, 1, 0, outside);
-    let many = exceeds_written(totals, names.attributes);
-    let two = refusals::refuse_if(one, 2, 0, many);
+    score_tables::check_labels(labels)?;
+    refusals::refuse_if(2, 0, exceeds_written(totals, names.attributes))?;
     let words = lacks_words(totals, lines, begins, ids, references);
     let strings = lacks_strings(
         labels,
@@ -112,12 +111,12 @@ fn written_sizes(
         scale_starts,
         scales,
     );
-    refusals::refuse_if(two, 2, 0, words | strings)
+    refusals::refuse_if(2, 0, words | strings)
 }
 
 // 3 of the five tables of starts.
+#[tactic(auto, using(refusals::proofs::Laws::handed), unfolding(refusals::specs::Refusals::or_next_of))]
 fn check_rising(
-    answer: Checked,
     labels: u32,
     totals: Totals,
     names: Names,
@@ -126,30 +125,27 @@ fn check_rising(
     label_name_starts: &[u32],
     attribute_name_starts: &[u32],
     scale_starts: &[u32],
-) -> Checked
+) -> Result<(), Refusal>
     requires instances_in_bounds { totals.instances < length lines.now }
     requires words_in_bounds { totals.words < length begins.now }
     requires labels_in_bounds { labels < length label_name_starts.now }
     requires attributes_in_bounds { names.attributes < length attribute_name_starts.now }
     requires attributes_in_bounds_2 { totals.attributes < length scale_starts.now }
-    ensures { result ≡ first_from answer (checks (rising_tests labels totals names lines.now begins.now label_name_starts.now attribute_name_starts.now scale_starts.now)) }
+    ensures { result ≡ first (checks (rising_tests labels totals names lines.now begins.now label_name_starts.now attribute_name_starts.now scale_starts.now)) }
 {
-    let words = totals.words;
-    let attributes = totals.attributes;
     let instances = totals.instances as usize;
-    let opened = table_checks::check_starts(answer, lines, instances, words);
-    let begun = table_checks::check_starts(opened, begins, words as usize, attributes);
-    let label = names.label_bytes;
-    let labelled = table_checks::check_starts(begun, label_name_starts, labels as usize, label);
     let known = names.attributes as usize;
-    let bytes = names.attribute_bytes;
-    let named = table_checks::check_starts(labelled, attribute_name_starts, known, bytes);
-    table_checks::check_starts(named, scale_starts, attributes as usize, names.scale_bytes)
+    let attributes = totals.attributes as usize;
+    table_checks::check_starts(lines, instances, totals.words)?;
+    table_checks::check_starts(begins, totals.words as usize, totals.attributes)?;
+    table_checks::check_starts(label_name_starts, labels as usize, names.label_bytes)?;
+    table_checks::check_starts(attribute_name_starts, known, names.attribute_bytes)?;
+    table_checks::check_starts(scale_starts, attributes, names.scale_bytes)
 }
 
 // 3, 4 and 5: all that is said of the tables before a name is read.
+#[tactic(auto, using(refusals::proofs::Laws::handed), unfolding(refusals::specs::Refusals::or_next_of))]
 fn check_lists(
-    answer: Checked,
     labels: u32,
     totals: Totals,
     names: Names,
@@ -163,13 +159,12 @@ fn check_lists(
     attribute_names: &[u8],
     scale_starts: &[u32],
     scales: &[u8],
-) -> Checked
+) -> Result<(), Refusal>
     requires { WriteFits (unchecked_of labels totals names lines.now begins.now ids.now references.now label_name_starts.now label_names.now attribute_name_starts.now attribute_names.now scale_starts.now scales.now) }
     ensures { let g = unchecked_was labels totals names lines begins ids references label_name_starts label_names attribute_name_starts attribute_names scale_starts scales in
-        result ≡ first_from answer (checks (written_starts g ++ written_lengths g ++ written_ids g)) }
+        result ≡ first (checks (written_starts g ++ written_lengths g ++ written_ids g)) }
 {
-    let three = check_rising(
-        answer,
+    check_rising(
         labels,
         totals,
         names,
@@ -178,10 +173,10 @@ fn check_lists(
         label_name_starts,
         attribute_name_starts,
         scale_starts,
-    );
-    let four = training_check::check_lengths(three, lines, totals.instances as usize);
-    let known = table_checks::check_ids(four, ids, totals.attributes as usize, names.attributes);
-    table_checks::check_ids(known, references, totals.words as usize, labels)
+    )?;
+    training_check::check_lengths(lines, totals.instances as usize)?;
+    table_checks::check_ids(ids, totals.attributes as usize, names.attributes)?;
+    table_checks::check_ids(references, totals.words as usize, labels)
 }
 
 // Whether there is a tab or a line feed among the bytes.
@@ -189,13 +184,10 @@ fn is_unclean(bytes: &[u8], from: usize, to: usize) -> bool
     requires { (from ≤ to) × (to ≤ length bytes.now) }
     ensures { result ≡ unclean (slice from to bytes.now) }
 {
-    let mut i = from;
-    while i < to {
-        let b = bytes[i];
-        if (b == 9) | (b == 10) {
+    for b in &bytes[from..to] {
+        if (*b == b'\t') | (*b == b'\n') {
             return true;
         }
-        i += 1;
     }
     false
 }
@@ -215,12 +207,11 @@ fn digits_from(bytes: &[u8], from: usize, to: usize) -> usize
     requires { (from ≤ to) × (to ≤ length bytes.now) }
     ensures { Digitwise bytes.now from to result }
 {
-    if from < to {
-        if bytes[from] == 45 {
-            return from + 1;
-        }
+    if from < to && bytes[from] == b'-' {
+        from + 1
+    } else {
+        from
     }
-    from
 }
 
 // Whether so many points and digits make no scale.
@@ -235,20 +226,14 @@ fn is_no_scale(bytes: &[u8], from: usize, to: usize) -> bool
     requires { (from ≤ to) × (to ≤ length bytes.now) }
     ensures { result ≡ no_scale (slice from to bytes.now) }
 {
-    let mut i = digits_from(bytes, from, to);
+    let first = digits_from(bytes, from, to);
     let mut points = 0usize;
     let mut digits = 0usize;
-    while i < to {
-        let b = bytes[i];
-        i += 1;
-        if b == 46 {
-            points += 1;
-        } else {
-            if (48 <= b) & (b <= 57) {
-                digits += 1;
-            } else {
-                return true;
-            }
+    for b in &bytes[first..to] {
+        match *b {
+            b'.' => points += 1,
+            b'0'..=b'9' => digits += 1,
+            _ => return true,
         }
     }
     miscounts(points, digits)
@@ -265,42 +250,32 @@ fn lacks_scale(starts: &[u32], bytes: &[u8], i: usize) -> bool
 }
 
 // 11 of a table of names.
-fn check_names(answer: Checked, starts: &[u32], bytes: &[u8], n: usize) -> Checked
+fn check_names(starts: &[u32], bytes: &[u8], n: usize) -> Result<(), Refusal>
     requires { (i : ℕ) → i < n → StringStands (strings starts.now bytes.now) i }
-    ensures { result ≡ or_next_of answer (names_checked (strings starts.now bytes.now) n) }
+    ensures { result ≡ names_checked (strings starts.now bytes.now) n }
 {
-    let end = refusals::to_check(answer, n);
-    let mut i = 0usize;
-    while i < end {
+    for i in 0..n {
         let bad = lacks_name(starts, bytes, i);
-        if bad {
-            break;
-        }
-        i += 1;
+        refusals::refuse_if(11, i, bad)?;
     }
-    refusals::refuse_if(answer, 11, i, i < end)
+    Ok(())
 }
 
 // 11 of a table of kept texts.
-fn check_scales(answer: Checked, starts: &[u32], bytes: &[u8], n: usize) -> Checked
+fn check_scales(starts: &[u32], bytes: &[u8], n: usize) -> Result<(), Refusal>
     requires { (i : ℕ) → i < n → StringStands (strings starts.now bytes.now) i }
-    ensures { result ≡ or_next_of answer (scales_checked (strings starts.now bytes.now) n) }
+    ensures { result ≡ scales_checked (strings starts.now bytes.now) n }
 {
-    let end = refusals::to_check(answer, n);
-    let mut i = 0usize;
-    while i < end {
+    for i in 0..n {
         let bad = lacks_scale(starts, bytes, i);
-        if bad {
-            break;
-        }
-        i += 1;
+        refusals::refuse_if(11, i, bad)?;
     }
-    refusals::refuse_if(answer, 11, i, i < end)
+    Ok(())
 }
 
 // 2 of the text's room, then 11 of the labels, the attributes and the scales.
+#[tactic(auto, using(refusals::proofs::Laws::handed), unfolding(refusals::specs::Refusals::or_next_of))]
 fn check_text(
-    answer: Checked,
     labels: u32,
     totals: Totals,
     names: Names,
@@ -315,9 +290,9 @@ fn check_text(
     scale_starts: &[u32],
     scales: &[u8],
     room: usize,
-) -> Checked
+) -> Result<(), Refusal>
     requires { SoundUnwritten (unchecked_of labels totals names lines.now begins.now ids.now references.now label_name_starts.now label_names.now attribute_name_starts.now attribute_names.now scale_starts.now scales.now) }
-    ensures { result ≡ first_from answer (text_rows (unchecked_was labels totals names lines begins ids references label_name_starts label_names attribute_name_starts attribute_names scale_starts scales) room) }
+    ensures { result ≡ first (text_rows (unchecked_was labels totals names lines begins ids references label_name_starts label_names attribute_name_starts attribute_names scale_starts scales) room) }
 {
     let words = totals.words as usize;
     let attributes = totals.attributes as usize;
@@ -336,11 +311,14 @@ fn check_text(
         scale_starts,
         scales,
     );
-    let two = refusals::refuse_if(answer, 2, 0, room < need);
-    let labelled = check_names(two, label_name_starts, label_names, labels as usize);
-    let known = names.attributes as usize;
-    let named = check_names(labelled, attribute_name_starts, attribute_names, known);
-    check_scales(named, scale_starts, scales, attributes)
+    refusals::refuse_if(2, 0, room < need)?;
+    check_names(label_name_starts, label_names, labels as usize)?;
+    check_names(
+        attribute_name_starts,
+        attribute_names,
+        names.attributes as usize,
+    )?;
+    check_scales(scale_starts, scales, attributes)
 }
 
 // Every refusal of the writer, into a text with so much room.
@@ -359,10 +337,10 @@ pub fn check_written(
     scale_starts: &[u32],
     scales: &[u8],
     room: usize,
-) -> Checked
+) -> Result<(), Refusal>
     ensures { result ≡ write_checked (unchecked_was labels totals names lines begins ids references label_name_starts label_names attribute_name_starts attribute_names scale_starts scales) room }
 {
-    let sizes = written_sizes(
+    written_sizes(
         labels,
         totals,
         names,
@@ -376,12 +354,8 @@ pub fn check_written(
         attribute_names,
         scale_starts,
         scales,
-    );
-    if let Checked::Refused(why) = sizes {
-        return Checked::Refused(why);
-    }
-    let lists = check_lists(
-        sizes,
+    )?;
+    check_lists(
         labels,
         totals,
         names,
@@ -395,12 +369,8 @@ pub fn check_written(
         attribute_names,
         scale_starts,
         scales,
-    );
-    if let Checked::Refused(why) = lists {
-        return Checked::Refused(why);
-    }
+    )?;
     check_text(
-        lists,
         labels,
         totals,
         names,

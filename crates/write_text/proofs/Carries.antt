@@ -1,11 +1,11 @@
 -- What is written is well-formed and has the sequences of the tables. Assumes nothing.
+use Rattle.std.specs.Prelude.{Ok}
 use mathlib.Core.Path.{◌≡◌, sym, ap, ◌∙◌}
 use mathlib.Core.List.{List, ◌++◌}
 use native.Mathlib.Omega.{arith}
 use lib.ListN.{length, take, drop}
 use lib.Seq.{take-append_seam}
-use Rattle.refusals.specs.declared.Checked.{Checked}
-use Rattle.refusals.specs.declared.Checked.TheVariants.{Accepted}
+use Rattle.refusals.specs.Refusals.{Checked}
 use Rattle.refusals.specs.Said.{accepted, or_refused}
 use Rattle.refusals.proofs.Said.{accepted_said, same_given}
 use Rattle.layout.specs.Layout.{Bytes, Line, sequences, NoneEmpty}
@@ -24,7 +24,7 @@ use Rattle.write_text.proofs.Meant.{writing_means}
 abbrev amounts : Unchecked → Amounts
 amounts g = record { labels = g.labels; names = g.names; words = g.words; attributes = g.attributes }
 
-module _ (given : Unchecked) (before : Bytes) (h : checked_of given before ≡ Accepted) where
+module _ (given : Unchecked) (before : Bytes) (h : checked_of given before ≡ Ok tt) where
   pub writable : Writable given.tables (amounts given)
   writable =
       let s = sound given before h in
@@ -51,7 +51,7 @@ pub writes_the_same : WritesTheSame
 unfolding answer_to text_after laid
 writes_the_same given before outcome promised n e =
     let t : Bytes = written_text given.tables in
-    let c : checked_of given before ≡ Accepted = accepted_said (length t) n (checked_of given before) (sym promised.answers ∙ e) in
+    let c : checked_of given before ≡ Ok tt = accepted_said (length t) n (checked_of given before) (sym promised.answers ∙ e) in
     let k : length t ≡ n = same_given (ap (λ (x : Checked). or_refused x (accepted (length t))) (sym c) ∙ sym promised.answers ∙ e) in
     let after : outcome.text ≡ t ++ drop (length t) before = promised.text ∙ ap (λ (x : Checked). or_untouched x before (t ++ drop (length t) before)) c in
     rw (sym k) (well_written given before c outcome.text (ap (take (length t)) after ∙ take-append_seam t (drop (length t) before)))

@@ -1,10 +1,10 @@
 -- 11 in order: the labels, the attributes, the scales, each at its first place that the layout cannot carry. Assumes nothing.
+use Rattle.std.specs.Prelude.{Ok}
 use mathlib.Core.Path.{◌≡◌, refl}
 use mathlib.Core.Bool.{Bool, true, false, true≢false, false≢true}
 use mathlib.Core.List.{List, [], ◌∷◌}
 use mathlib.Core.Logic.{◌↔◌, inl, inr}
 use Prim.Native.Nat.{ℕ}
-use Rattle.refusals.specs.declared.Checked.TheVariants.{Accepted}
 use Rattle.refusals.specs.Meaning.{Exactly, AllAccepted, FirstRefused}
 use Rattle.refusals.proofs.Meant.{exactly}
 use Rattle.score_tables.proofs.Order.{Never, not_table, why}
@@ -27,7 +27,7 @@ carry_means : (test : Carry) → Exactly (carried test) 11 (rows_in test) (Uncar
 carry_means (named s n) = exactly 11 (λ (i : ℕ). no_name (string_at s i)) n (Uncarried (named s n)) (λ i. otherwise (no_name (string_at s i)) (names_mean (string_at s i)))
 carry_means (kept s n) = exactly 11 (λ (i : ℕ). not_kept (string_at s i)) n (Uncarried (kept s n)) (λ i. otherwise (not_kept (string_at s i)) (kept_means (string_at s i)))
 
-each_means : (test : Carry) → carried test ≡ Accepted ↔ EachCarried test
+each_means : (test : Carry) → carried test ≡ Ok tt ↔ EachCarried test
 each_means (named s n) =
     let m = (carry_means (named s n)).accepted in
     (λ h i l. stable (no_name (string_at s i)) (names_mean (string_at s i)) (m.0 h i l), λ c. m.1 (λ i l b. b (c i l)))

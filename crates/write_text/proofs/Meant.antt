@@ -1,4 +1,5 @@
 -- What the writer answers means what `Meaning` says: the check's rows, and the answer that tells them. Assumes nothing.
+use Rattle.std.specs.Prelude.{Ok, Err}
 use mathlib.Core.Path.{◌≡◌, refl, sym, ap, ◌∙◌}
 use mathlib.Core.Bool.{Bool, true, false, not, ◌&&◌}
 use mathlib.Core.List.{List, [], ◌∷◌, ◌++◌}
@@ -8,9 +9,7 @@ use borrow.Author.Tests.{eqb-false}
 use lib.Dec.{T, eqb}
 use lib.ListN.{length}
 use Rattle.refusals.specs.declared.Refusal.{Refusal}
-use Rattle.refusals.specs.declared.Checked.{Checked}
-use Rattle.refusals.specs.declared.Checked.TheVariants.{Accepted, Refused}
-use Rattle.refusals.specs.Refusals.{refused_at, numbered, first}
+use Rattle.refusals.specs.Refusals.{Checked, refused_at, numbered, first}
 use Rattle.refusals.specs.Meaning.{AllAccepted, FirstRefused}
 use Rattle.refusals.specs.Said.{accepted, or_refused}
 use Rattle.refusals.proofs.Laws.{all_accepted, accepted_all, first_refused, refused_first}
@@ -42,12 +41,12 @@ module _ (why : Refusal) where
   late [] ys a h = h
   late (x ∷ xs) ys a h = inr (a.0, late xs ys a.1 h)
 
-  halves : (xs ys : List Checked) → first (xs ++ ys) ≡ Refused why ↔ (first xs ≡ Refused why) ⊎ ((first xs ≡ Accepted) × (first ys ≡ Refused why))
+  halves : (xs ys : List Checked) → first (xs ++ ys) ≡ Err why ↔ (first xs ≡ Err why) ⊎ ((first xs ≡ Ok tt) × (first ys ≡ Err why))
   halves xs ys = (
     λ h. ⊎_elim (λ r. inl (refused_first why xs r)) (λ r. inr (accepted_all xs r.0, refused_first why ys r.1)) (split xs ys (first_refused why (xs ++ ys) h)),
     λ s.
         refused_first why (xs ++ ys)
-        (⊎_elim (λ e. early xs ys (first_refused why xs e)) (λ p. late xs ys (all_accepted Accepted xs p.0).1 (first_refused why ys p.1)) s),
+        (⊎_elim (λ e. early xs ys (first_refused why xs e)) (λ p. late xs ys (all_accepted (Ok tt) xs p.0).1 (first_refused why ys p.1)) s),
   )
 
 -- none of these numbers: a test that computes
@@ -117,7 +116,7 @@ module _ (g : Unchecked) (have : ℕ) where
         λ q. h.1 (⊎_elim (λ x. inl (a.1 x)) (λ p. inr ((accepted_when reads).1 p.0, b.1 p.1)) q),
       )
 
-  pub meant : Meaning (λ number place. write_checked g have ≡ refused_at number place) (write_checked g have ≡ Accepted) g have
+  pub meant : Meaning (λ number place. write_checked g have ≡ refused_at number place) (write_checked g have ≡ Ok tt) g have
   unfolding write_checked
   meant = record {
     one = λ place. of_reads 1 place tt (given_first place ones (twos ∷ threes ∷ fours ∷ fives ∷ []) tt);

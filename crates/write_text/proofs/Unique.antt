@@ -1,17 +1,18 @@
 -- No two different outcomes satisfy the promise of the writer. Assumes nothing.
+use Rattle.std.specs.Prelude.{Ok, Err, Result}
+use Rattle.refusals.specs.declared.Refusal.{Refusal}
 use mathlib.Core.Path.{◌≡◌, sym, ◌∙◌, ap}
 use Prim.Native.Nat.{ℕ}
 use native.Mathlib.Omega.{arith}
 use Rattle.refusals.proofs.Said.{same_given, same_refusal}
-use Rattle.write_text.specs.declared.Written.{Written}
 use Rattle.write_text.specs.Promise.{said, OnlyOne}
 
 -- what is said tells the answer
-pub told : (a b : Written) → said a ≡ said b → a ≡ b
-told (Written.Length m) (Written.Length n) h = ap Written.Length (same_given h)
-told (Written.Length m) (Written.Refused v) h = let z : ◌≡◌ {A = ℕ} 0 1 = cc in absurd (omega arith)
-told (Written.Refused w) (Written.Length n) h = let z : ◌≡◌ {A = ℕ} 0 1 = cc in absurd (omega arith)
-told (Written.Refused w) (Written.Refused v) h = ap Written.Refused (same_refusal h)
+pub told : (a b : Result ℕ Refusal) → said a ≡ said b → a ≡ b
+told (Ok m) (Ok n) h = ap Ok (same_given h)
+told (Ok m) (Err v) h = let z : ◌≡◌ {A = ℕ} 0 1 = cc in absurd (omega arith)
+told (Err w) (Ok n) h = let z : ◌≡◌ {A = ℕ} 0 1 = cc in absurd (omega arith)
+told (Err w) (Err v) h = ap Err (same_refusal h)
 
 pub only_one : OnlyOne
 only_one given before a b p q =

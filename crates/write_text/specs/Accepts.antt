@@ -1,6 +1,5 @@
 -- "for every text that the reader accepts, the writer accepts its tables given room", lent longer or not. The proof is in proofs/Accepts.
-use Rattle.std.specs.Prelude.{◌≡◌, List, ℕ, ◌≤◌, ◌<◌, length}
-use Rattle.refusals.specs.declared.Checked.TheVariants.{Accepted}
+use Rattle.std.specs.Prelude.{◌≡◌, List, ℕ, ◌≤◌, ◌<◌, length, Ok}
 use Rattle.refusals.specs.Bounds.{the_attribute_lists, the_instances, the_words, the_attributes, most}
 use Rattle.score_tables.specs.Sound.{LabelsIn, WordsIn}
 use Rattle.refusal_rows.specs.Tests.{line_length}
@@ -41,4 +40,4 @@ pub record ReadWithin (ss : List (List Word)) : Type 0 where
 abbrev pub AcceptsTheRead : Type 0
 AcceptsTheRead =
     (ls : List Line) → SoundText ls → ReadWithin (sequences ls) → (tails : Tails) (before : Bytes) →
-    length (written_text (unwritten (tables (sequences ls)))) ≤ length before → checked_of (read_given (sequences ls) tails) before ≡ Accepted
+    length (written_text (unwritten (tables (sequences ls)))) ≤ length before → checked_of (read_given (sequences ls) tails) before ≡ Ok tt

@@ -1,6 +1,5 @@
 -- When the writer gives each number, and with which place, in plain terms; of the check, and of whatever satisfies the promise. The proofs are in proofs/Meant.
-use Rattle.std.specs.Prelude.{◌≡◌, [], ◌∷◌, ◌↔◌, ◌⊎◌, ℕ, length}
-use Rattle.refusals.specs.declared.Checked.TheVariants.{Accepted}
+use Rattle.std.specs.Prelude.{◌≡◌, [], ◌∷◌, ◌↔◌, ◌⊎◌, ℕ, length, Ok}
 use Rattle.refusals.specs.Refusals.{refused_at, numbered}
 use Rattle.refusals.specs.Said.{accepted, refused}
 use Rattle.score_tables.specs.Sound.{LabelsIn}
@@ -30,7 +29,7 @@ pub record Meaning (Refuses : ℕ → ℕ → Type 0) (Accepts : Type 0) (g : Un
 
 abbrev pub WritingMeans : Type 0
 WritingMeans =
-    (g : Unchecked) (have : ℕ) → Meaning (λ number place. write_checked g have ≡ refused_at number place) (write_checked g have ≡ Accepted) g have
+    (g : Unchecked) (have : ℕ) → Meaning (λ number place. write_checked g have ≡ refused_at number place) (write_checked g have ≡ Ok tt) g have
 
 -- of the call: a length exactly when no number is given
 abbrev pub AnswersMean : Type 0

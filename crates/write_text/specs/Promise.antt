@@ -1,22 +1,22 @@
 -- What the writer promises: the answer to what it is given, and what the lent text holds afterwards. Assumes nothing.
-use Rattle.std.specs.Prelude.{◌≡◌, ℕ, length}
-use Rattle.refusals.specs.declared.Checked.{Checked}
+use Rattle.refusals.specs.declared.Refusal.{Refusal}
+use Rattle.std.specs.Prelude.{◌≡◌, ℕ, length, Ok, Err, Result}
+use Rattle.refusals.specs.Refusals.{Checked}
 use Rattle.refusals.specs.Said.{Said, accepted, refused, or_refused}
 use Rattle.layout.specs.Layout.{Bytes}
 use Rattle.text_tables.specs.Laid.{laid}
 use Rattle.text_tables.specs.Written.{written_text}
 use Rattle.write_check.specs.Rows.{Unchecked, write_checked}
-use Rattle.write_text.specs.declared.Written.{Written}
 
 -- the answer, and what the lent text holds afterwards
 pub record Outcome : Type 0 where
-  pub answer : Written
+  pub answer : Result ℕ Refusal
   pub text : Bytes
 
 -- how many bytes were written, or the refusal
-abbrev pub said : Written → Said ℕ
-said (Written.Length n) = accepted n
-said (Written.Refused why) = refused why
+abbrev pub said : Result ℕ Refusal → Said ℕ
+said (Ok n) = accepted n
+said (Err why) = refused why
 
 -- the first row of the writer's refusals that applies, where one does
 abbrev pub checked_of : Unchecked → Bytes → Checked
@@ -26,8 +26,8 @@ unfoldable pub answer_to : Unchecked → Bytes → Said ℕ
 answer_to given before = or_refused (checked_of given before) (accepted (length (written_text given.tables)))
 
 abbrev pub or_untouched : Checked → Bytes → Bytes → Bytes
-or_untouched Checked.Accepted before after = after
-or_untouched (Checked.Refused why) before after = before
+or_untouched (Ok _) before after = after
+or_untouched (Err why) before after = before
 
 -- "a writer, which uses the kept text": what is written, in front of what the text held; its entry contents where the call is refused
 unfoldable pub text_after : Unchecked → Bytes → Bytes

@@ -6,17 +6,10 @@ ghost use Rattle.write_check.specs.Rows.{unchecked_was};
 ghost use Rattle.write_text.specs.Promise.{Promised};
 
 use lines::Totals;
-use refusals::{Checked, Refusal};
+use refusals::Refusal;
 use write_check::Names;
 
-// How many bytes were written, or why none were.
-#[derive(Clone, Copy)]
-pub enum Written {
-    Length(usize),
-    Refused(Refusal),
-}
-
-// The text of all sequences, at the front of `text`; or the refusal.
+// The text of all sequences, at the front of `text`: how many bytes were written, or the refusal.
 pub fn write_text(
     labels: u32,
     totals: Totals,
@@ -32,7 +25,7 @@ pub fn write_text(
     scale_starts: &[u32],
     scales: &[u8],
     text: &mut [u8],
-) -> Written
+) -> Result<usize, Refusal>
     ensures { let given = unchecked_was labels totals names lines begins ids references label_name_starts label_names attribute_name_starts attribute_names scale_starts scales in
         Promised given text.old (record { answer = result; text = text.new }) }
 {
@@ -52,9 +45,7 @@ pub fn write_text(
         scales,
         text.len(),
     );
-    if let Checked::Refused(why) = checked {
-        return Written::Refused(why);
-    }
+    checked?;
     let end = text_writing::put_sequences(
         text,
         totals.instances as usize,
@@ -69,5 +60,5 @@ pub fn write_text(
         scale_starts,
         scales,
     );
-    Written::Length(end)
+    Ok(end)
 }

@@ -1,7 +1,6 @@
 -- `answer_line::put_digits` meets its contract. The loop's invariant: storing the digits that are left before those stored gives all of them. Assumes nothing.
 use mathlib.Core.Path.{◌∙◌}
 use native.Mathlib.Omega.{arith}
-use lib.ListN.{length-set}
 use Rattle.answer_line.proofs.Laws.{digit_below, digits_more, digits_end, length_digits}
 use Rattle.answer_line.proofs.put_digits.Goals as goal
 
@@ -10,8 +9,8 @@ digit-requires c = digit_below _ _ (omega arith) (omega arith)
 
 pub loop-i-preserved : goal.loop-i-preserved
 loop-i-preserved c =
-    (omega arith, simp length-set c.loop-i.invariant.1, rw c.digit.ensures (digits_more _ _ _ _ _ (omega arith) ∙ c.loop-i.invariant.2))
+    rw c.digit.ensures (digits_more _ _ _ _ _ (omega arith) ∙ c.loop-i.invariant)
 
 pub returns : goal.returns
 returns c =
-    record { next = rw length_digits; line = digits_end _ _ _ _ _ c.loop-i-test.false ∙ c.loop-i.invariant.2 }
+    record { next = rw length_digits; line = digits_end _ _ _ _ _ c.loop-i-test.false ∙ c.loop-i.invariant }

@@ -20,7 +20,7 @@ room_2 : (c : After-put_decimal-first) →
     RoomFor (space ∷ (decimal a.place ++ (line_feed ∷ []))) c.put_decimal-first.new.line c.put_decimal-first.result
 unfolding refused_line_of
 room_2 c =
-    room_next _ (put_as (ap decimal c.wide.ensures) c.put_decimal-first.ensures) (room_next _ c.put_text-word.ensures c.requires)
+    room_next _ (put_as (ap decimal c.from.ensures) c.put_decimal-first.ensures) (room_next _ c.put_text-word.ensures c.requires)
 
 room_3 : (c : After-put_byte-gap) →
     let a = c.args in
@@ -28,33 +28,30 @@ room_3 : (c : After-put_byte-gap) →
 unfolding refused_line_of
 room_3 c =
     room_next _ c.put_byte-gap.ensures
-    (room_next _ (put_as (ap decimal c.wide.ensures) c.put_decimal-first.ensures) (room_next _ c.put_text-word.ensures c.requires))
+    (room_next _ (put_as (ap decimal c.from.ensures) c.put_decimal-first.ensures) (room_next _ c.put_text-word.ensures c.requires))
 
 room_4 : (c : After-put_decimal-second) → RoomFor (line_feed ∷ []) c.put_decimal-second.new.line c.put_decimal-second.result
 unfolding refused_line_of
 room_4 c =
     room_next _ c.put_decimal-second.ensures
     (room_next _ c.put_byte-gap.ensures
-    (room_next _ (put_as (ap decimal c.wide.ensures) c.put_decimal-first.ensures) (room_next _ c.put_text-word.ensures c.requires)))
+    (room_next _ (put_as (ap decimal c.from.ensures) c.put_decimal-first.ensures) (room_next _ c.put_text-word.ensures c.requires)))
 
 done : (c : After-put_byte) →
     let a = c.args in
     Put (refused_line_of a.number a.place) a.line.now 0 c.put_byte.result c.put_byte.new.buffer
 unfolding refused_line_of
 done c =
-    put_then c.put_text-word.ensures (put_then (put_as (ap decimal c.wide.ensures) c.put_decimal-first.ensures) (put_then c.put_byte-gap.ensures (put_then c.put_decimal-second.ensures c.put_byte.ensures)))
+    put_then c.put_text-word.ensures (put_then (put_as (ap decimal c.from.ensures) c.put_decimal-first.ensures) (put_then c.put_byte-gap.ensures (put_then c.put_decimal-second.ensures c.put_byte.ensures)))
 
 pub put_text-word-requires : goal.put_text-word-requires
 unfolding refused_line_of
 put_text-word-requires c =
     room_first _ _ c.requires
 
-pub wide-requires : goal.wide-requires
-wide-requires c = tt
-
 pub put_decimal-first-requires : goal.put_decimal-first-requires
 put_decimal-first-requires c =
-    room_as (ap decimal (sym c.wide.ensures)) (room_first _ _ (room_1 (goal.at.put_decimal-first-requires c).After-put_text-word))
+    room_as (ap decimal (sym c.from.ensures)) (room_first _ _ (room_1 (goal.at.put_decimal-first-requires c).After-put_text-word))
 
 pub put_byte-gap-requires : goal.put_byte-gap-requires
 put_byte-gap-requires c =

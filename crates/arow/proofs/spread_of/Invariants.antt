@@ -1,12 +1,8 @@
 -- `arow::spread_of` meets its contract: the loop is a pass of `spread` from gamma. Assumes nothing.
 use mathlib.Core.Path.{◌≡◌}
-use Prim.Native.Nat.{◌≤◌, ◌-◌}
 use Rattle.lines.specs.Passes.{through}
 use Rattle.training.specs.Rules.{spread}
 use Rattle.arow.proofs.spread_of.Given as goal
 
 abbrev pub invariant-loop-i : goal.invariant-loop-i
-invariant-loop-i l = (l.i ≤ l.features) × (l.frac ≡ through (spread l.truly l.predicted l.weight l.covariance) 0 l.i l.gamma)
-
-abbrev pub decreases-loop-i : goal.decreases-loop-i
-decreases-loop-i l = l.features - l.i
+invariant-loop-i l = l.frac ≡ through (spread l.truly l.predicted l.weight l.covariance) 0 l.i l.gamma

@@ -1,31 +1,22 @@
--- `byte_buffers::put_bytes` meets its contract. Assumes nothing.
-use native.Mathlib.Omega.{arith}
-use Rattle.byte_buffers.proofs.Onto.{onto_starts, onto_as, onto_room, onto_byte, onto_over, part_next, part_over}
+-- `byte_buffers::put_bytes` meets its contract: the bytes lie over the places of the part. Assumes nothing.
+use Rattle.std.proofs.Common.{◌≡◌, ℕ, ◌+◌, ◌-◌, ◌≤◌, List, length, ◌∙◌, arith}
+use Rattle.std.proofs.lemmas.List.{drop-drop}
+use Rattle.std.proofs.lemmas.Slice.{between_is}
+use borrow.Rule.Slice.PartMut.{put_mid}
+use lib.Seq.{slice, length-slice}
+use Rattle.byte_buffers.specs.Stored.{stored}
+use Rattle.byte_buffers.proofs.Laws.{stored_over}
 use Rattle.byte_buffers.proofs.put_bytes.Goals as goal
 
-pub loop-i-init : goal.loop-i-init
-loop-i-init c =
-    (c.requires.from_le_to.0, c.requires.from_le_to.1, onto_starts c.requires.room_for)
-
-pub bounds-buffer-k : goal.bounds-buffer-k
-bounds-buffer-k c =
-    let g = onto_as (part_next _ _ _ c.loop-i-test.true c.loop-i.invariant.1) c.loop-i.invariant.2 in
-    onto_room g
-
-pub overflow_add-k : goal.overflow_add-k
-overflow_add-k c =
-    let g = onto_as (part_next _ _ _ c.loop-i-test.true c.loop-i.invariant.1) c.loop-i.invariant.2 in
-    omega (arith, onto_room g)
-
-pub loop-i-preserved : goal.loop-i-preserved
-loop-i-preserved c =
-    let g = onto_as (part_next _ _ _ c.loop-i-test.true c.loop-i.invariant.1) c.loop-i.invariant.2 in
-    (omega arith, c.loop-i.invariant.1, onto_byte g)
-
-pub shape_of-buffer : goal.shape_of-buffer
-shape_of-buffer c =
-    c.loop-i.invariant.2.long
+-- a part copied over its places
+copied : (l : List ℕ) (at n : ℕ) (s : List ℕ) {part : List ℕ} → at + length s ≤ length l → n ≡ length s → part ≡ s → put_mid at n l part ≡ stored l at s
+copied l at n s h e p = rw (stored_over l at s h, p, e, drop-drop)
 
 pub returns : goal.returns
 returns c =
-    onto_over (onto_as (part_over _ _ _ c.loop-i.invariant.0 c.loop-i-test.false) c.loop-i.invariant.2)
+    let a = c.args in
+    let n = length-slice a.from a.to a.bytes.now c.requires.from_le_to.1 in
+    record {
+      next = omega (arith, n);
+      line = copied a.buffer.now a.at (a.at + (a.to - a.from) - a.at) (slice a.from a.to a.bytes.now) c.requires.room_for.room (omega (arith, n)) (c.copy_from_slice.ensures.after ∙ between_is a.bytes.now a.from a.to);
+    }

@@ -1,23 +1,23 @@
 -- `compute_scores::compute_scores` keeps its promise. Assumes nothing.
+use Rattle.std.specs.Prelude.{Ok, Err}
 use mathlib.Core.Path.{◌≡◌, sym, ◌∙◌}
 use native.Mathlib.Omega.{arith}
-use Rattle.refusals.specs.declared.Checked.TheVariants.{Accepted}
 use Rattle.feature_gen.specs.Lent.{model_of}
 use Rattle.line_check.specs.Sound.{SoundScoring}
 use Rattle.line_check.proofs.Meant.{scoring_sound}
 use Rattle.compute_scores.specs.Promise.{Given, Buffers, scoring_of, checked_of}
 use Rattle.compute_scores.proofs.Kept.{sized, refused_kept, made_kept}
-use Rattle.refusals.specs.declared.Checked.{Checked}
+use Rattle.refusals.specs.Refusals.{Checked}
 use Rattle.compute_scores.proofs.compute_scores.Goals as goal
 
 -- an accepted call has sound tables
-sound : (given : Given) (lent : Buffers) {checked : Checked} → checked ≡ checked_of given lent → checked ≡ Accepted → SoundScoring (scoring_of given lent)
+sound : (given : Given) (lent : Buffers) {checked : Checked} → checked ≡ checked_of given lent → checked ≡ Ok tt → SoundScoring (scoring_of given lent)
 sound given lent e h = scoring_sound (scoring_of given lent) (sym e ∙ h)
 
-pub returns-in-Refused : goal.returns-in-Refused
-returns-in-Refused c =
+pub returns-in-Err : goal.returns-in-Err
+returns-in-Err c =
     let e = c.refuse_scores.ensures in
-    refused_kept _ _ _ (sym c.check_scoring-checked.ensures ∙ c.in-Refused.is) e.value e.states_unchanged e.transitions_unchanged
+    refused_kept _ _ _ (sym c.check_scoring.ensures ∙ c.in-Err.is) e.value e.states_unchanged e.transitions_unchanged
 
 pub fill_scores-requires : goal.fill_scores-requires
 fill_scores-requires c =
@@ -29,7 +29,7 @@ fill_scores-requires c =
       line = record { starts = a.begins.now; size = a.attributes; ids = a.ids.now; values = a.values.now };
     } in
     let lent : Buffers = record { transitions = a.transitions.now; states = a.states.now } in
-    sound given lent c.check_scoring-checked.ensures c.in_default.is
+    sound given lent c.check_scoring.ensures c.in_default.is
 
 pub finish_scores-finished-requires : goal.finish_scores-finished-requires
 finish_scores-finished-requires c =
@@ -41,7 +41,7 @@ finish_scores-finished-requires c =
       line = record { starts = a.begins.now; size = a.attributes; ids = a.ids.now; values = a.values.now };
     } in
     let lent : Buffers = record { transitions = a.transitions.now; states = a.states.now } in
-    sized given lent (sound given lent c.check_scoring-checked.ensures c.in_default.is) _ _ (omega (arith, c.fill_scores.auto.states)) (omega (arith, c.fill_scores.auto.transitions))
+    sized given lent (sound given lent c.check_scoring.ensures c.in_default.is) _ _ (omega (arith, c.fill_scores.auto.states)) (omega (arith, c.fill_scores.auto.transitions))
 
 pub returns : goal.returns
 returns c =
@@ -53,4 +53,4 @@ returns c =
       line = record { starts = a.begins.now; size = a.attributes; ids = a.ids.now; values = a.values.now };
     } in
     let lent : Buffers = record { transitions = a.transitions.now; states = a.states.now } in
-    made_kept given lent (sym c.check_scoring-checked.ensures ∙ c.in_default.is) c.fill_scores.ensures.states_after c.fill_scores.ensures.transitions_after c.finish_scores-finished.ensures.value c.finish_scores-finished.ensures.states_after c.finish_scores-finished.ensures.transitions_after
+    made_kept given lent (sym c.check_scoring.ensures ∙ c.in_default.is) c.fill_scores.ensures.states_after c.fill_scores.ensures.transitions_after c.finish_scores-finished.ensures.value c.finish_scores-finished.ensures.states_after c.finish_scores-finished.ensures.transitions_after

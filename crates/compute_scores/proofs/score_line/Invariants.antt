@@ -1,7 +1,5 @@
 -- `compute_scores::score_line` meets its contract. The loop's invariant: the words before this one are scored. Assumes nothing.
-use Prim.Native.Nat.{◌≤◌, ◌-◌}
 use mathlib.Core.Path.{◌≡◌}
-use lib.ListN.{length}
 use Rattle.lines.specs.Passes.{through}
 use Rattle.lines.specs.Scored.{scored_word}
 use Rattle.lines.specs.Lent.{bare, with_states}
@@ -9,9 +7,4 @@ use Rattle.compute_scores.proofs.score_line.Given as goal
 
 abbrev pub invariant-loop-word : goal.invariant-loop-word
 invariant-loop-word l =
-    (l.word ≤ l.words)
-    × (length l.states ≡ length l.initial.states)
-    × (l.states ≡ through (scored_word (with_states bare l.labels l.features l.kinds l.destinations l.lists l.starts l.entries) l.weights (record { starts = l.begins; size = 0; ids = l.ids; values = l.values }) l.first) 0 l.word l.initial.states)
-
-abbrev pub decreases-loop-word : goal.decreases-loop-word
-decreases-loop-word l = l.words - l.word
+    l.states ≡ through (scored_word (with_states bare l.labels l.features l.kinds l.destinations l.lists l.starts l.entries) l.weights (record { starts = l.begins; size = 0; ids = l.ids; values = l.values }) l.first) 0 l.word l.initial.states

@@ -21,9 +21,6 @@ offset_bounds-states-p c = omega (arith, inside (goal.at.offset_bounds-states-p 
 pub bounds-states-p : goal.bounds-states-p
 bounds-states-p c = inside (goal.at.bounds-states-p c).After-at
 
-pub offset_bounds-states-p-then-kinds-i-eq0 : goal.offset_bounds-states-p-then-kinds-i-eq0
-offset_bounds-states-p-then-kinds-i-eq0 c = omega (arith, inside (goal.at.offset_bounds-states-p-then-kinds-i-eq0 c).After-at)
-
 pub bounds-states-p-then-kinds-i-eq0 : goal.bounds-states-p-then-kinds-i-eq0
 bounds-states-p-then-kinds-i-eq0 c = inside (goal.at.bounds-states-p-then-kinds-i-eq0 c).After-at
 

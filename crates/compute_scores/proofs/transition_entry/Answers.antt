@@ -45,9 +45,6 @@ offset_bounds-transitions-p c = omega (arith, read (goal.at.offset_bounds-transi
 pub bounds-transitions-p : goal.bounds-transitions-p
 bounds-transitions-p c = omega (arith, read (goal.at.bounds-transitions-p c).After-at-destination)
 
-pub offset_bounds-transitions-p-then-kinds-i-eq1 : goal.offset_bounds-transitions-p-then-kinds-i-eq1
-offset_bounds-transitions-p-then-kinds-i-eq1 c = omega (arith, read (goal.at.offset_bounds-transitions-p-then-kinds-i-eq1 c).After-at-destination)
-
 pub bounds-transitions-p-then-kinds-i-eq1 : goal.bounds-transitions-p-then-kinds-i-eq1
 bounds-transitions-p-then-kinds-i-eq1 c = omega (arith, read (goal.at.bounds-transitions-p-then-kinds-i-eq1 c).After-at-destination)
 

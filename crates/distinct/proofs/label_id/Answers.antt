@@ -1,23 +1,11 @@
 -- `distinct::label_id` meets its contract. Assumes nothing.
 use mathlib.Core.Path.{◌∙◌, ap}
 use mathlib.Core.List.{List}
-use native.Mathlib.Omega.{arith}
 use Rattle.layout.specs.Layout.{Bytes}
 use Rattle.text_tables.specs.Distinct.{id_in}
 use Rattle.distinct.specs.Names.{name_at}
-use Rattle.distinct.proofs.Loops.{compare_begins, compare_here, compare_on, compare_ends, position_inside}
+use Rattle.distinct.proofs.Loops.{compare_here, compare_on, compare_ends}
 use Rattle.distinct.proofs.label_id.Goals as goal
-
-pub loop-i-init : goal.loop-i-init
-loop-i-init c = compare_begins _ _
-
-pub at-p-requires : goal.at-p-requires
-at-p-requires c =
-    omega (arith, c.loop-i-test.true, c.requires.0.room)
-
-pub same_name-requires : goal.same_name-requires
-same_name-requires c =
-    (c.requires.1, position_inside _ _ _ _ _ c.requires.0 c.loop-i-test.true c.at-p.ensures)
 
 pub returns-then-same_name : goal.returns-then-same_name
 returns-then-same_name c known k =

@@ -1,29 +1,19 @@
 -- `fill_text::fill_names` meets its contract. Assumes nothing.
-use borrow.Author.Rules.{rules}
 use native.Mathlib.Omega.{arith}
 use Rattle.fill_text.proofs.Naming.{name_stands, place_small, names_start, unescape_asks, names_again, names_end}
 use Rattle.fill_text.proofs.fill_names.Goals as goal
-
-pub loop-i-init : goal.loop-i-init
-loop-i-init c =
-    names_start c.requires
-
-pub at-from-requires : goal.at-from-requires
-at-from-requires c =
-    omega (arith, c.loop-i-test.true, c.requires.placed.knows.listed.room)
 
 pub name_end-to-requires : goal.name_end-to-requires
 name_end-to-requires c =
     (_, _, name_stands c.requires.placed _ _ c.loop-i-test.true c.at-from.ensures)
 
+pub loop-i-init : goal.loop-i-init
+loop-i-init c = names_start c.requires
+
 pub overflow_cast-starts : goal.overflow_cast-starts
 overflow_cast-starts c =
     let p = place_small (c.loop-i.invariant.going c.requires.known c.requires.placed) in
     omega (arith, p, c.requires.small)
-
-pub bounds-starts-i : goal.bounds-starts-i
-bounds-starts-i c =
-    omega (arith, c.loop-i-test.true, c.requires.starts, c.loop-i.invariant.starts_long)
 
 pub unescape-at-requires : goal.unescape-at-requires
 unescape-at-requires c =
@@ -38,18 +28,6 @@ pub overflow_cast-starts-2 : goal.overflow_cast-starts-2
 overflow_cast-starts-2 c =
     let p = place_small (c.loop-i.invariant.going c.requires.known c.requires.placed) in
     omega (arith, p, c.requires.small)
-
-pub bounds-starts-count : goal.bounds-starts-count
-bounds-starts-count c =
-    omega (arith, c.requires.starts, c.loop-i.invariant.starts_long)
-
-pub shape_of-starts : goal.shape_of-starts
-shape_of-starts c =
-    search (rules, c.loop-i.invariant.starts_long)
-
-pub shape_of-bytes : goal.shape_of-bytes
-shape_of-bytes c =
-    c.loop-i.invariant.bytes_long
 
 pub returns : goal.returns
 returns c =

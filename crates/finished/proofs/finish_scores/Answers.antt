@@ -1,25 +1,26 @@
 -- `finished::finish_scores` meets its contract. Assumes nothing.
+use Rattle.std.specs.Prelude.{Err}
 use mathlib.Core.Path.{refl, sym, ◌∙◌}
 use native.Mathlib.Omega.{arith}
 use lib.Ieee.{of_bits}
 use Rattle.finished.proofs.Laws.{cleared_to}
 use Rattle.finished.proofs.finish_scores.Goals as goal
 
-pub check_scores-finished-requires : goal.check_scores-finished-requires
-check_scores-finished-requires c = c.requires
+pub check_scores-requires : goal.check_scores-requires
+check_scores-requires c = c.requires
 
 pub fill-requires : goal.fill-requires
 fill-requires c =
     omega (arith, c.entries.ensures, c.requires.room.long_states)
 
-pub fill-requires-in-Refused : goal.fill-requires-in-Refused
-fill-requires-in-Refused c =
-    omega (arith, c.entries-in-Refused.ensures, c.requires.room.long_transitions)
+pub fill-requires-in-Err : goal.fill-requires-in-Err
+fill-requires-in-Err c =
+    omega (arith, c.entries-in-Err.ensures, c.requires.room.long_transitions)
 
-pub returns-in-Refused : goal.returns-in-Refused
+pub returns-in-Err : goal.returns-in-Err
 unfolding of_bits
-returns-in-Refused c =
-    record { value = sym c.in-Refused.is ∙ c.check_scores-finished.ensures; transitions_after = cleared_to _ _ c.entries-in-Refused.ensures c.fill-in-Refused.ensures; states_after = cleared_to _ _ c.entries.ensures c.fill.ensures }
+returns-in-Err c =
+    record { value = sym c.in-Err.is ∙ c.check_scores.ensures; transitions_after = cleared_to _ _ c.entries-in-Err.ensures c.fill-in-Err.ensures; states_after = cleared_to _ _ c.entries.ensures c.fill.ensures }
 
 pub returns : goal.returns
-returns c = record { value = sym c.in_default.is ∙ c.check_scores-finished.ensures; transitions_after = refl; states_after = refl }
+returns c = record { value = sym c.in_default.is ∙ c.check_scores.ensures; transitions_after = refl; states_after = refl }

@@ -1,21 +1,13 @@
 -- `fronts::fill` meets its contract: each place passed has the value. Assumes nothing.
-use mathlib.Core.Path.{refl, sym, ◌∙◌}
-use native.Mathlib.Omega.{arith}
-use borrow.Author.Rules.{rules}
-use lib.ListN.{length-replicate, get_or-replicate}
-use lib.Ieee.{nan}
-use Rattle.fronts.proofs.Filled.{filled_none, filled_next, filled_end}
+use Rattle.std.proofs.Common.{◌≡◌, ℕ, zero, suc, ◌<◌, List, [], ◌∷◌, ◌++◌, length, take, drop, set, replicate, refl, ap, add-one, not-suc-le-zero, le_of_suc-le-suc}
 use Rattle.fronts.proofs.fill.Goals as goal
 
-pub loop-i-init : goal.loop-i-init
-loop-i-init c = (omega arith, refl, filled_none _ _)
+-- one place more
+fill_more : {A : Type 0} (value : A) (i : ℕ) (table : List A) → i < length table → set (replicate i value ++ drop i table) i value ≡ replicate (suc i) value ++ drop (suc i) table
+fill_more value i [] h = absurd (not-suc-le-zero h)
+fill_more value zero (x ∷ table) h = refl
+fill_more value (suc i) (x ∷ table) h = ap (λ (xs : List _). value ∷ xs) (fill_more value i table (le_of_suc-le-suc h))
 
-pub loop-i-preserved : goal.loop-i-preserved
-loop-i-preserved c = (
-  omega arith,
-  search rules,
-  filled_next _ _ _ nan _ (search rules) (rw (length-replicate) c.loop-i-test.true) c.loop-i.invariant.2 (sym (get_or-replicate _ _ _ _ c.loop-i-test.true)),
-)
-
-pub returns : goal.returns
-returns c = c.loop-i.invariant.2 ∙ filled_end _ _ _ _ (length-replicate _ _) c.loop-i.invariant.0 c.loop-i-test.false
+pub loop-entry-preserved : goal.loop-entry-preserved
+loop-entry-preserved g c =
+    rw (c.loop-entry.invariant, add-one) (fill_more c.args.value c.loop-entry.entry-index (take c.args.n c.args.table.now) c.loop-entry-test.true)

@@ -1,77 +1,59 @@
 -- `label_line::label_line` keeps its promise. Assumes nothing.
+use Rattle.std.specs.Prelude.{Ok}
 use mathlib.Core.Path.{◌≡◌, sym, ◌∙◌}
-use Rattle.refusals.specs.declared.Checked.TheVariants.{Accepted}
+use native.Mathlib.Omega.{arith}
 use Rattle.lines.specs.Entry.{line_of}
 use Rattle.feature_gen.specs.Lent.{model_of}
-use Rattle.labelling.proofs.Laws.{small_is}
+use Rattle.refusals.proofs.Laws.{handed}
+use Rattle.labelling.proofs.Laws.{few_transitions, few_states, small_is}
 use Rattle.compute_scores.specs.Promise.{Given}
 use Rattle.label_line.specs.Promise.{checked_of, SoundLabelling}
 use Rattle.label_line.proofs.Kept.{refused_kept, sound, labelled_kept}
-use mathlib.Core.List.{List}
-use Prim.Native.Nat.{ℕ}
-use Rattle.refusals.specs.declared.Checked.{Checked}
+use Rattle.label_line.proofs.label_line.Goals.{In_ok-checked}
 use Rattle.label_line.proofs.label_line.Goals as goal
 
--- an accepted call has sound tables
-fine : (given : Given) (path : List ℕ) {checked : Checked} → checked ≡ checked_of given path → checked ≡ Accepted → SoundLabelling given path
-fine given path e h = sound given path (sym e ∙ h)
+-- what an accepted call is given
+abbrev given : In_ok-checked → Given
+given c =
+    let a = c.args in
+    record {
+      model = model_of a.labels a.counts a.kinds.now a.destinations.now a.sources.now a.attribute_starts.now a.attribute_entries.now a.label_starts.now a.label_entries.now;
+      weights = a.weights.now;
+      words = a.words;
+      line = line_of a.attributes a.begins.now a.ids.now a.values.now;
+    }
 
-pub returns-in-Refused : goal.returns-in-Refused
-returns-in-Refused c =
-    refused_kept _ _ _ (sym c.check_line-checked.ensures ∙ c.in-Refused.is)
+accepted : (c : In_ok-checked) → checked_of (given c) c.args.path.now ≡ Ok tt
+accepted c = sym c.check_line-checked.ensures ∙ c.in_ok-checked.was
+
+-- its tables are sound
+fine : (c : In_ok-checked) → SoundLabelling (given c) c.args.path.now
+fine c = sound (given c) _ (accepted c)
+
+pub returns-in_err-checked : goal.returns-in_err-checked
+returns-in_err-checked c =
+    rw (handed c.from_residual.ensures.1) (refused_kept _ _ _ (sym c.check_line-checked.ensures ∙ c.in_err-checked.was))
 
 pub is_small-requires : goal.is_small-requires
 is_small-requires c =
-    let a = c.args in
-    let given : Given = record {
-      model = model_of a.labels a.counts a.kinds.now a.destinations.now a.sources.now a.attribute_starts.now a.attribute_entries.now a.label_starts.now a.label_entries.now;
-      weights = a.weights.now;
-      words = a.words;
-      line = line_of a.attributes a.begins.now a.ids.now a.values.now;
-    } in
-    let g = fine given a.path.now c.check_line-checked.ensures c.in_default.is in
+    let g = fine (goal.at.is_small-requires c).In_ok-checked in
     (g.model.sound.labels_in, g.line.words_in_lem)
 
-pub label_short-requires : goal.label_short-requires
-label_short-requires c =
-    let a = c.args in
-    let given : Given = record {
-      model = model_of a.labels a.counts a.kinds.now a.destinations.now a.sources.now a.attribute_starts.now a.attribute_entries.now a.label_starts.now a.label_entries.now;
-      weights = a.weights.now;
-      words = a.words;
-      line = line_of a.attributes a.begins.now a.ids.now a.values.now;
-    } in
-    record { fact = fine given a.path.now c.check_line-checked.ensures c.in_default.is; labels_bound = small_is _ _ c.is_small.ensures c.if-is_small.true }
+pub label_within-requires : goal.label_within-requires
+label_within-requires c =
+    record { fact = fine (goal.at.label_within-requires c).In_ok-checked; labels_bound = small_is _ _ c.is_small.ensures c.if-is_small.true; sizes_bound = omega arith }
 
-pub label_long-requires : goal.label_long-requires
-label_long-requires c =
-    let a = c.args in
-    let given : Given = record {
-      model = model_of a.labels a.counts a.kinds.now a.destinations.now a.sources.now a.attribute_starts.now a.attribute_entries.now a.label_starts.now a.label_entries.now;
-      weights = a.weights.now;
-      words = a.words;
-      line = line_of a.attributes a.begins.now a.ids.now a.values.now;
-    } in
-    fine given a.path.now c.check_line-checked.ensures c.in_default.is
+pub label_within-requires-else-is_small : goal.label_within-requires-else-is_small
+label_within-requires-else-is_small c =
+    let g = fine (goal.at.label_within-requires-else-is_small c).In_ok-checked in
+    record { fact = g; labels_bound = (few_transitions g.model.sound.labels_in, few_states g.model.sound.labels_in g.line.words_in_lem); sizes_bound = omega arith }
 
 pub returns-then-is_small : goal.returns-then-is_small
 returns-then-is_small c =
-    let a = c.args in
-    let given : Given = record {
-      model = model_of a.labels a.counts a.kinds.now a.destinations.now a.sources.now a.attribute_starts.now a.attribute_entries.now a.label_starts.now a.label_entries.now;
-      weights = a.weights.now;
-      words = a.words;
-      line = line_of a.attributes a.begins.now a.ids.now a.values.now;
-    } in
-    labelled_kept given _ (sym c.check_line-checked.ensures ∙ c.in_default.is) _ c.label_short.ensures
+    let at = (goal.at.returns-then-is_small c).In_ok-checked in
+    labelled_kept (given at) _ (accepted at) _ c.label_within.ensures
 
 pub returns-else-is_small : goal.returns-else-is_small
 returns-else-is_small c =
-    let a = c.args in
-    let given : Given = record {
-      model = model_of a.labels a.counts a.kinds.now a.destinations.now a.sources.now a.attribute_starts.now a.attribute_entries.now a.label_starts.now a.label_entries.now;
-      weights = a.weights.now;
-      words = a.words;
-      line = line_of a.attributes a.begins.now a.ids.now a.values.now;
-    } in
-    labelled_kept given _ (sym c.check_line-checked.ensures ∙ c.in_default.is) _ c.label_long.ensures
+    let at = (goal.at.returns-else-is_small c).In_ok-checked in
+    labelled_kept (given at) _ (accepted at) _ c.label_within-else-is_small.ensures

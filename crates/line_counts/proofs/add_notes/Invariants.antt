@@ -1,13 +1,8 @@
 -- `line_counts::add_notes` meets its contract. The loop's invariant: the notes before this one are added. Assumes nothing.
-use Prim.Native.Nat.{◌≤◌, ◌-◌}
 use mathlib.Core.Path.{◌≡◌}
-use lib.ListN.{length}
 use Rattle.lines.specs.Passes.{through}
 use Rattle.line_counts.specs.Noted.{note_added}
 use Rattle.line_counts.proofs.add_notes.Given as goal
 
 abbrev pub invariant-loop-j : goal.invariant-loop-j
-invariant-loop-j l = (l.j ≤ l.noted) × (length l.counts ≡ length l.initial.counts) × (l.counts ≡ through (note_added l.kinds l.who l.what) 0 l.j l.initial.counts)
-
-abbrev pub decreases-loop-j : goal.decreases-loop-j
-decreases-loop-j l = l.noted - l.j
+invariant-loop-j l = l.counts ≡ through (note_added l.kinds l.who l.what) 0 l.j l.initial.counts

@@ -1,5 +1,4 @@
 -- `line_counts::count_attribute` meets its contract. The loop's invariant: once the notes are added, the entries before this one have counted. Assumes nothing.
-use Prim.Native.Nat.{◌-◌}
 use mathlib.Core.List.{[]}
 use Rattle.lines.specs.Counted.{state_count}
 use Rattle.lines.specs.Lent.{bare, with_counts}
@@ -10,8 +9,5 @@ use Rattle.line_counts.proofs.count_attribute.Given as goal
 
 abbrev pub invariant-loop-e : goal.invariant-loop-e
 invariant-loop-e l =
-    Going l.features l.initial.who l.initial.what l.initial.counts l.who l.what l.counts l.n
-    × Passed (state_count (with_counts bare l.features l.kinds l.destinations [] 0 [] l.entries 0 [] []) l.label l.value) l.initial.e l.last (notes_added l.kinds l.initial.who l.initial.what l.initial.n l.initial.counts) (notes_added l.kinds l.who l.what l.n l.counts) l.e
-
-abbrev pub decreases-loop-e : goal.decreases-loop-e
-decreases-loop-e l = l.last - l.e
+    Going l.features l.who l.what l.n
+    × Passed (state_count (with_counts bare l.features l.kinds l.destinations [] 0 [] l.entries 0 [] []) l.label l.value) l.fn.span.first l.fn.span.last (notes_added l.kinds l.initial.who l.initial.what l.noted l.initial.counts) (notes_added l.kinds l.who l.what l.n l.counts) l.e

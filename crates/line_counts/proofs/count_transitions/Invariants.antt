@@ -1,8 +1,5 @@
 -- `line_counts::count_transitions` meets its contract. The loop's invariant: the words before this one have counted. Assumes nothing.
-use Prim.Native.Nat.{◌-◌}
-use mathlib.Core.Path.{◌≡◌}
 use mathlib.Core.List.{[]}
-use lib.ListN.{length}
 use Rattle.lines.specs.Counted.{counted_transition}
 use Rattle.lines.specs.Lent.{bare, with_counts}
 use Rattle.lines.proofs.Laws.{Passed}
@@ -10,7 +7,4 @@ use Rattle.line_counts.proofs.count_transitions.Given as goal
 
 abbrev pub invariant-loop-word : goal.invariant-loop-word
 invariant-loop-word l =
-    (Passed (counted_transition (with_counts bare l.features l.kinds l.destinations l.sources 0 [] [] l.lists l.starts l.entries) l.labels) 1 l.words l.initial.counts l.counts l.word) × (length l.counts ≡ length l.initial.counts)
-
-abbrev pub decreases-loop-word : goal.decreases-loop-word
-decreases-loop-word l = l.words - l.word
+    Passed (counted_transition (with_counts bare l.features l.kinds l.destinations l.sources 0 [] [] l.lists l.starts l.entries) l.labels) 1 l.words l.initial.counts l.counts l.word

@@ -1,5 +1,4 @@
 -- `line_counts::count_word` meets its contract. The loop's invariant: once the notes are added, the attributes before this one have counted; this one and the places of its list are at hand. Assumes nothing.
-use mathlib.Core.Path.{refl}
 use native.Mathlib.Omega.{arith}
 use Rattle.lines.specs.Counted.{state_count}
 use Rattle.lines.proofs.Laws.{between_nothing, passed_none, passed_next}
@@ -10,7 +9,7 @@ use Rattle.line_counts.proofs.count_word.Goals as goal
 pub loop-a-init : goal.loop-a-init
 loop-a-init c =
     let p = c.requires in (
-      record { notes = p.notes; free = p.noted_in_bounds; who_long = refl; what_long = refl; counts_long = refl },
+      record { notes = p.notes; free = p.noted_in_bounds },
       passed_none _ _ _,
       c.attribute_before-attribute.ensures,
       c.attribute_span-span.ensures,
@@ -20,7 +19,7 @@ pub count_attribute-n-requires : goal.count_attribute-n-requires
 count_attribute-n-requires c =
     let p = c.requires in
     let g = c.loop-a.invariant.0 in
-    record { sound_counts = p.sound_counts; sound_span = rw c.loop-a.invariant.3 (span_sound p.sound_lists _); notes = g.notes; noted_in_bounds = g.free; features_in_bounds = omega (arith, p.features_in_bounds, g.counts_long) }
+    record { sound_counts = p.sound_counts; sound_span = rw c.loop-a.invariant.3 (span_sound p.sound_lists _); notes = g.notes; noted_in_bounds = g.free; features_in_bounds = omega (arith, p.features_in_bounds) }
 
 pub loop-a-preserved : goal.loop-a-preserved
 unfolding state_count
@@ -31,9 +30,6 @@ loop-a-preserved c =
       record {
         notes = q.notes_2;
         free = q.upper_bound;
-        who_long = omega (arith, i.0.who_long);
-        what_long = omega (arith, i.0.what_long);
-        counts_long = omega (arith, i.0.counts_long);
       },
       passed_next i.1 h (counted_turn _ _ _ _ _ _ h i.2 i.3 q.counts_value),
       c.attribute_before-next.ensures,

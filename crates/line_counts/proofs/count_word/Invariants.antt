@@ -1,5 +1,4 @@
 -- `line_counts::count_word` meets its contract. The loop's invariant: once the notes are added, the attributes before this one have counted; this one and the places of its list are at hand. Assumes nothing.
-use Prim.Native.Nat.{◌-◌}
 use mathlib.Core.Path.{◌≡◌}
 use mathlib.Core.List.{[]}
 use Rattle.lines.specs.Spans.{attribute_before_of, span_of}
@@ -12,10 +11,7 @@ use Rattle.line_counts.proofs.count_word.Given as goal
 
 abbrev pub invariant-loop-a : goal.invariant-loop-a
 invariant-loop-a l =
-    Going l.features l.initial.who l.initial.what l.initial.counts l.who l.what l.counts l.n
-    × Passed (counted_at (with_counts bare l.features l.kinds l.destinations [] l.lists l.starts l.entries 0 [] []) (record { starts = []; size = 0; ids = l.ids; values = l.values }) l.label) l.from l.to (notes_added l.kinds l.initial.who l.initial.what l.initial.n l.initial.counts) (notes_added l.kinds l.who l.what l.n l.counts) l.a
+    Going l.features l.who l.what l.n
+    × Passed (counted_at (with_counts bare l.features l.kinds l.destinations [] l.lists l.starts l.entries 0 [] []) (record { starts = []; size = 0; ids = l.ids; values = l.values }) l.label) l.from l.to (notes_added l.kinds l.initial.who l.initial.what l.noted l.initial.counts) (notes_added l.kinds l.who l.what l.n l.counts) l.a
     × (l.attribute ≡ attribute_before_of l.ids l.values l.to l.a)
     × (l.span ≡ span_of l.lists l.starts l.attribute.id)
-
-abbrev pub decreases-loop-a : goal.decreases-loop-a
-decreases-loop-a l = l.to - l.a

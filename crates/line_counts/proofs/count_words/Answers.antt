@@ -1,6 +1,6 @@
 -- `line_counts::count_words` meets its contract. The loop's invariant: once the notes are added, the words before this one have counted. Assumes nothing.
 use Prim.Native.Nat.{zero-le}
-use mathlib.Core.Path.{refl, sym, ◌∙◌}
+use mathlib.Core.Path.{sym, ◌∙◌}
 use native.Mathlib.Omega.{arith}
 use Rattle.lines.specs.Counted.{counted_at}
 use Rattle.lines.proofs.Laws.{through_none, through_next}
@@ -10,16 +10,10 @@ use Rattle.line_counts.proofs.count_words.Goals as goal
 
 pub loop-word-init : goal.loop-word-init
 loop-word-init c = (
-  omega arith,
   record {
     notes = record { there = zero-le; level = omega arith; ids = λ j l. omega (arith, l) };
     free = omega arith;
-    who_long = refl;
-    what_long = refl;
-    counts_long = refl;
   },
-  refl,
-  refl,
   sym (settled_none _ _ _ _) ∙ through_none _ _ _,
 )
 
@@ -28,15 +22,6 @@ unfolding counted_at
 loop-word-preserved c =
     let i = c.loop-word.invariant in
     let q = c.count_word-noted.ensures in (
-      omega (arith, c.loop-word-test.true),
-      record {
-        notes = q.notes_2;
-        free = q.upper_bound;
-        who_long = omega (arith, i.1.who_long);
-        what_long = omega (arith, i.1.what_long);
-        counts_long = omega (arith, i.1.counts_long);
-      },
-      i.2,
-      i.3,
-      through_next _ _ _ i.4 (word_turn _ _ _ _ _ _ _ _ c.at-from.ensures c.at-to.ensures q.counts_value),
+      record { notes = q.notes_2; free = q.upper_bound },
+      through_next _ _ _ i.1 (word_turn _ _ _ _ _ _ _ _ c.at-from.ensures c.at-to.ensures q.counts_value),
     )

@@ -1,8 +1,6 @@
 -- `line_counts::count_words` meets its contract. The loop's invariant: once the notes are added, the words before this one have counted. Assumes nothing.
-use Prim.Native.Nat.{◌≤◌, ◌-◌}
 use mathlib.Core.Path.{◌≡◌}
 use mathlib.Core.List.{[]}
-use lib.ListN.{length}
 use Rattle.lines.specs.Passes.{through}
 use Rattle.lines.specs.Counted.{counted_word}
 use Rattle.lines.specs.Lent.{bare, with_counts}
@@ -12,11 +10,5 @@ use Rattle.line_counts.proofs.count_words.Given as goal
 
 abbrev pub invariant-loop-word : goal.invariant-loop-word
 invariant-loop-word l =
-    (l.word ≤ l.words)
-    × Going l.features l.initial.who l.initial.what l.initial.counts l.who l.what l.counts l.noted
-    × (length l.initial.who ≡ 64)
-    × (length l.initial.what ≡ 64)
+    Going l.features l.who l.what l.noted
     × (notes_added l.kinds l.who l.what l.noted l.counts ≡ through (counted_word (with_counts bare l.features l.kinds l.destinations [] l.lists l.starts l.entries 0 [] []) (record { starts = l.begins; size = 0; ids = l.ids; values = l.values }) l.first l.labels) 0 l.word l.initial.counts)
-
-abbrev pub decreases-loop-word : goal.decreases-loop-word
-decreases-loop-word l = l.words - l.word

@@ -4,4 +4,4 @@ use Rattle.lines.proofs.attribute_before.Goals as goal
 
 pub returns : goal.returns
 unfolding attribute_before_of
-returns c = rw c.smaller-i.ensures
+returns c = rw c.min-i.ensures

@@ -1,8 +1,7 @@
 -- `passive_aggressive::pull` meets its contract: the loop is a pass of `pulled`, and the flag the finite test of what it left. Assumes nothing.
 use mathlib.Core.List.{List}
-use mathlib.Core.Path.{◌≡◌, refl, sym, ap, ◌∙◌}
+use mathlib.Core.Path.{◌≡◌, sym, ap, ◌∙◌}
 use native.Mathlib.Nat.{le_refl}
-use native.Mathlib.Omega.{arith}
 use borrow.Author.Rules.{rules}
 use lib.Ieee.{Float}
 use Rattle.lines.specs.Passes.{raised}
@@ -14,7 +13,7 @@ use Rattle.passive_aggressive.proofs.pull.Goals.{then-averaging, else-averaging}
 use Rattle.passive_aggressive.proofs.pull.Goals as goal
 
 pub loop-i-init : goal.loop-i-init
-loop-i-init c = (omega arith, refl, refl, moved_none _ _)
+loop-i-init c = moved_none _ _
 
 pub loop-i-preserved : goal.loop-i-preserved
 unfolding pulled raised
@@ -23,16 +22,12 @@ loop-i-preserved c =
     let same_front : all_finite_of c.if-averaging.sums i ≡ all_finite_of c.loop-i.sums i = elim c.if-averaging.branch [
       | then-averaging w ↦ ap (λ (s : List Float). all_finite_of s i) w.sums-is ∙ finite_kept _ _ _ _ (le_refl i)
       | else-averaging w ↦ ap (λ (s : List Float). all_finite_of s i) w.sums-is
-    ] in (
-      omega arith,
-      search rules,
-      search rules,
-      moved_next _ _ _ _ _ c.loop-i.invariant.3
-          (elim c.if-averaging.branch [
-            | then-averaging w ↦ rw (w.sums-is, w.if-averaging.true)
-            | else-averaging w ↦ rw (w.sums-is, w.if-averaging.false)
-          ])
-          c.are_finite-all.ensures
-          (finite_stored _ _ _ (search rules))
-          (rw (sym same_front) (finite_read _ _)),
-    )
+    ] in
+    moved_next _ _ _ _ _ c.loop-i.invariant
+    (elim c.if-averaging.branch [
+      | then-averaging w ↦ rw (w.sums-is, w.if-averaging.true)
+      | else-averaging w ↦ rw (w.sums-is, w.if-averaging.false)
+    ])
+    c.are_finite-all.ensures
+    (finite_stored _ _ _ (search rules))
+    (rw (sym same_front) (finite_read _ _))

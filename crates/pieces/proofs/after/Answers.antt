@@ -1,6 +1,5 @@
 -- `pieces::after` meets its contract. Assumes nothing.
 use mathlib.Core.Path.{refl}
-use borrow.Author.Rules.{rules}
 use Rattle.pieces.proofs.Walk.{followed, followed_past}
 use Rattle.pieces.proofs.after.Goals as goal
 

@@ -1,18 +1,10 @@
 -- `pieces::name_end` meets its contract. The invariant: a name that began at the start goes on here. Assumes nothing.
 use mathlib.Core.Path.{sym, ◌∙◌}
-use Prim.Native.Nat.{◌-◌}
-use native.Mathlib.Omega.{arith}
-use borrow.Author.Rules.{rules}
-use lib.ListN.{length}
-use Rattle.pieces.proofs.Names.{Walked, walk_starts, walk_plain, walk_room, walk_slash, walk_ends, walk_over}
+use Rattle.pieces.proofs.Names.{walk_starts, walk_plain, walk_slash, walk_ends, walk_over}
 use Rattle.pieces.proofs.name_end.Goals as goal
 
 pub loop-i-init : goal.loop-i-init
 loop-i-init c = walk_starts _ _
-
-pub overflow_add-i : goal.overflow_add-i
-overflow_add-i c =
-    omega (arith, walk_room _ _ _ c.loop-i.invariant c.requires c.loop-i-test.true c.if-b-eq92.true)
 
 pub loop-i-preserved-then-b-eq92 : goal.loop-i-preserved-then-b-eq92
 loop-i-preserved-then-b-eq92 c =

@@ -1,10 +1,7 @@
 -- `pieces::name_end` meets its contract. The invariant: a name that began at the start goes on here. Assumes nothing.
-use mathlib.Core.Path.{sym, ◌∙◌}
 use Prim.Native.Nat.{◌-◌}
-use native.Mathlib.Omega.{arith}
-use borrow.Author.Rules.{rules}
 use lib.ListN.{length}
-use Rattle.pieces.proofs.Names.{Walked, walk_starts, walk_plain, walk_room, walk_slash, walk_ends, walk_over}
+use Rattle.pieces.proofs.Names.{Walked}
 use Rattle.pieces.proofs.name_end.Given as goal
 
 abbrev pub invariant-loop-i : goal.invariant-loop-i

@@ -1,6 +1,5 @@
 -- `pieces::piece_at` meets its contract. Assumes nothing.
 use mathlib.Core.Path.{refl}
-use borrow.Author.Rules.{rules}
 use Rattle.pieces.proofs.Found.{name_ahead, found_attribute, found_line}
 use Rattle.pieces.proofs.piece_at.Goals as goal
 

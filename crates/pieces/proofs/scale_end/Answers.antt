@@ -1,10 +1,7 @@
 -- `pieces::scale_end` meets its contract. The invariant: a field that went on at the start goes on here. Assumes nothing.
 use mathlib.Core.Path.{sym, ◌∙◌}
-use Prim.Native.Nat.{◌-◌}
 use native.Mathlib.Omega.{arith}
-use borrow.Author.Rules.{rules}
-use lib.ListN.{length}
-use Rattle.pieces.proofs.Fields.{Run, run_starts, run_on, run_ends, run_over}
+use Rattle.pieces.proofs.Fields.{run_starts, run_on, run_ends, run_over}
 use Rattle.pieces.proofs.scale_end.Goals as goal
 
 pub loop-i-init : goal.loop-i-init
@@ -19,5 +16,6 @@ loop-i-preserved c =
     run_on _ _ _ c.loop-i.invariant c.loop-i-test.true (sym c.ends_field.ensures ∙ c.if-ends_field.false)
 
 pub returns : goal.returns
-returns c =
-    run_over _ _ _ c.loop-i.invariant c.loop-i-test.false
+returns c to g =
+    let e = run_over _ _ _ c.loop-i.invariant c.loop-i-test.false to g in
+    omega (arith, e, g.inside, c.loop-i-test.false)

@@ -1,25 +1,17 @@
 -- `pieces::unescaped_length` meets its contract. Assumes nothing.
-use mathlib.Core.Path.{sym, ◌∙◌}
-use Prim.Native.Nat.{◌-◌}
-use native.Mathlib.Omega.{arith}
-use borrow.Author.Rules.{rules}
-use lib.Seq.{slice}
-use Rattle.pieces.specs.Unescaped.{unescaped}
-use Rattle.pieces.proofs.Bare.{Counting, counting_starts, counting_skip, counting_keep, counting_over}
+use Rattle.pieces.proofs.Bare.{counting_skip, counting_keep, counting_over}
+use Rattle.pieces.proofs.Parts.{slice_lent}
 use Rattle.pieces.proofs.unescaped_length.Goals as goal
+use Rattle.pieces.proofs.unescaped_length.Goals.{then-not-slashed, else-not-slashed}
 
-pub loop-i-init : goal.loop-i-init
-loop-i-init c =
-    counting_starts c.requires
-
-pub loop-i-preserved-then-skips : goal.loop-i-preserved-then-skips
-loop-i-preserved-then-skips c =
-    counting_skip c.loop-i.invariant c.loop-i-test.true (sym c.skips.ensures ∙ c.if-skips.true)
-
-pub loop-i-preserved : goal.loop-i-preserved
-loop-i-preserved c =
-    counting_keep c.loop-i.invariant c.loop-i-test.true (sym c.skips.ensures ∙ c.if-skips.false)
+pub loop-b-preserved : goal.loop-b-preserved
+loop-b-preserved c =
+    elim c.if-not-slashed.branch [
+      | then-not-slashed w ↦
+          rw w.count-is (counting_keep c.loop-b.invariant c.loop-b-test.true c.skips-slashed.ensures w.if-not-slashed.true)
+      | else-not-slashed w ↦
+          rw w.count-is (counting_skip c.loop-b.invariant c.loop-b-test.true c.skips-slashed.ensures w.if-not-slashed.false)
+    ]
 
 pub returns : goal.returns
-returns c =
-    counting_over c.loop-i.invariant c.loop-i-test.false
+returns c = rw slice_lent (counting_over c.loop-b.invariant c.loop-b-test.false)

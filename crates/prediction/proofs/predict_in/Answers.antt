@@ -1,7 +1,6 @@
 -- `prediction::predict_in` meets its contract: the line is labelled by its scores, and what is judged is its labels. Assumes nothing.
 use mathlib.Core.Path.{◌∙◌}
 use native.Mathlib.Omega.{arith}
-use borrow.Author.Rules.{rules}
 use Rattle.lines.specs.Tables.{Model, Words}
 use Rattle.fronts.proofs.Filled.{all_of}
 use Rattle.labelling.proofs.Laws.{labelled_in}

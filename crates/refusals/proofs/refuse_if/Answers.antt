@@ -1,13 +1,11 @@
 -- `refusals::refuse_if` meets its contract. Assumes nothing.
-use mathlib.Core.Path.{sym}
 use Rattle.refusals.specs.Refusals.{refuse}
-use Rattle.refusals.proofs.Laws.{alone}
 use Rattle.refusals.proofs.refuse_if.Goals as goal
 
 pub returns-then-test : goal.returns-then-test
 unfolding refuse
-returns-then-test c = rw (c.or_next.ensures, c.refused.ensures, c.if-test.true)
+returns-then-test c = rw c.if-test.true c.refused.ensures
 
 pub returns-else-test : goal.returns-else-test
 unfolding refuse
-returns-else-test c = rw c.if-test.false (sym (alone _))
+returns-else-test c = rw c.if-test.false

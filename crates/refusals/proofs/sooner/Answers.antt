@@ -1,23 +1,21 @@
--- `refusals::sooner` meets its contract. Assumes nothing.
-use mathlib.Core.Path.{sym}
+-- `refusals::sooner` meets its contract, case by case. Assumes nothing.
+use Rattle.std.specs.Prelude.{Ok, Err}
+use Rattle.std.proofs.Common.{sym}
 use Rattle.refusals.specs.Refusals.{sooner}
 use Rattle.refusals.proofs.sooner.Goals as goal
 
 pub returns-then-goes_before : goal.returns-then-goes_before
 unfolding sooner
-returns-then-goes_before c =
-    rw (c.in-Refused.is, c.in-Refused-next.is, sym c.goes_before.ensures, c.if-goes_before.true)
+returns-then-goes_before c = let e = c.in-Err-Err in rw (e.is-0, e.is-1, sym c.goes_before.ensures, c.if-goes_before.true)
 
 pub returns-else-goes_before : goal.returns-else-goes_before
 unfolding sooner
-returns-else-goes_before c =
-    rw (c.in-Refused.is, c.in-Refused-next.is, sym c.goes_before.ensures, c.if-goes_before.false)
+returns-else-goes_before c = let e = c.in-Err-Err in rw (e.is-0, e.is-1, sym c.goes_before.ensures, c.if-goes_before.false)
 
-pub returns-in_default-next : goal.returns-in_default-next
+pub returns-in-Err-Ok : goal.returns-in-Err-Ok
 unfolding sooner
-returns-in_default-next c =
-    rw (c.in-Refused.is, c.in_default-next.is)
+returns-in-Err-Ok c = let e = c.in-Err-Ok in rw (e.is-0, e.is-1)
 
-pub returns : goal.returns
+pub returns-in-Ok-default : goal.returns-in-Ok-default
 unfolding sooner
-returns c = rw c.in_default.is
+returns-in-Ok-default c = rw c.in-Ok-default.is-0

@@ -9,12 +9,12 @@ use Rattle.sequence_score.proofs.score_path.Goals as goal
 pub returns-then-count-eq0 : goal.returns-then-count-eq0
 returns-then-count-eq0 c = none _ _ _ c.if-count-eq0.true
 
-pub entry-score-requires : goal.entry-score-requires
-entry-score-requires c =
+pub entry-first-requires : goal.entry-first-requires
+entry-first-requires c =
     state_within c.requires _ _ (omega arith) (rw c.label-before.ensures (c.requires.below 0 (omega arith)))
 
 pub loop-word-init : goal.loop-word-init
-loop-word-init c = (omega arith, omega arith, c.label-before.ensures, rw (c.entry-score.ensures, c.label-before.ensures) (one_word _ _))
+loop-word-init c = (c.label-before.ensures, rw (c.entry-first.ensures, c.label-before.ensures) (one_word _ _))
 
 pub entry-state-requires : goal.entry-state-requires
 entry-state-requires c =
@@ -24,19 +24,17 @@ entry-state-requires c =
 pub entry-transition-requires : goal.entry-transition-requires
 entry-transition-requires c =
     let m = c.requires in
-    transition_within m _ _ (rw c.loop-word.invariant.2 (m.below _ (omega arith))) (rw c.label-next.ensures (m.below _ (omega arith)))
+    transition_within m _ _ (rw c.loop-word.invariant.0 (m.below _ (omega arith))) (rw c.label-next.ensures (m.below _ (omega arith)))
 
 pub loop-word-preserved : goal.loop-word-preserved
 loop-word-preserved c =
     let a = c.args in
     let e : c.loop-word.word + 1 - 1 ≡ c.loop-word.word = omega arith in (
-      omega arith,
-      omega arith,
       rw e c.label-next.ensures,
-      one_more (tabled a.labels a.transitions.now a.states.now) a.path.now c.loop-word.word c.loop-word.invariant.0 c.loop-word.invariant.2 c.label-next.ensures c.loop-word.invariant.3 c.entry-state.ensures c.entry-transition.ensures,
+      one_more (tabled a.labels a.transitions.now a.states.now) a.path.now c.loop-word.word c.loop-word.auto.word c.loop-word.invariant.0 c.label-next.ensures c.loop-word.invariant.1 c.entry-state.ensures c.entry-transition.ensures,
     )
 
 pub returns : goal.returns
 returns c =
     let e : c.loop-word.word ≡ c.args.count = omega arith in
-    rw (← e) c.loop-word.invariant.3
+    rw (← e) c.loop-word.invariant.1

@@ -11,7 +11,7 @@ use Rattle.sheet.proofs.Laws.{filled_none, filled_more}
 use Rattle.sheet.proofs.read_part.Goals as goal
 
 pub loop-i-init : goal.loop-i-init
-loop-i-init c = (omega arith, refl, filled_none _ _)
+loop-i-init c = (refl, filled_none _ _)
 
 pub float_from_bits-table : goal.float_from_bits-table
 float_from_bits-table c =
@@ -23,13 +23,12 @@ pub loop-i-preserved : goal.loop-i-preserved
 loop-i-preserved c =
     let h : c.loop-i.i < c.args.n = omega arith in
     let nums = numbers_in c.args.n (drop c.args.at c.args.bytes.now) in (
-      omega arith,
-      simp length-set c.loop-i.invariant.1,
-      rw (c.word_at.ensures, ← number_at c.args.bytes.now c.args.at c.args.n c.loop-i.i h, c.loop-i.invariant.2)
+      simp length-set c.loop-i.invariant.0,
+      rw (c.word_at.ensures, ← number_at c.args.bytes.now c.args.at c.args.n c.loop-i.i h, c.loop-i.invariant.1)
           (filled_more nums c.args.table.now c.loop-i.i (omega (arith, length_numbers c.args.n (drop c.args.at c.args.bytes.now))) (omega arith)),
     )
 
 pub returns : goal.returns
 returns c =
     let e : c.loop-i.i ≡ c.args.n = omega arith in
-    rw e at c.loop-i.invariant.2
+    rw e at c.loop-i.invariant.1

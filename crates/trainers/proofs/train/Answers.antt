@@ -1,9 +1,9 @@
 -- `trainers::train` keeps its promise: a refusal leaves all as it was; what was accepted is what learning relies on, and the parts lent are the needed fronts. Assumes nothing.
+use Rattle.std.specs.Prelude.{Ok}
 use mathlib.Core.Path.{◌≡◌, sym, ap, ◌∙◌}
 use native.Mathlib.Omega.{arith}
 use borrow.Author.Rules.{rules}
 use lib.Seq.{length_front}
-use Rattle.refusals.specs.declared.Checked.TheVariants.{Accepted}
 use Rattle.lines.specs.Tables.{Model}
 use Rattle.lines.specs.Data.{Data}
 use Rattle.prediction.specs.declared.Sizes.{Sizes}
@@ -12,7 +12,8 @@ use Rattle.training_check.specs.Sound.{LentSized}
 use Rattle.trainers.specs.Promise.{Given, Buffers, input_of, checked_of}
 use Rattle.trainers.specs.Lent.{sizes_for}
 use Rattle.trainers.proofs.Keeping.{front_long, front_count, Ready, checked_is, ready, resized, refused_promised, learned_promised}
-use Rattle.trainers.proofs.train.Goals.{In_default, Start}
+use Rattle.refusals.proofs.Laws.{handed}
+use Rattle.trainers.proofs.train.Goals.{In_ok-check_parameters, Start}
 use Rattle.trainers.proofs.train.Goals as goal
 
 -- what the call is given, by its counts, and the buffers
@@ -38,7 +39,7 @@ lent c =
     record { weights = a.weights.now; beside = a.beside.now; truly = a.truly.now; predicted = a.predicted.now; order = a.order.now }
 
 -- the same where nothing was refused
-abbrev given_on : In_default → Given
+abbrev given_on : In_ok-check_parameters → Given
 given_on c =
     let a = c.args in
     let sizes = sizes_for a.labels a.counts a.totals in record {
@@ -46,81 +47,83 @@ given_on c =
       corpus = training_data_of sizes a.lines.now a.begins.now a.ids.now a.values.now a.references.now a.shares.now;
     }
 
-abbrev lent_on : In_default → Buffers
+abbrev lent_on : In_ok-check_parameters → Buffers
 lent_on c =
     let a = c.args in
     record { weights = a.weights.now; beside = a.beside.now; truly = a.truly.now; predicted = a.predicted.now; order = a.order.now }
 
 -- the answer of the checks is the promise's
-accepted_so : (c : In_default) → checked_of c.args.method (given_on c) (lent_on c) ≡ Accepted
+accepted_so : (c : In_ok-check_parameters) → checked_of c.args.method (given_on c) (lent_on c) ≡ Ok tt
 accepted_so c =
-    sym (checked_is c.args.method (given_on c) (lent_on c) c.check_input-input.ensures c.check_parameters-checked.ensures) ∙ c.in_default.is
+    sym (checked_is c.args.method (given_on c) (lent_on c) c.check_input-input.ensures c.check_parameters.ensures) ∙ c.in_ok-check_parameters.was
 
 -- nothing was refused, so all is as training relies on, and the buffers have room
-relied : (c : In_default) → Ready c.args.method (given_on c) (lent_on c)
+relied : (c : In_ok-check_parameters) → Ready c.args.method (given_on c) (lent_on c)
 relied c = ready c.args.method (given_on c) (lent_on c) (accepted_so c)
 
-room : (c : In_default) → LentSized c.args.counts.features c.args.totals.instances (input_of (given_on c) (lent_on c)).lent
+room : (c : In_ok-check_parameters) → LentSized c.args.counts.features c.args.totals.instances (input_of (given_on c) (lent_on c)).lent
 room c = (relied c).sound.fits.lent
 
-pub returns-in-Refused : goal.returns-in-Refused
-returns-in-Refused c =
-    refused_promised c.args.method (given (goal.at.returns-in-Refused c).Start) (lent (goal.at.returns-in-Refused c).Start) _ (sym (checked_is c.args.method (given (goal.at.returns-in-Refused c).Start) (lent (goal.at.returns-in-Refused c).Start) c.check_input-input.ensures c.check_parameters-checked.ensures) ∙ c.in-Refused.is)
+pub returns-in_err-check_parameters : goal.returns-in_err-check_parameters
+returns-in_err-check_parameters c =
+    let start = (goal.at.returns-in_err-check_parameters c).Start in
+    rw (handed c.from_residual.ensures.1)
+    (refused_promised c.args.method (given start) (lent start) _ (sym (checked_is c.args.method (given start) (lent start) c.check_input-input.ensures c.check_parameters.ensures) ∙ c.in_err-check_parameters.was))
 
 pub slice_bounds-train-end : goal.slice_bounds-train-end
 slice_bounds-train-end c =
-    (room (goal.at.slice_bounds-train-end c).In_default).order
+    (room (goal.at.slice_bounds-train-end c).In_ok-check_parameters).order
 
 pub slice_bounds-train-end-2 : goal.slice_bounds-train-end-2
 slice_bounds-train-end-2 c =
-    front_count _ _ (room (goal.at.slice_bounds-train-end-2 c).In_default).order
+    front_count _ _ (room (goal.at.slice_bounds-train-end-2 c).In_ok-check_parameters).order
 
 pub slice_bounds-train-end-3 : goal.slice_bounds-train-end-3
 slice_bounds-train-end-3 c =
-    (room (goal.at.slice_bounds-train-end-3 c).In_default).weights
+    (room (goal.at.slice_bounds-train-end-3 c).In_ok-check_parameters).weights
 
 pub slice_bounds-train-end-4 : goal.slice_bounds-train-end-4
 slice_bounds-train-end-4 c =
-    front_count _ _ (room (goal.at.slice_bounds-train-end-4 c).In_default).weights
+    front_count _ _ (room (goal.at.slice_bounds-train-end-4 c).In_ok-check_parameters).weights
 
 pub slice_bounds-train-end-5 : goal.slice_bounds-train-end-5
 slice_bounds-train-end-5 c =
-    (room (goal.at.slice_bounds-train-end-5 c).In_default).beside
+    (room (goal.at.slice_bounds-train-end-5 c).In_ok-check_parameters).beside
 
 pub slice_bounds-train-end-6 : goal.slice_bounds-train-end-6
 slice_bounds-train-end-6 c =
-    front_count _ _ (room (goal.at.slice_bounds-train-end-6 c).In_default).beside
+    front_count _ _ (room (goal.at.slice_bounds-train-end-6 c).In_ok-check_parameters).beside
 
 pub slice_bounds-train-end-7 : goal.slice_bounds-train-end-7
 slice_bounds-train-end-7 c =
-    (room (goal.at.slice_bounds-train-end-7 c).In_default).truly
+    (room (goal.at.slice_bounds-train-end-7 c).In_ok-check_parameters).truly
 
 pub slice_bounds-train-end-8 : goal.slice_bounds-train-end-8
 slice_bounds-train-end-8 c =
-    front_count _ _ (room (goal.at.slice_bounds-train-end-8 c).In_default).truly
+    front_count _ _ (room (goal.at.slice_bounds-train-end-8 c).In_ok-check_parameters).truly
 
 pub slice_bounds-train-end-9 : goal.slice_bounds-train-end-9
 slice_bounds-train-end-9 c =
-    (room (goal.at.slice_bounds-train-end-9 c).In_default).predicted
+    (room (goal.at.slice_bounds-train-end-9 c).In_ok-check_parameters).predicted
 
 pub slice_bounds-train-end-10 : goal.slice_bounds-train-end-10
 slice_bounds-train-end-10 c =
-    front_count _ _ (room (goal.at.slice_bounds-train-end-10 c).In_default).predicted
+    front_count _ _ (room (goal.at.slice_bounds-train-end-10 c).In_ok-check_parameters).predicted
 
 pub train-requires : goal.train-requires
 train-requires c =
     let allowed = ap (λ x. x.epochs) c.settings_of-settings.ensures in
     rw c.sizes_of-sizes.ensures (record {
-      model = (relied (goal.at.train-requires c).In_default).sound.model;
-      corpus = (relied (goal.at.train-requires c).In_default).sound.corpus;
+      model = (relied (goal.at.train-requires c).In_ok-check_parameters).sound.model;
+      corpus = (relied (goal.at.train-requires c).In_ok-check_parameters).sound.corpus;
       exact = record {
-        weights_long = front_long _ _ (room (goal.at.train-requires c).In_default).weights;
-        beside_long = front_long _ _ (room (goal.at.train-requires c).In_default).beside;
-        truly_long = front_long _ _ (room (goal.at.train-requires c).In_default).truly;
-        predicted_long = front_long _ _ (room (goal.at.train-requires c).In_default).predicted;
+        weights_long = front_long _ _ (room (goal.at.train-requires c).In_ok-check_parameters).weights;
+        beside_long = front_long _ _ (room (goal.at.train-requires c).In_ok-check_parameters).beside;
+        truly_long = front_long _ _ (room (goal.at.train-requires c).In_ok-check_parameters).truly;
+        predicted_long = front_long _ _ (room (goal.at.train-requires c).In_ok-check_parameters).predicted;
       };
-      few = omega (arith, (relied (goal.at.train-requires c).In_default).few, allowed);
-      order_long = front_long _ _ (room (goal.at.train-requires c).In_default).order;
+      few = omega (arith, (relied (goal.at.train-requires c).In_ok-check_parameters).few, allowed);
+      order_long = front_long _ _ (room (goal.at.train-requires c).In_ok-check_parameters).order;
     })
 
 pub shape_of-weights : goal.shape_of-weights
@@ -140,5 +143,5 @@ shape_of-order c = search length_front
 
 pub returns : goal.returns
 returns c =
-    learned_promised c.args.method (given (goal.at.returns c).Start) (lent (goal.at.returns c).Start) (accepted_so (goal.at.returns c).In_default) c.trainer_of-trainer.ensures c.settings_of-settings.ensures
+    learned_promised c.args.method (given (goal.at.returns c).Start) (lent (goal.at.returns c).Start) (accepted_so (goal.at.returns c).In_ok-check_parameters) c.trainer_of-trainer.ensures c.settings_of-settings.ensures
     (resized (model (goal.at.returns c).Start) (corpus (goal.at.returns c).Start) c.sizes_of-sizes.ensures c.train.ensures.made_after c.train.ensures.swept)

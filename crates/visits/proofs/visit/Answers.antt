@@ -1,4 +1,5 @@
 -- `visits::visit` meets its contract: predicted, looked at, and corrected where labels differ. Assumes nothing.
+use Rattle.std.specs.Prelude.{Some}
 use mathlib.Core.Path.{◌≡◌, sym, ◌∙◌}
 use Prim.Native.Nat.{ℕ, ◌-◌, ◌≤◌, ◌<◌}
 use native.Mathlib.Nat.{le_trans}
@@ -73,13 +74,13 @@ pub predict-p-requires : goal.predict-p-requires
 predict-p-requires c =
     record { sound_model = c.requires.model; sound_instance = line_sound (data_of (goal.at.predict-p-requires c).Start) _ _ _ c.at-first.ensures c.at-end.ensures c.requires.corpus c.requires.among; weights_len = (c.requires.exact.weights_long, length-take-le _ _ (few (goal.at.predict-p-requires c).After-at-end)) }
 
-pub look-found-requires : goal.look-found-requires
-look-found-requires c =
+pub look-requires : goal.look-requires
+look-requires c =
     (c.requires.visits, c.requires.updates)
 
-pub returns-in-Ended : goal.returns-in-Ended
-returns-in-Ended c =
-    let was = c.in-Ended.is in record { fact = ended_there (data_of (goal.at.returns-in-Ended c).Start) _ _ _ c.at-first.ensures c.at-end.ensures _ (model (goal.at.returns-in-Ended c).Start) (state (goal.at.returns-in-Ended c).Start) c.predict-p.ensures (sym (c.look-found.ensures _) ∙ was); visit_counted = ended_counted _ _ _ _ (λ l. sym (c.look-found.ensures l) ∙ was) c.requires.updates }
+pub returns-in-Some : goal.returns-in-Some
+returns-in-Some c =
+    let was = c.in-Some.is in record { fact = ended_there (data_of (goal.at.returns-in-Some c).Start) _ _ _ c.at-first.ensures c.at-end.ensures _ (model (goal.at.returns-in-Some c).Start) (state (goal.at.returns-in-Some c).Start) c.predict-p.ensures (sym (c.look.ensures _) ∙ was); visit_counted = ended_counted _ _ _ _ (λ l. sym (c.look.ensures l) ∙ was) c.requires.updates }
 
 pub slice_bounds-path-end-2 : goal.slice_bounds-path-end-2
 slice_bounds-path-end-2 c =
@@ -111,4 +112,4 @@ correct-requires c =
 
 pub returns : goal.returns
 returns c =
-    let made = c.correct.ensures in record { fact = other_front (data_of (goal.at.returns c).Start) _ _ _ c.at-first.ensures c.at-end.ensures _ (model (goal.at.returns c).Start) (state (goal.at.returns c).Start) c.predict-p.ensures (sym (c.look-found.ensures _) ∙ c.in_default.is) (omega (arith, c.predict-p.auto, front (goal.at.returns c).After-predict-p)) _ made.fact; visit_counted = made.visit_counted }
+    let made = c.correct.ensures in record { fact = other_front (data_of (goal.at.returns c).Start) _ _ _ c.at-first.ensures c.at-end.ensures _ (model (goal.at.returns c).Start) (state (goal.at.returns c).Start) c.predict-p.ensures (sym (c.look.ensures _) ∙ c.in_default.is) (omega (arith, c.predict-p.auto, front (goal.at.returns c).After-predict-p)) _ made.fact; visit_counted = made.visit_counted }

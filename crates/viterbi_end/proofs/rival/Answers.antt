@@ -9,7 +9,6 @@ use Rattle.best_path.specs.Lead.{other}
 use Rattle.best_path.proofs.Laws.{largest_first, other_within}
 use Rattle.viterbi_steps.proofs.Choices.{score_more}
 use Rattle.viterbi_end.specs.Rival.{score_at}
-use borrow.Author.Rules.{rules}
 use Rattle.viterbi_end.proofs.rival.Goals.{After-other_label-first, After-other_label-label}
 use Rattle.viterbi_end.proofs.rival.Goals as goal
 
@@ -29,7 +28,7 @@ pub bounds-row-first : goal.bounds-row-first
 bounds-row-first c = first_within (goal.at.bounds-row-first c).After-other_label-first
 
 pub loop-k-init : goal.loop-k-init
-loop-k-init c = (omega arith, search rules, rw c.other_label-first.ensures (simp largest_first))
+loop-k-init c = rw c.other_label-first.ensures (simp largest_first)
 
 pub offset_bounds-row-label : goal.offset_bounds-row-label
 offset_bounds-row-label c = omega (arith, next_within (goal.at.offset_bounds-row-label c).After-other_label-label)
@@ -40,13 +39,10 @@ bounds-row-label c = next_within (goal.at.bounds-row-label c).After-other_label-
 pub loop-k-preserved : goal.loop-k-preserved
 loop-k-preserved c =
     let a = c.args in
-    let g : ℕ → Float = λ j. score_at a.row.now (other a.last j) in (
-      omega arith,
-      omega (arith, c.loop-k-test.true),
-      c.better-score.ensures ∙ score_more g c.loop-k.k c.loop-k.invariant.0 _ _ 0 c.loop-k.invariant.2 (rw c.other_label-label.ensures),
-    )
+    let g : ℕ → Float = λ j. score_at a.row.now (other a.last j) in
+    c.better-score.ensures ∙ score_more g c.loop-k.k c.loop-k.auto.k _ _ 0 c.loop-k.invariant (rw c.other_label-label.ensures)
 
 pub returns : goal.returns
 returns c =
-    let e : c.loop-k.k - 1 ≡ c.args.n - 2 = omega (arith, c.loop-k.invariant.1, c.loop-k-test.false) in
-    rw e at c.loop-k.invariant.2
+    let e : c.loop-k.k - 1 ≡ c.args.n - 2 = omega (arith, c.loop-k.auto.k-end, c.loop-k-test.false) in
+    rw e at c.loop-k.invariant

@@ -2,16 +2,12 @@
 use mathlib.Core.Path.{◌≡◌}
 use mathlib.Core.List.{◌++◌}
 use Prim.Native.Nat.{◌+◌, ◌-◌, ◌<◌}
-use lib.ListN.{length, drop}
+use lib.ListN.{drop}
 use Rattle.viterbi_end.specs.Walked.{walked}
 use Rattle.viterbi_end.proofs.walk_back.Given as goal
 
 abbrev pub invariant-loop-word : goal.invariant-loop-word
 invariant-loop-word l =
-    (l.word < l.words)
+    (0 < l.word)
     × (l.label < l.n)
-    × (length l.path ≡ length l.initial.path)
-    × (walked l.steps l.n l.word l.label ++ drop (l.word + 1) l.path ≡ walked l.steps l.n (l.words - 1) l.last ++ drop l.words l.initial.path)
-
-abbrev pub decreases-loop-word : goal.decreases-loop-word
-decreases-loop-word l = l.word
+    × (walked l.steps l.n (l.word - 1) l.label ++ drop (l.word - 1 + 1) l.path ≡ walked l.steps l.n (l.words - 1) l.last ++ drop l.words l.initial.path)

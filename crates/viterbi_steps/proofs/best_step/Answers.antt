@@ -16,7 +16,7 @@ use Rattle.viterbi_steps.proofs.best_step.Goals as goal
 inside : (c : In-loop-tried) → let n = c.args.n in c.loop-tried.at < n * n
 inside c =
     let within = digits_lt c.loop-tried-test.true c.requires.0 in
-    omega (arith, c.loop-tried.invariant.2, within)
+    omega (arith, c.loop-tried.invariant.0, within)
 
 pub bounds-transitions-label : goal.bounds-transitions-label
 bounds-transitions-label c =
@@ -24,7 +24,7 @@ bounds-transitions-label c =
     let l : n ≤ n * n = le-mul_of_pos_right n (omega arith) in omega arith
 
 pub loop-tried-init : goal.loop-tried-init
-loop-tried-init c = (omega arith, omega arith, rw one-mul, simp (largest_first, zero-mul, zero-add), sym (largest_first _))
+loop-tried-init c = (rw one-mul, simp (largest_first, zero-mul, zero-add), sym (largest_first _))
 
 pub offset_bounds-transitions-at : goal.offset_bounds-transitions-at
 offset_bounds-transitions-at c =
@@ -41,13 +41,11 @@ pub loop-tried-preserved : goal.loop-tried-preserved
 loop-tried-preserved c =
     let a = c.args in
     let g = candidate a.n a.transitions.now a.row.now a.label a.state in
-    let met = ap (λ at. add binary64 (add binary64 (get_or a.row.now c.loop-tried.tried nan) (get_or a.transitions.now at nan)) a.state) c.loop-tried.invariant.2 in (
-      omega arith,
-      omega arith,
+    let met = ap (λ at. add binary64 (add binary64 (get_or a.row.now c.loop-tried.tried nan) (get_or a.transitions.now at nan)) a.state) c.loop-tried.invariant.0 in (
       rw row_after (omega arith),
-      c.better-score.ensures ∙ score_more g c.loop-tried.tried c.loop-tried.invariant.0 _ _ c.loop-tried.from c.loop-tried.invariant.3 met,
-      c.whence-from.ensures ∙ from_more g c.loop-tried.tried c.loop-tried.invariant.0 _ _ _ c.loop-tried.invariant.3 met c.loop-tried.invariant.4,
+      c.better-score.ensures ∙ score_more g c.loop-tried.tried c.loop-tried.auto.tried _ _ c.loop-tried.previous c.loop-tried.invariant.1 met,
+      c.whence-previous.ensures ∙ from_more g c.loop-tried.tried c.loop-tried.auto.tried _ _ _ c.loop-tried.invariant.1 met c.loop-tried.invariant.2,
     )
 
 pub returns : goal.returns
-returns c = let e = le_antisymm c.loop-tried.invariant.1 c.loop-tried-test.false in rw (c.loop-tried.invariant.3, c.loop-tried.invariant.4, e)
+returns c = let e = le_antisymm (c.loop-tried.auto.tried-end (omega arith)) c.loop-tried-test.false in rw (c.loop-tried.invariant.1, c.loop-tried.invariant.2, e)

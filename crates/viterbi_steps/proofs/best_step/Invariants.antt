@@ -1,6 +1,6 @@
 -- `best_step` meets its contract. The loop's invariant: the score and its origin are those chosen of the candidates passed. Assumes nothing.
 use mathlib.Core.Path.{◌≡◌}
-use Prim.Native.Nat.{◌+◌, ◌-◌, ◌*◌, ◌≤◌, ◌<◌}
+use Prim.Native.Nat.{◌+◌, ◌-◌, ◌*◌}
 use Rattle.best_path.specs.Decoded.{last_largest}
 use Rattle.viterbi_steps.specs.Chosen.{candidate}
 use Rattle.viterbi_steps.proofs.best_step.Given as goal
@@ -8,7 +8,4 @@ use Rattle.viterbi_steps.proofs.best_step.Given as goal
 abbrev pub invariant-loop-tried : goal.invariant-loop-tried
 invariant-loop-tried l =
     let g = candidate l.n l.transitions l.row l.label l.state in
-    (0 < l.tried) × (l.tried ≤ l.n) × (l.at ≡ l.tried * l.n + l.label) × (l.score ≡ g (last_largest g (l.tried - 1))) × (l.from ≡ last_largest g (l.tried - 1))
-
-abbrev pub decreases-loop-tried : goal.decreases-loop-tried
-decreases-loop-tried l = l.n - l.tried
+    (l.at ≡ l.tried * l.n + l.label) × (l.score ≡ g (last_largest g (l.tried - 1))) × (l.previous ≡ last_largest g (l.tried - 1))

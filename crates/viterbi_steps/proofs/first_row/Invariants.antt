@@ -1,6 +1,5 @@
 -- `first_row` meets its contract. The loop's invariant: the labels passed have their state score. Assumes nothing.
 use mathlib.Core.Path.{◌≡◌}
-use Prim.Native.Nat.{◌-◌, ◌≤◌}
 use lib.ListN.{get_or, replicate}
 use lib.Ieee.{nan, of_bits, binary64}
 use Rattle.refusals.specs.Bounds.{the_labels, most}
@@ -8,7 +7,4 @@ use Rattle.viterbi_steps.specs.Written.{written}
 use Rattle.viterbi_steps.proofs.first_row.Given as goal
 
 abbrev pub invariant-loop-label : goal.invariant-loop-label
-invariant-loop-label l = (l.label ≤ l.n) × (l.row.width ≡ l.n) × (l.row.best ≡ written 0 (λ k. get_or l.states k nan) l.label (replicate (most the_labels) (of_bits binary64 0)))
-
-abbrev pub decreases-loop-label : goal.decreases-loop-label
-decreases-loop-label l = l.n - l.label
+invariant-loop-label l = (l.row.width ≡ l.n) × (l.row.best ≡ written 0 (λ k. get_or l.states k nan) l.label (replicate (most the_labels) (of_bits binary64 0)))

@@ -1,6 +1,5 @@
 -- `fold_previous` meets its contract. The loop's invariant: the labels passed have taken their candidate or not, and the others are as they were. Assumes nothing.
 use mathlib.Core.Path.{◌≡◌}
-use Prim.Native.Nat.{◌-◌, ◌≤◌}
 use Rattle.viterbi_steps.specs.Written.{written}
 use Rattle.viterbi_steps.specs.Rows.{onward, score_tried, mark_tried}
 use Rattle.viterbi_steps.proofs.fold_previous.Given as goal
@@ -8,9 +7,5 @@ use Rattle.viterbi_steps.proofs.fold_previous.Given as goal
 abbrev pub invariant-loop-label : goal.invariant-loop-label
 invariant-loop-label l =
     let candidates = onward l.score l.transitions l.base l.states l.at in
-    (l.label ≤ l.n)
-    × (l.next ≡ written 0 (score_tried candidates l.initial.next) l.label l.initial.next)
+    (l.next ≡ written 0 (score_tried candidates l.initial.next) l.label l.initial.next)
     × (l.from ≡ written 0 (mark_tried candidates l.initial.next l.mark l.initial.from) l.label l.initial.from)
-
-abbrev pub decreases-loop-label : goal.decreases-loop-label
-decreases-loop-label l = l.n - l.label

@@ -1,12 +1,8 @@
 -- `keep_steps` meets its contract. The loop's invariant: the labels passed have their mark in its place. Assumes nothing.
 use mathlib.Core.Path.{◌≡◌}
-use Prim.Native.Nat.{◌-◌, ◌≤◌}
-use lib.ListN.{length, get_or}
+use lib.ListN.{get_or}
 use Rattle.viterbi_steps.specs.Written.{written}
 use Rattle.viterbi_steps.proofs.keep_steps.Given as goal
 
 abbrev pub invariant-loop-label : goal.invariant-loop-label
-invariant-loop-label l = (l.label ≤ l.n) × (length l.steps ≡ length l.initial.steps) × (l.steps ≡ written l.at (λ k. get_or l.from k 0) l.label l.initial.steps)
-
-abbrev pub decreases-loop-label : goal.decreases-loop-label
-decreases-loop-label l = l.n - l.label
+invariant-loop-label l = l.steps ≡ written l.at (λ k. get_or l.from k 0) l.label l.initial.steps

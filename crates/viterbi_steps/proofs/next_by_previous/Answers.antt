@@ -2,7 +2,6 @@
 use mathlib.Core.Path.{refl, sym}
 use Prim.Native.Nat.{◌+◌, ◌*◌, ◌≤◌}
 use native.Mathlib.Nat.{le-mul_of_pos_right, one-mul}
-use native.Mathlib.Numerals.{add-one-le}
 use native.Mathlib.Omega.{arith}
 use borrow.Author.Rules.{rules}
 use lib.ListN.{get_or-replicate}
@@ -14,7 +13,7 @@ use Rattle.viterbi_steps.proofs.next_by_previous.Goals as goal
 
 -- the transitions of a label of the word before
 inside : (c : In-loop-previous) → let n = c.args.n in c.loop-previous.base + n ≤ n * n
-inside c = omega (arith, c.loop-previous.invariant.2, row_inside c.loop-previous.previous c.args.n c.loop-previous-test.true)
+inside c = omega (arith, c.loop-previous.invariant.0, row_inside c.loop-previous.previous c.args.n c.loop-previous-test.true)
 
 pub seed_row-requires : goal.seed_row-requires
 seed_row-requires c =
@@ -23,7 +22,7 @@ seed_row-requires c =
 
 pub loop-previous-init : goal.loop-previous-init
 loop-previous-init c =
-    (omega arith, c.requires.some, sym (one-mul _), tried_first c.args.next.now c.seed_row.ensures refl (λ label h. get_or-replicate (most the_labels) label 0 0 (omega (arith, c.requires.few))))
+    (sym (one-mul _), tried_first c.args.next.now c.seed_row.ensures refl (λ label h. get_or-replicate (most the_labels) label 0 0 (omega (arith, c.requires.few))))
 
 pub fold_previous-requires : goal.fold_previous-requires
 fold_previous-requires c =
@@ -38,20 +37,18 @@ loop-previous-preserved c =
     let a = c.args in
     let wide = tried_wide a.n _ a.next.now c.seed_row.ensures c.requires.wide in
     let folded = c.fold_previous.ensures in (
-      omega arith,
-      add-one-le c.loop-previous-test.true,
-      rw row_after (omega (arith, c.loop-previous.invariant.2)),
-      tried_more c.loop-previous.invariant.0 c.requires.few wide c.loop-previous.invariant.2 c.loop-previous.invariant.3 folded.next_after folded.from_after,
+      rw row_after (omega (arith, c.loop-previous.invariant.0)),
+      tried_more c.loop-previous.auto.previous c.requires.few wide c.loop-previous.invariant.0 c.loop-previous.invariant.1 folded.next_after folded.from_after,
     )
 
 pub keep_steps-requires : goal.keep_steps-requires
 keep_steps-requires c =
     let a = c.args in
-    let tried = tried_all c.loop-previous.invariant.1 c.loop-previous-test.false c.loop-previous.invariant.3 in
+    let tried = tried_all (c.loop-previous.auto.previous-end c.requires.some) c.loop-previous-test.false c.loop-previous.invariant.1 in
     (c.requires.few, c.requires.long_steps, λ label h. omega (arith, marks_within a.word c.requires.some tried label h, c.requires.few))
 
 pub returns : goal.returns
 returns c =
     let a = c.args in
-    let tried = tried_all c.loop-previous.invariant.1 c.loop-previous-test.false c.loop-previous.invariant.3 in
+    let tried = tried_all (c.loop-previous.auto.previous-end c.requires.some) c.loop-previous-test.false c.loop-previous.invariant.1 in
     tried_after a.word c.requires.some tried c.requires.holds a.next.now _ c.seed_row.ensures a.steps.now c.keep_steps.ensures

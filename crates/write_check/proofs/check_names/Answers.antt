@@ -1,17 +1,16 @@
--- `write_check::check_names` meets its contract. Assumes nothing.
-use mathlib.Core.Path.{sym, ◌∙◌}
-use native.Mathlib.Omega.{arith}
-use Rattle.refusals.proofs.Laws.{begin, step, answered}
-use mathlib.Core.Logic.{inl, inr}
-use Rattle.write_check.proofs.check_names.Goals.{else-loop-i-test, then-loop-i-test+then-bad}
+-- `write_check::check_names` meets its contract, by the laws of a search. Assumes nothing.
+use Rattle.std.proofs.Common.{arith, ◌∙◌}
+use Rattle.refusals.proofs.Laws.{begin, goes_on, stops, ends, handed}
 use Rattle.write_check.proofs.check_names.Goals as goal
 
 pub loop-i-init : goal.loop-i-init
 loop-i-init c = begin
 
+pub returns-in_err-refuse_if : goal.returns-in_err-refuse_if
+returns-in_err-refuse_if c = handed c.from_residual.ensures.1 ∙ stops c.loop-i.invariant (omega arith) (rw c.lacks_name-bad.ensures at c.refuse_if.ensures) c.in_err-refuse_if.was
+
 pub loop-i-preserved : goal.loop-i-preserved
-loop-i-preserved c =
-    step c.loop-i.invariant (omega arith) (sym c.lacks_name-bad.ensures ∙ c.if-bad.false)
+loop-i-preserved c = goes_on c.loop-i.invariant (omega arith) (rw c.lacks_name-bad.ensures at c.refuse_if.ensures) c.in_ok-refuse_if.was
 
 pub returns : goal.returns
-returns c = answered _ _ c.refuse_if.ensures c.to_check-end.ensures.value c.loop-i.invariant (λ a. a) (λ b. b) (elim c.loop-i-test.branch [ else-loop-i-test w ↦ inl w.loop-i-test.false | then-loop-i-test+then-bad w ↦ inr (w.loop-i-test.true, sym w.lacks_name-bad.ensures ∙ w.if-bad.true) ])
+returns c = ends c.loop-i.invariant (omega arith)

@@ -6,12 +6,12 @@ pub written_length-need-requires : goal.written_length-need-requires
 written_length-need-requires c =
     measurable c.requires
 
-pub check_names-labelled-requires : goal.check_names-labelled-requires
-check_names-labelled-requires c =
+pub check_names-requires : goal.check_names-requires
+check_names-requires c =
     labels_stand c.requires
 
-pub check_names-named-requires : goal.check_names-named-requires
-check_names-named-requires c =
+pub check_names-requires-2 : goal.check_names-requires-2
+check_names-requires-2 c =
     names_stand c.requires
 
 pub check_scales-requires : goal.check_scales-requires

@@ -1,21 +1,27 @@
 -- `write_check::is_no_scale` meets its contract. Assumes nothing.
 use mathlib.Core.Path.{◌∙◌}
-use borrow.Author.Tests.{eq-eqb, ne_eqb}
-use Rattle.write_check.proofs.ByteTests.{sorting_point, sorting_digit, sorting_other, sorting_over}
+use native.Mathlib.Omega.{arith}
+use Rattle.write_check.proofs.ByteTests.{sorting_point, sorting_digit, sorting_other, sorting_over, kept_is}
 use Rattle.write_check.proofs.is_no_scale.Goals as goal
+use Rattle.write_check.proofs.is_no_scale.Goals.{in-46, in-48-to-57}
 
-pub loop-i-preserved-then-b-eq46 : goal.loop-i-preserved-then-b-eq46
-loop-i-preserved-then-b-eq46 c =
-    sorting_point c.loop-i.invariant c.loop-i-test.true (eq-eqb _ 46 c.if-b-eq46.true)
+pub returns-in_default : goal.returns-in_default
+returns-in_default c =
+    sorting_other c.loop-b.invariant c.loop-b-test.true (λ e. omega arith) (λ h k. omega arith) ∙ kept_is c.digits_from-first.ensures
 
-pub loop-i-preserved : goal.loop-i-preserved
-loop-i-preserved c =
-    sorting_digit c.loop-i.invariant c.loop-i-test.true (ne_eqb _ 46 c.if-b-eq46.false) c.if-b.true
+pub returns-in_default-2 : goal.returns-in_default-2
+returns-in_default-2 c =
+    sorting_other c.loop-b.invariant c.loop-b-test.true (λ e. omega arith) (λ h k. omega arith) ∙ kept_is c.digits_from-first.ensures
 
-pub returns-else-b : goal.returns-else-b
-returns-else-b c =
-    sorting_other c.loop-i.invariant c.loop-i-test.true (ne_eqb _ 46 c.if-b-eq46.false) c.if-b.false
+pub loop-b-preserved : goal.loop-b-preserved
+loop-b-preserved c =
+    elim c.match-b.branch [
+      | in-46 w ↦
+          rw (w.points-is, w.digits-is) (sorting_point c.loop-b.invariant c.loop-b-test.true (omega arith))
+      | in-48-to-57 w ↦
+          rw (w.points-is, w.digits-is) (sorting_digit c.loop-b.invariant c.loop-b-test.true (omega arith) (omega arith))
+    ]
 
 pub returns : goal.returns
 returns c =
-    c.miscounts.ensures ∙ sorting_over c.loop-i.invariant c.loop-i-test.false
+    c.miscounts.ensures ∙ sorting_over c.loop-b.invariant c.loop-b-test.false ∙ kept_is c.digits_from-first.ensures

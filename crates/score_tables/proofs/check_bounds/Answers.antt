@@ -1,7 +1,0 @@
--- `score_tables::check_bounds` meets its contract. Assumes nothing.
-use Rattle.refusals.specs.Refusals.{or_next_of}
-use Rattle.score_tables.proofs.check_bounds.Goals as goal
-
-pub returns : goal.returns
-unfolding or_next_of
-returns c = rw (c.refuse_if.ensures, c.is_outside.ensures, c.check_labels-a.ensures)

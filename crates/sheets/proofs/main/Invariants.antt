@@ -1,9 +1,0 @@
--- `sheets::main` meets its contract. Assumes nothing.
-use Prim.Native.Nat.{◌-◌}
-use Rattle.sheets.proofs.main.Given as goal
-
-abbrev pub invariant-loop-i : goal.invariant-loop-i
-invariant-loop-i l = Unit {0}
-
-abbrev pub decreases-loop-i : goal.decreases-loop-i
-decreases-loop-i l = 1000 - l.i
