@@ -43,6 +43,11 @@ onto_byte {b} {left} {all} {out} {before} {k} g = record {
     one : (out : List ℕ) (k b : ℕ) (t : List ℕ) → stored (set out k b) (k + 1) t ≡ stored out k (b ∷ t)
     one out k b t = unfold stored in refl
 
+pub onto_two : {a b : ℕ} {left all out before : List ℕ} {k at : ℕ} → Onto (a ∷ b ∷ left) all k at out before → Onto left all (k + 2) at (set (set out k a) (k + 1) b) before
+onto_two {a} {b} {left} {all} {out} {before} {k} {at} g =
+    let two : k + 1 + 1 ≡ k + 2 = omega arith in
+    rw two at (onto_byte (onto_byte g))
+
 -- one part
 pub onto_part : (part left : List ℕ) {all out before : List ℕ} {k at : ℕ} → Onto (part ++ left) all k at out before → RoomFor part out k
 onto_part part left g = let l = length-append part left in record { room = omega (arith, l, g.place, g.room, g.long) }

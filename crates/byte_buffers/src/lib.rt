@@ -14,13 +14,16 @@ pub fn put_byte(buffer: &mut [u8], at: usize, byte: u8) -> usize
     at + 1
 }
 
-// The bytes from one place of theirs up to another.
+// The bytes from one place of theirs up to another. As a loop: for the library's copy the archive would need a `memmove` from outside.
 pub fn put_bytes(buffer: &mut [u8], at: usize, bytes: &[u8], from: usize, to: usize) -> usize
     requires from_le_to { (from ≤ to) × (to ≤ length bytes.now) }
     requires room_for { RoomFor (slice from to bytes.now) buffer.old at }
     ensures { Put (slice from to bytes.now) buffer.old at result buffer.new }
 {
-    let end = at + (to - from);
-    buffer[at..end].copy_from_slice(&bytes[from..to]);
-    end
+    let mut k = at;
+    for i in from..to {
+        buffer[k] = bytes[i];
+        k += 1;
+    }
+    k
 }

@@ -52,10 +52,15 @@ fn decode_with(
     } else {
         transitions.len()
     };
-    let Size { labels, words } = sheet::read_sheet(bytes, &mut transitions[..room], states)?;
-    let size = entries(labels, labels);
-    let count = entries(words, labels);
-    Ok(write_path(labels, words, &transitions[..size], &states[..count], line))
+    // Not by `?`: the edit `place_of_a_refusal_lost` changes the refusal that is handed on here.
+    match sheet::read_sheet(bytes, &mut transitions[..room], states) {
+        Err(why) => Err(why),
+        Ok(Size { labels, words }) => {
+            let size = entries(labels, labels);
+            let count = entries(words, labels);
+            Ok(write_path(labels, words, &transitions[..size], &states[..count], line))
+        }
+    }
 }
 
 // The line of the path, or a refusal that leaves the lent line as it was.

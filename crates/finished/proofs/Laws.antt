@@ -12,7 +12,7 @@ use lib.Seq.{drop_at}
 use lib.Ieee.{Float, nan}
 use lib.Ieee.Bits.{is_true}
 use lib.Ieee.Scale.{finite}
-use Rattle.refusals.specs.Refusals.{Checked, refuse, lowest}
+use Rattle.refusals.specs.Refusals.{Checked, refused_at, refuse, lowest}
 use Rattle.refusals.specs.Tables.{not_finite}
 use Rattle.refusals.proofs.Laws.{Passed, step, hit, passes, holds}
 use Rattle.refusals.specs.declared.Refusal.{Refusal}
@@ -45,6 +45,9 @@ module _ (others : ℕ) {n i : ℕ} {test : ℕ → Bool} {r : Checked} where
   placed_stops {why = why} p l e h =
       let t = holds 8 (others + i) (test i) why (sym e ∙ h) in
       t.1 ∙ sym (ap (placed_after others) (hit 8 test n i l p.accepted t.0))
+
+  pub placed_hits : Passed 8 test n i → i < n → test i ≡ true → r ≡ refused_at 8 (others + i) → r ≡ placed_after others (lowest 8 test n)
+  placed_hits p l t e = e ∙ sym (ap (placed_after others) (hit 8 test n i l p.accepted t))
 
 pub placed_accepted : (others : ℕ) {check : Checked} → check ≡ Ok tt → Ok tt ≡ placed_after others check
 placed_accepted others h = rw h

@@ -20,7 +20,9 @@ fn check_finished(numbers: &[f64], n: usize, others: usize) -> Result<(), Refusa
     }
     for i in 0..n {
         let bad = !binary64::is_finite(numbers[i]);
-        refusals::refuse_if(8, others + i, bad)?;
+        if bad {
+            return refusals::refused(8, others + i);
+        }
     }
     Ok(())
 }

@@ -217,7 +217,10 @@ pub fn label_line(
         values,
         path.len(),
     );
-    checked?;
+    // Not by `?`: the edit `place_lost` changes the refusal that is handed on here.
+    if let Err(why) = checked {
+        return Err(why);
+    }
     if labelling::is_small(labels as usize, words as usize) {
         label_within::<FEW, FEW>(
             labels,

@@ -106,7 +106,7 @@ pub fn check_scoring(
     let tables = refusals::sooner(model, line);
     let room = refusals::refuse_if(2, 0, lacks_scores(labels, words, transitions, states));
     let scoring = refusals::sooner(tables, room);
-    score_tables::check_bounds(labels, words).and(scoring)
+    refusals::or_next(score_tables::check_bounds(labels, words), scoring)
 }
 
 // Whether the features of a line can be counted under labels into a buffer of this length.
@@ -149,5 +149,5 @@ pub fn check_counting(
     let short = refusals::is_short(features, counts.features as usize);
     let room = refusals::refuse_if(2, 0, short);
     let counting = refusals::sooner(labelled, room);
-    score_tables::check_bounds(labels, words).and(counting)
+    refusals::or_next(score_tables::check_bounds(labels, words), counting)
 }

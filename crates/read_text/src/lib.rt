@@ -86,7 +86,10 @@ fn fill_checked(
         scale_starts: scale_starts.len(),
         scale_bytes: scales.len(),
     };
-    text_check::check_text(survey, have)?;
+    // Not by `?`: the edit `refused_table_touched` touches a table on this way out.
+    if let Err(why) = text_check::check_text(survey, have) {
+        return Err(why);
+    }
     let known = survey.labels;
     let names = survey.names;
     fill_text::fill(

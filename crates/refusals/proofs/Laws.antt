@@ -93,6 +93,10 @@ module _ {number : ℕ} {test : ℕ → Bool} {end : ℕ} where
       let t = holds number i (test i) why (sym e ∙ h) in
       t.1 ∙ sym (hit number test end i l p.accepted t.0)
 
+  -- the same, where the loop tests and refuses by itself
+  pub hits : {i : ℕ} {r : Checked} → Passed number test end i → i < end → test i ≡ true → r ≡ refused_at number i → r ≡ lowest number test end
+  hits {i} p l t e = e ∙ sym (hit number test end i l p.accepted t)
+
   -- no place is refused
   pub ends : {i : ℕ} → Passed number test end i → end ≤ i → Ok tt ≡ lowest number test end
   ends {i} p l = let e : end ≡ i = omega arith in rw e (sym p.accepted)

@@ -3,7 +3,7 @@
 #![tactic(auto)]
 
 ghost use Rattle.std.specs.Prelude.{◌≡◌};
-ghost use Rattle.refusals.specs.Refusals.{numbered as Refusals·numbered, refused_at, refuse, goes_before_of, sooner as Refusals·sooner};
+ghost use Rattle.refusals.specs.Refusals.{numbered as Refusals·numbered, refused_at, refuse, or_next_of, goes_before_of, sooner as Refusals·sooner};
 ghost use Rattle.refusals.specs.Tables.{outside, short};
 
 #[derive(Clone, Copy, Debug, PartialEq, Eq)]
@@ -24,6 +24,13 @@ pub fn refused(number: u32, place: usize) -> Result<(), Refusal>
     ensures { result ≡ refused_at number place }
 {
     Err(numbered(number, place as u64))
+}
+
+// The answer so far where that refuses, or else the next: `?` for two checks that are both made.
+pub fn or_next(answer: Result<(), Refusal>, next: Result<(), Refusal>) -> Result<(), Refusal>
+    ensures { result ≡ or_next_of answer next }
+{
+    answer.and(next)
 }
 
 // A refusal where the test holds.

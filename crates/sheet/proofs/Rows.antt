@@ -1,7 +1,7 @@
 -- The rows of the sheet as the inner functions take them, and what a sheet that they accept gives. Assumes nothing.
 use Rattle.std.specs.Prelude.{Ok, Err}
-use mathlib.Core.Path.{◌≡◌, refl, sym, ◌∙◌}
-use mathlib.Core.List.{List, ◌++◌}
+use mathlib.Core.Path.{◌≡◌, refl, sym, ap, ◌∙◌}
+use mathlib.Core.List.{List, [], ◌∷◌, ◌++◌}
 use Prim.Native.Nat.{ℕ, ◌*◌, ◌≤◌}
 use borrow.Author.Tests.{ltb-false, eqb-true, not-false}
 use lib.ListN.{length}
@@ -9,10 +9,17 @@ use Rattle.refusals.specs.declared.Refusal.{Refusal}
 use Rattle.refusals.specs.Refusals.{Checked, refuse, or_next_of, first}
 use Rattle.refusals.specs.Tables.{numbers_checked}
 use Rattle.refusals.proofs.Laws.{settled, both, all_accepted, neither, passes}
+use Rattle.score_tables.specs.Rows.{one, four, bounds_checked}
 use Rattle.score_tables.specs.Sound.{ScoresSized}
 use Rattle.score_tables.proofs.Laws.{sized}
 use Rattle.sheet.specs.Fields.{labels_in_of, words_in, whole_length_of, transitions_in_of, states_in_of}
 use Rattle.sheet.specs.Rows.{Lent, wrong_head, wrong_length, head_rows, size_rows, entry_rows, file_sized, file_checked, tables_short, sheet_checked}
+
+-- the answer so far, then two checks that were put together
+pub together : (answer check next : Checked) → or_next_of answer (or_next_of check next) ≡ or_next_of (or_next_of answer check) next
+unfolding or_next_of
+together (Ok _) check next = refl
+together (Err why) check next = refl
 
 -- a head that is accepted has its eight bytes
 long_head : (bytes : List ℕ) → refuse 10 0 (wrong_head bytes) ≡ Ok tt → 8 ≤ length bytes
@@ -27,6 +34,11 @@ module _ (bytes : List ℕ) (room : Checked) where
   pub head_refused : (why : Refusal) → head_checked bytes ≡ Err why → Err why ≡ file_sized bytes room
   unfolding head_checked file_sized
   head_refused why h = sym (settled _ (size_rows bytes room) why h)
+
+  -- 1 and 4 as one check
+  pub sizes_in_order : first (or_next_of (Ok tt) (refuse 10 0 (wrong_head bytes)) ∷ bounds_checked (labels_in_of bytes) (words_in bytes) ∷ or_next_of (Ok tt) room ∷ or_next_of (Ok tt) (refuse 10 0 (wrong_length bytes)) ∷ []) ≡ file_sized bytes room
+  unfolding file_sized or_next_of
+  sizes_in_order = ap (λ (c : Checked). or_next_of (or_next_of c room) (refuse 10 0 (wrong_length bytes))) (together (refuse 10 0 (wrong_head bytes)) (one (labels_in_of bytes)) (four (words_in bytes)))
 
   -- a refusal of the sizes is the file's
   pub sizes_refused : (why : Refusal) → file_sized bytes room ≡ Err why → Err why ≡ file_checked bytes room

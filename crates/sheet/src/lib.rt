@@ -173,7 +173,10 @@ pub fn read_sheet(
 ) -> Result<Size, Refusal>
     ensures { Promised (record { bytes = bytes.now }) (record { transitions = transitions.old; states = states.old }) (record { answer = result; transitions = transitions.new; states = states.new }) }
 {
-    check_sheet(bytes, transitions, states)?;
+    // Not by `?`: the edit `refused_tables_changed` touches a table on this way out.
+    if let Err(why) = check_sheet(bytes, transitions, states) {
+        return Err(why);
+    }
     let labels = labels_in(bytes);
     let words = words_in(bytes);
     read_part(bytes, 8, entries(labels, labels), transitions);

@@ -12,12 +12,14 @@ pub fn choose(number: u64, i: usize) -> usize
     (number % ((i + 1) as u64)) as usize
 }
 
-// Two places of an order change their contents.
+// Two places of an order change their contents. By hand: with the library's swap a shuffle takes half as long again.
 pub fn swap(i: usize, j: usize, order: &mut [u32])
     requires { (i < length order.old) × (j < length order.old) }
     ensures { order.new ≡ swapped order.old i j }
 {
-    order.swap(i, j);
+    let a = order[i];
+    order[i] = order[j];
+    order[j] = a;
 }
 
 // The first n of an order, shuffled; the answer is the generator's state to go on with.

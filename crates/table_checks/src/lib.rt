@@ -16,7 +16,9 @@ pub fn check_starts(starts: &[u32], n: usize, entries: u32) -> Result<(), Refusa
     for i in 0..n + 1 {
         let start = starts[i];
         let bad = ((i == 0) & (start != 0)) | (start < low) | ((i == n) & (start != entries));
-        refusals::refuse_if(3, i, bad)?;
+        if bad {
+            return refusals::refused(3, i);
+        }
         low = start;
     }
     Ok(())
@@ -44,7 +46,9 @@ pub fn check_kinds(kinds: &[u8], n: usize) -> Result<(), Refusal>
     }
     for i in 0..n {
         let bad = 1 < kinds[i];
-        refusals::refuse_if(5, i, bad)?;
+        if bad {
+            return refusals::refused(5, i);
+        }
     }
     Ok(())
 }
@@ -71,7 +75,9 @@ pub fn check_ids(ids: &[u32], n: usize, bound: u32) -> Result<(), Refusal>
     }
     for i in 0..n {
         let bad = bound <= ids[i];
-        refusals::refuse_if(5, i, bad)?;
+        if bad {
+            return refusals::refused(5, i);
+        }
     }
     Ok(())
 }
@@ -100,7 +106,9 @@ pub fn check_sources(kinds: &[u8], sources: &[u32], n: usize, labels: u32) -> Re
     }
     for i in 0..n {
         let bad = (kinds[i] == 1) & (labels <= sources[i]);
-        refusals::refuse_if(5, i, bad)?;
+        if bad {
+            return refusals::refused(5, i);
+        }
     }
     Ok(())
 }
@@ -115,7 +123,9 @@ pub fn check_numbers(numbers: &[f64], n: usize) -> Result<(), Refusal>
     }
     for i in 0..n {
         let bad = !binary64::is_finite(numbers[i]);
-        refusals::refuse_if(6, i, bad)?;
+        if bad {
+            return refusals::refused(6, i);
+        }
     }
     Ok(())
 }

@@ -29,10 +29,12 @@ fn put_escaped(text: &mut [u8], at: usize, bytes: &[u8], from: usize, to: usize)
     for b in &bytes[from..to] {
         if needs_slash(*b) {
             text[k] = b'\\';
+            text[k + 1] = *b;
+            k += 2;
+        } else {
+            text[k] = *b;
             k += 1;
         }
-        text[k] = *b;
-        k += 1;
     }
     k
 }
@@ -242,14 +244,21 @@ pub fn put_sequences(
     k
 }
 
-// How many bytes a name has with its backslashes.
+// How many bytes a name has with its backslashes. As a loop, which counts many bytes at a time.
 fn escaped_length(bytes: &[u8], from: usize, to: usize) -> usize
     requires { (from ≤ to) × (to ≤ length bytes.now) × (to ≤ 4294967295) }
     ensures value { result ≡ length (escaped (slice from to bytes.now)) }
     ensures upper_bound { result ≤ 8589934590 }
 {
-    let slashes = bytes[from..to].iter().filter(|b| needs_slash(**b)).count();
-    to - from + slashes
+    let mut count = 0;
+    for b in &bytes[from..to] {
+        if needs_slash(*b) {
+            count += 2;
+        } else {
+            count += 1;
+        }
+    }
+    count
 }
 
 // String i of a list of names.

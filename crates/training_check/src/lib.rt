@@ -47,7 +47,9 @@ pub fn check_lengths(lines: &[u32], n: usize) -> Result<(), Refusal>
 {
     for i in 0..n {
         let bad = is_bad_length(lines[i], lines[i + 1]);
-        refusals::refuse_if(4, i, bad)?;
+        if bad {
+            return refusals::refused(4, i);
+        }
     }
     Ok(())
 }

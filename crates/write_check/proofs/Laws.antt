@@ -1,7 +1,7 @@
 -- What the rows give: sizes that fit, tables that are sound, and strings, words and sequences that stand in them. Assumes nothing.
 use Rattle.std.specs.Prelude.{Ok, Err}
 use mathlib.Core.Path.{◌≡◌, sym, ◌∙◌, ap}
-use mathlib.Core.Bool.{◌||◌}
+use mathlib.Core.Bool.{Bool, ◌||◌}
 use mathlib.Core.List.{List, [], ◌∷◌, ◌++◌}
 use Prim.Native.Nat.{ℕ, ◌+◌, ◌≤◌, ◌<◌}
 use native.Mathlib.Omega.{arith}
@@ -15,7 +15,7 @@ use Rattle.score_tables.specs.Rows.{one}
 use Rattle.score_tables.proofs.Meant.{one_means}
 use Rattle.refusal_rows.specs.Limits.{any_broken, two}
 use Rattle.refusal_rows.specs.Tests.{lines_fit, checks}
-use Rattle.refusal_rows.proofs.Means.{two_means, test_means, fitting}
+use Rattle.refusal_rows.proofs.Means.{two_means, broken_parts, test_means, fitting}
 use Rattle.refusal_rows.proofs.Parts.{two_parts}
 use Rattle.text_tables.specs.Tables.{Strings}
 use Rattle.text_writing.specs.Ready.{StringStands, ListStands, AttributeStands, WordStands, SequenceStands}
@@ -34,10 +34,16 @@ string_stands {s} {n} {entries} {i} r l b h =
 
 module _ (g : Unchecked) where
   -- sizes that are tested part by part
-  pub write_sized : {labels counts r : Checked} → labels ≡ one g.labels → labels ≡ Ok tt → counts ≡ two (written_counts g) → counts ≡ Ok tt →
+  pub write_sized : first (one g.labels ∷ two (written_counts g) ∷ refuse 2 0 (any_broken (word_rooms g) || any_broken (string_rooms g)) ∷ []) ≡ write_sized_of g
+  unfolding write_sized_of
+  write_sized =
+      ap (λ (lacking : Bool). first (one g.labels ∷ two (written_counts g) ∷ refuse 2 0 lacking ∷ [])) (sym (broken_parts (word_rooms g) (string_rooms g)))
+
+  -- the last of them, where the others accept
+  pub rooms_last : {labels counts r : Checked} → labels ≡ one g.labels → labels ≡ Ok tt → counts ≡ two (written_counts g) → counts ≡ Ok tt →
       r ≡ refuse 2 0 (any_broken (word_rooms g) || any_broken (string_rooms g)) → r ≡ write_sized_of g
   unfolding write_sized_of or_next_of
-  write_sized a h b k c = rw (sym a ∙ h, sym b ∙ k) (c ∙ two_parts (word_rooms g) (string_rooms g))
+  rooms_last a h b k c = rw (sym a ∙ h, sym b ∙ k) (c ∙ two_parts (word_rooms g) (string_rooms g))
 
   -- a refusal by size, or of what is read, is the call's
   pub size_stopped : (have : ℕ) (why : Refusal) → write_sized_of g ≡ Err why → Err why ≡ write_checked g have
@@ -53,13 +59,22 @@ module _ (g : Unchecked) where
   unfolding write_read write_checked
   read_stopped have why h = sym (settled (first (read_rows g)) (text_rows g have) why h)
 
-  pub lists_read : {sizes r : Checked} → sizes ≡ write_sized_of g → sizes ≡ Ok tt → r ≡ first (checks (written_starts g ++ written_lengths g ++ written_ids g)) → r ≡ write_read g
+  pub lists_read : {sizes r : Checked} → sizes ≡ write_sized_of g → r ≡ first_from sizes (checks (written_starts g ++ written_lengths g ++ written_ids g)) → r ≡ write_read g
   unfolding write_sized_of write_read
-  lists_read e h a = a ∙ ap (λ (sizes : Checked). first_from sizes (checks (written_starts g) ++ checks (written_lengths g) ++ checks (written_ids g))) (sym h ∙ e)
+  lists_read a b = rw (b, a)
 
-  pub all_read : {lists r : Checked} (have : ℕ) → lists ≡ write_read g → lists ≡ Ok tt → r ≡ first (text_rows g have) → r ≡ write_checked g have
+  pub all_read : {lists r : Checked} (have : ℕ) → lists ≡ write_read g → r ≡ first_from lists (text_rows g have) → r ≡ write_checked g have
   unfolding write_read write_checked
-  all_read have e h a = a ∙ ap (λ (lists : Checked). first_from lists (text_rows g have)) (sym h ∙ e)
+  all_read have a b = rw (b, a)
+
+  -- the same, where what came before accepts
+  pub lists_last : {sizes r : Checked} → sizes ≡ write_sized_of g → sizes ≡ Ok tt → r ≡ first (checks (written_starts g ++ written_lengths g ++ written_ids g)) → r ≡ write_read g
+  unfolding write_sized_of write_read
+  lists_last e h a = a ∙ ap (λ (sizes : Checked). first_from sizes (checks (written_starts g) ++ checks (written_lengths g) ++ checks (written_ids g))) (sym h ∙ e)
+
+  pub text_last : {lists r : Checked} (have : ℕ) → lists ≡ write_read g → lists ≡ Ok tt → r ≡ first (text_rows g have) → r ≡ write_checked g have
+  unfolding write_read write_checked
+  text_last have e h a = a ∙ ap (λ (lists : Checked). first_from lists (text_rows g have)) (sym h ∙ e)
 
   fits_of : AllAccepted (one g.labels ∷ two (written_counts g) ∷ two (written_rooms g) ∷ []) → WriteFits g
   fits_of a = record {

@@ -256,7 +256,9 @@ fn check_names(starts: &[u32], bytes: &[u8], n: usize) -> Result<(), Refusal>
 {
     for i in 0..n {
         let bad = lacks_name(starts, bytes, i);
-        refusals::refuse_if(11, i, bad)?;
+        if bad {
+            return refusals::refused(11, i);
+        }
     }
     Ok(())
 }
@@ -268,7 +270,9 @@ fn check_scales(starts: &[u32], bytes: &[u8], n: usize) -> Result<(), Refusal>
 {
     for i in 0..n {
         let bad = lacks_scale(starts, bytes, i);
-        refusals::refuse_if(11, i, bad)?;
+        if bad {
+            return refusals::refused(11, i);
+        }
     }
     Ok(())
 }

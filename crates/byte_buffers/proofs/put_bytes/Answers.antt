@@ -1,22 +1,15 @@
--- `byte_buffers::put_bytes` meets its contract: the bytes lie over the places of the part. Assumes nothing.
-use Rattle.std.proofs.Common.{◌≡◌, ℕ, ◌+◌, ◌-◌, ◌≤◌, List, length, ◌∙◌, arith}
-use Rattle.std.proofs.lemmas.List.{drop-drop}
-use Rattle.std.proofs.lemmas.Slice.{between_is}
-use borrow.Rule.Slice.PartMut.{put_mid}
-use lib.Seq.{slice, length-slice}
-use Rattle.byte_buffers.specs.Stored.{stored}
-use Rattle.byte_buffers.proofs.Laws.{stored_over}
+-- `byte_buffers::put_bytes` meets its contract. Assumes nothing.
+use Rattle.byte_buffers.proofs.Onto.{onto_starts, onto_as, onto_room, onto_byte, onto_over, part_next, part_over}
 use Rattle.byte_buffers.proofs.put_bytes.Goals as goal
 
--- a part copied over its places
-copied : (l : List ℕ) (at n : ℕ) (s : List ℕ) {part : List ℕ} → at + length s ≤ length l → n ≡ length s → part ≡ s → put_mid at n l part ≡ stored l at s
-copied l at n s h e p = rw (stored_over l at s h, p, e, drop-drop)
+pub loop-i-init : goal.loop-i-init
+loop-i-init c = onto_starts c.requires.room_for
+
+pub bounds-buffer-k : goal.bounds-buffer-k
+bounds-buffer-k c = onto_room (onto_as (part_next _ _ _ c.loop-i-test.true c.requires.from_le_to.1) c.loop-i.invariant)
+
+pub loop-i-preserved : goal.loop-i-preserved
+loop-i-preserved c = onto_byte (onto_as (part_next _ _ _ c.loop-i-test.true c.requires.from_le_to.1) c.loop-i.invariant)
 
 pub returns : goal.returns
-returns c =
-    let a = c.args in
-    let n = length-slice a.from a.to a.bytes.now c.requires.from_le_to.1 in
-    record {
-      next = omega (arith, n);
-      line = copied a.buffer.now a.at (a.at + (a.to - a.from) - a.at) (slice a.from a.to a.bytes.now) c.requires.room_for.room (omega (arith, n)) (c.copy_from_slice.ensures.after ∙ between_is a.bytes.now a.from a.to);
-    }
+returns c = onto_over (onto_as (part_over _ _ _ (c.loop-i.auto.i-end c.requires.from_le_to.0) c.loop-i-test.false) c.loop-i.invariant)

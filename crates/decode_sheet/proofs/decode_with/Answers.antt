@@ -3,7 +3,6 @@ use mathlib.Core.Path.{◌≡◌, sym}
 use Prim.Native.Nat.{ℕ}
 use native.Mathlib.Omega.{arith}
 use Rattle.std.specs.Prelude.{Ok}
-use Rattle.refusals.proofs.Laws.{handed}
 use Rattle.decode_sheet.proofs.Rows.{transitions_size, states_size}
 use Rattle.decode_sheet.proofs.Join.{Chosen, Tables, counted_as, read_refused, read_tables, fronts_sound, promised_line}
 use Rattle.decode_sheet.proofs.decode_with.Goals.{After-read_sheet, then-line-lt-PATH_ROOM, else-line-lt-PATH_ROOM}
@@ -42,37 +41,37 @@ tables c e = read_tables _ _ _ _ _ (chosen c) _ c.read_sheet.ensures _ _ e
 
 pub slice_bounds-write_path-end : goal.slice_bounds-write_path-end
 slice_bounds-write_path-end c =
-    let t = tables (goal.at.slice_bounds-write_path-end c).After-read_sheet c.in_ok-labels.was in
+    let t = tables (goal.at.slice_bounds-write_path-end c).After-read_sheet c.in-Ok.is in
     rw (counted_as c.entries-size.ensures t.labels_are t.labels_are) t.transitions_long
 
-pub slice_bounds-write_path-end-2 : goal.slice_bounds-write_path-end-2
-slice_bounds-write_path-end-2 c =
-    let t = tables (goal.at.slice_bounds-write_path-end-2 c).After-read_sheet c.in_ok-labels.was in
+pub slice_bounds-write_path-end-in-Ok : goal.slice_bounds-write_path-end-in-Ok
+slice_bounds-write_path-end-in-Ok c =
+    let t = tables (goal.at.slice_bounds-write_path-end-in-Ok c).After-read_sheet c.in-Ok.is in
     rw (counted_as c.entries-size.ensures t.labels_are t.labels_are, t.transitions_front) (sym (transitions_size _))
 
-pub slice_bounds-write_path-end-3 : goal.slice_bounds-write_path-end-3
-slice_bounds-write_path-end-3 c =
-    let t = tables (goal.at.slice_bounds-write_path-end-3 c).After-read_sheet c.in_ok-labels.was in
+pub slice_bounds-write_path-end-in-Ok-2 : goal.slice_bounds-write_path-end-in-Ok-2
+slice_bounds-write_path-end-in-Ok-2 c =
+    let t = tables (goal.at.slice_bounds-write_path-end-in-Ok-2 c).After-read_sheet c.in-Ok.is in
     rw (counted_as c.entries-count.ensures t.words_are t.labels_are) t.states_long
 
-pub slice_bounds-write_path-end-4 : goal.slice_bounds-write_path-end-4
-slice_bounds-write_path-end-4 c =
-    let t = tables (goal.at.slice_bounds-write_path-end-4 c).After-read_sheet c.in_ok-labels.was in
+pub slice_bounds-write_path-end-in-Ok-3 : goal.slice_bounds-write_path-end-in-Ok-3
+slice_bounds-write_path-end-in-Ok-3 c =
+    let t = tables (goal.at.slice_bounds-write_path-end-in-Ok-3 c).After-read_sheet c.in-Ok.is in
     rw (counted_as c.entries-count.ensures t.words_are t.labels_are, t.states_front) (sym (states_size _))
 
 pub write_path-requires : goal.write_path-requires
 write_path-requires c =
-    let t = tables (goal.at.write_path-requires c).After-read_sheet c.in_ok-labels.was in
+    let t = tables (goal.at.write_path-requires c).After-read_sheet c.in-Ok.is in
     record {
       sound_scores = fronts_sound t (counted_as c.entries-size.ensures t.labels_are t.labels_are) (counted_as c.entries-count.ensures t.words_are t.labels_are);
       path_room_in_bounds = t.line_long;
     }
 
-pub returns-in_err-labels : goal.returns-in_err-labels
-returns-in_err-labels c =
-    rw (handed c.from_residual.ensures.1) (read_refused _ _ _ _ _ (chosen (goal.at.returns-in_err-labels c).After-read_sheet) _ c.read_sheet.ensures _ c.in_err-labels.was)
+pub returns-in-Err : goal.returns-in-Err
+returns-in-Err c =
+    read_refused _ _ _ _ _ (chosen (goal.at.returns-in-Err c).After-read_sheet) _ c.read_sheet.ensures _ c.in-Err.is
 
-pub returns : goal.returns
-returns c =
-    let t = tables (goal.at.returns c).After-read_sheet c.in_ok-labels.was in
+pub returns-in-Ok : goal.returns-in-Ok
+returns-in-Ok c =
+    let t = tables (goal.at.returns-in-Ok c).After-read_sheet c.in-Ok.is in
     promised_line t (counted_as c.entries-size.ensures t.labels_are t.labels_are) (counted_as c.entries-count.ensures t.words_are t.labels_are) c.write_path.ensures

@@ -1,6 +1,7 @@
 -- `table_checks::check_ids` meets its contract, by the laws of a search. Assumes nothing.
-use Rattle.std.proofs.Common.{arith, sym, ◌∙◌}
-use Rattle.refusals.proofs.Laws.{begin, goes_on, stops, ends, handed}
+use Rattle.std.proofs.Common.{arith, sym}
+use Rattle.refusals.proofs.Laws.{begin, step, hits, ends}
+use Rattle.std.proofs.lemmas.Bool.{lt-leb, le-leb}
 use Rattle.table_checks.proofs.check_ids.Goals as goal
 
 pub returns-then-all_below : goal.returns-then-all_below
@@ -9,11 +10,11 @@ returns-then-all_below c = sym (c.all_below.ensures c.if-all_below.true)
 pub loop-i-init : goal.loop-i-init
 loop-i-init c = begin
 
-pub returns-in_err-refuse_if : goal.returns-in_err-refuse_if
-returns-in_err-refuse_if c = handed c.from_residual.ensures.1 ∙ stops c.loop-i.invariant (omega arith) c.refuse_if.ensures c.in_err-refuse_if.was
+pub returns-then-bad : goal.returns-then-bad
+returns-then-bad c = hits c.loop-i.invariant (omega arith) (le-leb _ _ c.if-bad.true) c.refused.ensures
 
 pub loop-i-preserved : goal.loop-i-preserved
-loop-i-preserved c = goes_on c.loop-i.invariant (omega arith) c.refuse_if.ensures c.in_ok-refuse_if.was
+loop-i-preserved c = step c.loop-i.invariant (omega arith) (lt-leb _ _ c.if-bad.false)
 
 pub returns : goal.returns
 returns c = ends c.loop-i.invariant (omega arith)
